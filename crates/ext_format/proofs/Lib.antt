@@ -1,0 +1,13 @@
+pub mod Again
+pub mod AtomLaws
+pub mod Digits
+pub mod FieldLaws
+pub mod Fitting
+pub mod Found
+pub mod Loop
+pub mod Seen
+pub mod Sizes
+pub mod Sound
+pub mod Spelled
+pub mod Steady
+pub mod Texts

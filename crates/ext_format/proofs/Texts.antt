@@ -1,0 +1,27 @@
+-- Texts of atoms.
+use Rattle.std.proofs.Common.{◌≡◌, ℕ, ◌<◌, Bool, true, false, List, length, Err, refl}
+use Rattle.std.specs.Str.{IsUtf8, is_utf8, chars, encode_utf8_all}
+use Rattle.std.proofs.lemmas.Bool.{lt-ltb}
+use Rattle.std.proofs.lemmas.Str.{IsUtf8-from_is_utf8, is_utf8-from_IsUtf8, chars-encodes}
+use Rattle.ext_format.specs.declared.fault.DecodeFault.TheVariants.{BadText, AtomTooLong}
+use Rattle.ext_format.specs.Reading.{short_text, utf8_text, latin1_text}
+use Rattle.ext_format.proofs.FieldLaws.{IsBytes}
+use Rattle.ext_format.proofs.AtomLaws.{scalars-bytes}
+
+pub utf8_text-IsUtf8 : (bytes : List ℕ) → IsUtf8 bytes → utf8_text bytes ≡ short_text bytes
+unfolding utf8_text
+utf8_text-IsUtf8 bytes is = rw (is_utf8-from_IsUtf8 bytes is) refl
+
+decided : (bytes : List ℕ) (b : Bool) → is_utf8 bytes ≡ b → ¬ (IsUtf8 bytes) → b ≡ false
+decided bytes true e other = absurd (other (IsUtf8-from_is_utf8 bytes e))
+decided bytes false e other = refl
+
+pub utf8_text-not_IsUtf8 : (bytes : List ℕ) → ¬ (IsUtf8 bytes) → utf8_text bytes ≡ Err BadText
+unfolding utf8_text
+utf8_text-not_IsUtf8 bytes other = rw (decided bytes (is_utf8 bytes) refl other) refl
+
+-- each byte is a character
+pub latin1_text-long : (codes : List ℕ) → IsBytes codes → 255 < length codes → latin1_text codes ≡ Err AtomTooLong
+latin1_text-long codes fits long =
+    let one_each : chars (encode_utf8_all codes) ≡ codes = chars-encodes codes (scalars-bytes codes fits) in
+    rw (one_each, lt-ltb 255 (length codes) long) refl

@@ -1,0 +1,34 @@
+-- Which event a term tells of, by its shape alone.
+use Rattle.std.specs.Prelude.{ℕ, ℤ, List, [], ◌∷◌, ◌++◌}
+use Rattle.trace_terms.specs.declared.term.Pid.{Pid}
+use Rattle.trace_terms.specs.Data.{Data, int, atom, pid, list, Members}
+use Rattle.trace_message.specs.declared.seen.Seen.{Seen}
+use Rattle.trace_message.specs.declared.seen.Seen.TheVariants.{Call, Return, Exception, Send, SendLost, Receive}
+use Rattle.trace_message.specs.Events as events
+use Rattle.trace_message.specs.Events.{EventData}
+use Rattle.trace_message.specs.Texts.{text_trace, text_trace_ts, text_call, text_return_from, text_exception_from, text_send, text_send_to_non_existing_process, text_receive}
+use Rattle.trace_message.specs.Tuples.{tuple_of, triple_of, function_of, reason_of}
+
+-- What stands behind the pid, without a moment: a row of the table each.
+pub data IsRow : Seen → List Data → Type 0 where
+  call : (mod_name fun_name : List ℕ) (args : Members) → IsRow Call (atom text_call ∷ function_of mod_name fun_name (list args) ∷ [])
+  call_with_arity : (mod_name fun_name : List ℕ) (arity : ℤ) → IsRow Call (atom text_call ∷ function_of mod_name fun_name (int arity) ∷ [])
+  return_from : (mod_name fun_name : List ℕ) (arity : ℤ) (value : Data) → IsRow Return (atom text_return_from ∷ function_of mod_name fun_name (int arity) ∷ value ∷ [])
+  exception_from : (mod_name fun_name : List ℕ) (arity : ℤ) (class : List ℕ) (value : Data) → IsRow Exception (atom text_exception_from ∷ function_of mod_name fun_name (int arity) ∷ reason_of class value ∷ [])
+  send : (message target : Data) → IsRow Send (atom text_send ∷ message ∷ target ∷ [])
+  send_lost : (message target : Data) → IsRow SendLost (atom text_send_to_non_existing_process ∷ message ∷ target ∷ [])
+  receive : (message : Data) → IsRow Receive (atom text_receive ∷ message ∷ [])
+
+-- The term is {trace,P,..}, or {trace_ts,P,..,{Mega,Sec,Micro}}, with a row of the kind.
+pub data IsMessage : Seen → Data → Type 0 where
+  plain : (seen : Seen) (p : Pid) (row : List Data) → IsRow seen row → IsMessage seen (tuple_of (atom text_trace ∷ pid p ∷ row))
+  stamped : (seen : Seen) (p : Pid) (row : List Data) (mega sec micro : ℤ) → IsRow seen row → IsMessage seen (tuple_of (atom text_trace_ts ∷ pid p ∷ (row ++ triple_of (int mega) (int sec) (int micro) ∷ [])))
+
+-- the kind of an event
+abbrev pub seen_of : EventData → Seen
+seen_of (events.call mod_name fun_name args) = Call
+seen_of (events.return_from mod_name fun_name arity value) = Return
+seen_of (events.exception_from mod_name fun_name arity class value) = Exception
+seen_of (events.send message target) = Send
+seen_of (events.send_lost message target) = SendLost
+seen_of (events.receive message) = Receive

@@ -1,0 +1,7 @@
+pub mod Events
+pub mod Kinds
+pub mod Messages
+pub mod Shapes
+pub mod Texts
+pub mod Tuples
+pub mod Words

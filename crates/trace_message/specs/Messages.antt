@@ -1,0 +1,44 @@
+-- The message of an event: ERTS, erlang:trace/3.
+use Rattle.std.specs.Prelude.{List, [], ◌∷◌, ◌++◌, length, Bool, Option, Some, None, if◌then◌else◌}
+use Rattle.trace_terms.specs.declared.term.Pid.{Pid}
+use Rattle.trace_terms.specs.Data.{Data, atom, pid, list}
+use Rattle.trace_terms.specs.View.{members_of}
+use Rattle.trace_message.specs.declared.event.Flags.{Flags}
+use Rattle.trace_message.specs.declared.event.Stamp.{Stamp}
+use Rattle.trace_message.specs.Events.{EventData, call, return_from, exception_from, send, send_lost, receive}
+use Rattle.trace_message.specs.Texts.{text_trace, text_trace_ts, text_call, text_return_from, text_exception_from, text_send, text_send_to_non_existing_process, text_receive}
+use Rattle.trace_message.specs.Tuples.{tuple_of, triple_of, number, function_of, reason_of}
+
+-- whether the flags ask for an event
+abbrev pub is_asked : Flags → EventData → Bool
+is_asked flags (call mod_name fun_name args) = flags.call
+is_asked flags (return_from mod_name fun_name arity value) = flags.call
+is_asked flags (exception_from mod_name fun_name arity class value) = flags.call
+is_asked flags (send msg target) = flags.send
+is_asked flags (send_lost msg target) = flags.send
+is_asked flags (receive msg) = flags.receive
+
+-- the arguments of a call, or their number
+abbrev pub called_with : Flags → List Data → Data
+called_with flags args = if flags.arity then number (length args) else list (members_of args)
+
+-- what stands behind the pid
+abbrev pub row_of : Flags → EventData → List Data
+row_of flags (call mod_name fun_name args) = atom text_call ∷ function_of mod_name fun_name (called_with flags args) ∷ []
+row_of flags (return_from mod_name fun_name arity value) = atom text_return_from ∷ function_of mod_name fun_name (number arity) ∷ value ∷ []
+row_of flags (exception_from mod_name fun_name arity class value) = atom text_exception_from ∷ function_of mod_name fun_name (number arity) ∷ reason_of class value ∷ []
+row_of flags (send msg target) = atom text_send ∷ msg ∷ target ∷ []
+row_of flags (send_lost msg target) = atom text_send_to_non_existing_process ∷ msg ∷ target ∷ []
+row_of flags (receive msg) = atom text_receive ∷ msg ∷ []
+
+-- {Mega,Sec,Micro}
+abbrev pub stamp_of : Stamp → Data
+stamp_of stamp = triple_of (number stamp.mega) (number stamp.sec) (number stamp.micro)
+
+-- {trace,P,..}, or {trace_ts,P,..,{Mega,Sec,Micro}}
+abbrev pub told_by : Flags → Pid → Stamp → List Data → Data
+told_by flags p stamp row = if flags.timestamp then tuple_of (atom text_trace_ts ∷ pid p ∷ (row ++ stamp_of stamp ∷ [])) else tuple_of (atom text_trace ∷ pid p ∷ row)
+
+-- the message of an event, where the flags ask for it
+abbrev pub message_of : EventData → Pid → Flags → Stamp → Option Data
+message_of event p flags stamp = if is_asked flags event then Some (told_by flags p stamp (row_of flags event)) else None

@@ -1,0 +1,26 @@
+-- The text of each word.
+use Rattle.std.specs.Prelude.{ℕ, List, Option, Some, None, if◌then◌else◌}
+use Rattle.std.specs.Str.{bytes_eq}
+use Rattle.trace_message.specs.declared.word.Word.{Word}
+use Rattle.trace_message.specs.declared.word.Word.TheVariants.{Trace, TraceTs, Call, ReturnFrom, ExceptionFrom, Send, SendToNonExistingProcess, Receive}
+use Rattle.trace_message.specs.Texts.{text_trace, text_trace_ts, text_call, text_return_from, text_exception_from, text_send, text_send_to_non_existing_process, text_receive}
+
+abbrev pub text_of : Word → List ℕ
+text_of Trace = text_trace
+text_of TraceTs = text_trace_ts
+text_of Call = text_call
+text_of ReturnFrom = text_return_from
+text_of ExceptionFrom = text_exception_from
+text_of Send = text_send
+text_of SendToNonExistingProcess = text_send_to_non_existing_process
+text_of Receive = text_receive
+
+-- the word, if the text is the word's, or else another
+abbrev pub or_else : List ℕ → Word → Option Word → Option Word
+or_else text word other = if bytes_eq text (text_of word) then Some word else other
+
+-- the word of a text
+unfoldable pub word_of : List ℕ → Option Word
+word_of text =
+    or_else text Trace (or_else text TraceTs (or_else text Call (or_else text ReturnFrom
+    (or_else text ExceptionFrom (or_else text Send (or_else text SendToNonExistingProcess (or_else text Receive None)))))))

@@ -1,0 +1,16 @@
+//! The messages of a trace: the terms that stand for events, and which event a term stands for.
+#![tactic(auto)]
+
+mod event;
+mod laws;
+mod messages;
+mod seen;
+mod word;
+
+pub use event::{Event, Flags, Stamp};
+pub use laws::{kinds_are_found, messages_have_their_kind, one_kind};
+pub use messages::message;
+pub use seen::{Seen, classify};
+
+#[cfg(test)]
+mod tests;

@@ -1,0 +1,3 @@
+pub mod Data
+pub mod Equality
+pub mod View
