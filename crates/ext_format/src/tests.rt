@@ -183,17 +183,19 @@ fn a_latin1_atom_is_read_as_utf8(rt: HostRuntime) -> Result<(), Fail> {
 fn an_atom_has_at_most_255_characters(rt: HostRuntime) -> Result<(), Fail> {
     let long = extended(&rt, b"\x83\x76\x01\x00", b'a', 256)?;
     assert_eq!(rt; fault(&rt, &long)?, DecodeFault::AtomTooLong);
-    let latin1 = extended(&rt, b"\x83\x64\x01\x00", 0xe9, 256)?;
+    let mut latin1 = extended(&rt, b"\x83\x64\x01\x00", 0xe9, 256)?;
     assert_eq!(rt; fault(&rt, &latin1)?, DecodeFault::AtomTooLong);
-    assert_eq!(rt; fault(&rt, &latin1[..259])?, DecodeFault::Truncated);
+    assert_eq!(rt; latin1.pop(), Some(0xe9));
+    assert_eq!(rt; fault(&rt, &latin1)?, DecodeFault::Truncated);
 
     let mut text = String::new(rt.alloc());
     for _ in 0..255u32 {
         text.push('é')?;
     }
     let longest = spelling(&rt, &Term::Atom(atom(&rt, text.as_str())?))?;
-    assert_eq!(rt; &longest[..4], b"\x83\x76\x01\xfe".as_slice());
-    assert_eq!(rt; &longest[4..], text.as_bytes());
+    assert_eq!(rt; longest.len(), 514);
+    assert!(rt; longest.starts_with(b"\x83\x76\x01\xfe"));
+    assert!(rt; longest.ends_with(text.as_bytes()));
     Ok(())
 }
 

@@ -50,7 +50,7 @@ fn spelling_of(alloc: Global, term: &Term) -> Result<Vec<u8>, EncodeFault>
     Ok(out)
 }
 
-/// A number of more than 32 bits: SMALL_BIG_EXT with the fewest bytes.
+/// A number that 32 bits do not hold: SMALL_BIG_EXT with the fewest bytes.
 #[tactic(auto, unfolding(crate::specs::Canonical::big_form))]
 fn put_big(out: &mut Vec<u8>, sign: u8, size: u64) -> Result<(), AllocError>
     ensures { OnOk result (out.new.items ≡ out.old.items ++ big_form sign size) }

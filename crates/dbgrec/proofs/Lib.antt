@@ -1,0 +1,2 @@
+pub mod RoomLemmas
+pub mod PortLemmas

@@ -1,0 +1,3 @@
+pub mod Line
+pub mod Room
+pub mod Port

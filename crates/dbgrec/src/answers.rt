@@ -1,0 +1,93 @@
+// The answers of a run.
+
+use crate::fault::SimFault;
+use itoa::Buffer;
+use std::fmt::Display;
+use std::io::Write;
+
+#[derive(Drop)]
+pub struct Answers<'w, W: Write> {
+    writer: &'w mut W,
+}
+
+impl<'w, W: Write> Answers<'w, W> {
+    pub fn new(writer: &'w mut W) -> Answers<'w, W> {
+        Answers { writer }
+    }
+
+    fn put(&mut self, bytes: &[u8]) -> Result<(), SimFault> {
+        self.writer.write_all(bytes).map_err(|_| SimFault::Write)
+    }
+
+    fn put_number(&mut self, number: u64) -> Result<(), SimFault> {
+        let mut buffer = Buffer::new();
+        self.put(buffer.format(number).as_bytes())
+    }
+
+    /// A line of text.
+    pub fn text(&mut self, line: &[u8]) -> Result<(), SimFault> {
+        self.put(line)?;
+        self.put(b"\n")
+    }
+
+    pub fn ok(&mut self) -> Result<(), SimFault> {
+        self.put(b"ok\n")
+    }
+
+    pub fn out_of_order(&mut self) -> Result<(), SimFault> {
+        self.put(b"out of order\n")
+    }
+
+    /// A word and a number.
+    pub fn count(&mut self, word: &[u8], number: u64) -> Result<(), SimFault> {
+        self.put(word)?;
+        self.put(b" ")?;
+        self.put_number(number)?;
+        self.put(b"\n")
+    }
+
+    /// A number, a word and a number.
+    pub fn numbered(&mut self, number: u64, word: &[u8], count: u64) -> Result<(), SimFault> {
+        self.put_number(number)?;
+        self.put(b" ")?;
+        self.count(word, count)
+    }
+
+    /// What came before the entries that are kept.
+    pub fn before(&mut self, entries: u64, dropped: u64) -> Result<(), SimFault> {
+        writeln!(self.writer, "before entries {entries} dropped {dropped}").map_err(
+            |_| SimFault::Write,
+        )
+    }
+
+    /// A file with its length and, unless it is empty, its first byte.
+    pub fn file(&mut self, file: u32, length: u64, gate: Option<u8>) -> Result<(), SimFault> {
+        let told = match gate {
+            Some(gate) => writeln!(self.writer, "file {file} length {length} gate {gate:02x}"),
+            None => writeln!(self.writer, "file {file} length {length} gate --"),
+        };
+        told.map_err(|_| SimFault::Write)
+    }
+
+    /// What was refused, by its number and name.
+    pub fn refused<D: Display + Drop>(&mut self, fault: D) -> Result<(), SimFault> {
+        writeln!(self.writer, "refused {fault}").map_err(|_| SimFault::Write)
+    }
+
+    /// A word and a number, or what was refused.
+    pub fn count_or<D: Display + Drop>(
+        &mut self,
+        word: &[u8],
+        answer: Result<u64, D>,
+    ) -> Result<(), SimFault> {
+        match answer {
+            Ok(number) => self.count(word, number),
+            Err(fault) => self.refused(fault),
+        }
+    }
+
+    /// Writes out what is still in a buffer.
+    pub fn finish(&mut self) -> Result<(), SimFault> {
+        self.writer.flush().map_err(|_| SimFault::Write)
+    }
+}

@@ -1,0 +1,132 @@
+// What a line of a script says.
+ghost use Rattle.std.specs.Prelude.{◌<◌, ◌≤◌, IfOk, IfSome};
+ghost use Rattle.entry_codec.specs.Entries.{IsLawful};
+ghost use Rattle.entry_codec.specs.Seen.{view};
+ghost use Rattle.dbgrec.specs.Line.{IsSound};
+
+use entry_codec::Entry;
+use std::alloc::{AllocError, Global};
+
+/// Files of the largest store.
+const MOST_FILES: u32 = 1001;
+
+#[derive(Debug, Drop)]
+pub enum Line {
+    /// A blank store of so many files.
+    Store(u32),
+    /// A store in which this file holds these bytes.
+    Bytes(u32, Vec<u8>),
+    CreateFile(u64),
+    Put(Entry),
+    Flush,
+    Abandon,
+    CrashKept,
+    Files,
+    List,
+}
+
+/// A decimal number without a sign and leading zeros.
+fn number(word: &str) -> Option<u64> {
+    let digits = word.as_bytes();
+    match digits {
+        [b'0', _, ..] => return None,
+        _ => {}
+    }
+    if !digits.iter().all(|digit| digit.is_ascii_digit()) {
+        return None;
+    }
+    word.parse::<u64>().ok()
+}
+
+/// A number from `least` to `most`.
+fn within(word: &str, least: u32, most: u32) -> Option<u32>
+    ensures { IfSome result (λ found. (least ≤ found) × (found ≤ most)) }
+{
+    let found = u32::try_from(number(word)?).ok()?;
+    if found < least || found > most {
+        return None;
+    }
+    Some(found)
+}
+
+fn digit(letter: u8) -> Option<u8>
+    ensures { IfSome result (λ d. d < 16) }
+{
+    match letter {
+        b'0'..=b'9' => Some(letter - b'0'),
+        b'a'..=b'f' => Some(letter - b'a' + 10),
+        b'A'..=b'F' => Some(letter - b'A' + 10),
+        _ => None,
+    }
+}
+
+fn byte(pair: &[u8]) -> Option<u8> {
+    match pair {
+        [high, low] => Some(digit(*high)? * 16 + digit(*low)?),
+        _ => None,
+    }
+}
+
+/// The bytes that hexadecimal digits spell, `-` for none.
+fn bytes(alloc: Global, word: &str) -> Result<Option<Vec<u8>>, AllocError> {
+    if word == "-" {
+        return Ok(Some(Vec::new(alloc)));
+    }
+    let digits = word.as_bytes();
+    if digits.is_empty() || digits.len() % 2 != 0 {
+        return Ok(None);
+    }
+    let mut found = Vec::with_capacity(alloc, digits.len() / 2)?;
+    for pair in digits.chunks(2) {
+        match byte(pair) {
+            Some(one) => found.push(one)?,
+            None => return Ok(None),
+        }
+    }
+    Ok(Some(found))
+}
+
+/// The message of these digits, if an entry may hold it.
+fn message(alloc: Global, word: &str) -> Result<Option<Entry>, AllocError>
+    ensures { IfOk result (λ found. IfSome found (λ entry. IsLawful (view entry))) }
+{
+    let Some(found) = bytes(alloc, word)? else {
+        return Ok(None);
+    };
+    let entry = Entry::Message(found);
+    if !entry.is_lawful() {
+        return Ok(None);
+    }
+    Ok(Some(entry))
+}
+
+/// Bytes for a file, if a store may have a file of this number.
+fn file_bytes(alloc: Global, file: &str, hex: &str) -> Result<Option<Line>, AllocError>
+    ensures { IfOk result (λ found. IfSome found IsSound) }
+{
+    let Some(file) = within(file, 0, MOST_FILES - 1) else {
+        return Ok(None);
+    };
+    let found = bytes(alloc, hex)?;
+    Ok(found.map(|bytes| Line::Bytes(file, bytes)))
+}
+
+/// The line that the text spells.
+pub fn parse(alloc: Global, text: &str) -> Result<Option<Line>, AllocError>
+    ensures { IfOk result (λ found. IfSome found IsSound) }
+{
+    let words: Vec<&str> = text.split(' ').collect(alloc)?;
+    let line = match words.as_slice() {
+        ["store", n] => within(n, 1, MOST_FILES).map(Line::Store),
+        ["bytes", file, hex] => file_bytes(alloc, file, hex)?,
+        ["create", "file", limit] => number(limit).map(Line::CreateFile),
+        ["put", hex] => message(alloc, hex)?.map(Line::Put),
+        ["flush"] => Some(Line::Flush),
+        ["abandon"] => Some(Line::Abandon),
+        ["crash", "kept"] => Some(Line::CrashKept),
+        ["files"] => Some(Line::Files),
+        ["list"] => Some(Line::List),
+        _ => None,
+    };
+    Ok(line)
+}

@@ -1,0 +1,89 @@
+// The lines of a script, read one at a time.
+ghost use Rattle.std.specs.Prelude.{IfOk, IfSome};
+ghost use Rattle.dbgrec.specs.Line.{IsSound};
+
+use crate::fault::SimFault;
+use crate::line::{Line, parse};
+use std::alloc::{AllocError, Global};
+use std::io;
+use std::io::{BufRead, Read};
+
+/// Bytes of the longest line.
+const LONGEST: usize = 300_000;
+
+/// Bytes of the longest script.
+const MOST_BYTES: u64 = 1_099_511_627_776;
+
+#[derive(Drop)]
+pub struct Script<'r, R: BufRead> {
+    alloc: Global,
+    reader: &'r mut R,
+    text: Vec<u8>,
+    number: u64,
+    left: u64,
+}
+
+impl<'r, R: BufRead> Script<'r, R> {
+    pub fn new(alloc: Global, reader: &'r mut R) -> Result<Script<'r, R>, AllocError> {
+        let text = Vec::with_capacity(alloc, LONGEST + 1)?;
+        Ok(Script {
+            alloc,
+            reader,
+            text,
+            number: 0,
+            left: MOST_BYTES,
+        })
+    }
+
+    /// The fault of the present line.
+    pub fn bad_command(&self) -> SimFault {
+        SimFault::BadCommand { line: self.number }
+    }
+
+    /// Whether there is a line more, whose text then is in `text`.
+    fn advance(&mut self) -> Result<bool, SimFault> {
+        self.text.clear();
+        let Ok(count) = read_line(&mut *self.reader, &mut self.text) else {
+            return Err(SimFault::Read);
+        };
+        let Some(left) = self.left.checked_sub(count as u64) else {
+            return Err(SimFault::Read);
+        };
+        self.left = left;
+        self.number = self.number.saturating_add(1);
+        if self.text.last() == Some(&b'\n') {
+            self.text.pop();
+        }
+        Ok(count > 0)
+    }
+
+    /// The next line that isn't empty or a remark.
+    pub fn next_line(&mut self) -> Result<Option<Line>, SimFault>
+        ensures { IfOk result (λ found. IfSome found IsSound) }
+    {
+        for _line in 0..u64::MAX {
+            if !self.advance()? {
+                return Ok(None);
+            }
+            if self.text.len() > LONGEST {
+                return Err(self.bad_command());
+            }
+            let Ok(text) = str::from_utf8(&self.text) else {
+                return Err(self.bad_command());
+            };
+            if text.is_empty() || text.starts_with('#') {
+                continue;
+            }
+            return match parse(self.alloc, text)? {
+                Some(line) => Ok(Some(line)),
+                None => Err(self.bad_command()),
+            };
+        }
+        Ok(None)
+    }
+}
+
+/// Puts the next line behind the text, or as much of it as shows that it is too long.
+fn read_line<R: BufRead>(reader: &mut R, text: &mut Vec<u8>) -> io::Result<usize> {
+    reader.take(LONGEST as u64 + 1).read_until(b'\n', text)
+}
