@@ -3,7 +3,6 @@
 
 mod answers;
 mod command;
-mod contents;
 mod fault;
 mod held;
 mod line;
