@@ -1,4 +1,3 @@
 pub mod Line
 pub mod Room
 pub mod Port
-pub mod Stored

@@ -53,6 +53,13 @@ impl<'w, W: Write> Answers<'w, W> {
         self.count(word, count)
     }
 
+    /// What came before the entries that are kept.
+    pub fn before(&mut self, entries: u64, dropped: u64) -> Result<(), SimFault> {
+        writeln!(self.writer, "before entries {entries} dropped {dropped}").map_err(
+            |_| SimFault::Write,
+        )
+    }
+
     /// A file with its length and, unless it is empty, its first byte.
     pub fn file(&mut self, file: u32, length: u64, gate: Option<u8>) -> Result<(), SimFault> {
         let told = match gate {

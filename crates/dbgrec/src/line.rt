@@ -8,11 +8,14 @@ use entry_codec::Entry;
 use std::alloc::{AllocError, Global};
 
 /// Files of the largest store.
-const MOST_FILES: u32 = 1;
+const MOST_FILES: u32 = 1001;
 
 #[derive(Debug, Drop)]
 pub enum Line {
+    /// A blank store of so many files.
     Store(u32),
+    /// A store in which this file holds these bytes.
+    Bytes(u32, Vec<u8>),
     CreateFile(u64),
     Put(Entry),
     Flush,
@@ -97,6 +100,17 @@ fn message(alloc: Global, word: &str) -> Result<Option<Entry>, AllocError>
     Ok(Some(entry))
 }
 
+/// Bytes for a file, if a store may have a file of this number.
+fn file_bytes(alloc: Global, file: &str, hex: &str) -> Result<Option<Line>, AllocError>
+    ensures { IfOk result (λ found. IfSome found IsSound) }
+{
+    let Some(file) = within(file, 0, MOST_FILES - 1) else {
+        return Ok(None);
+    };
+    let found = bytes(alloc, hex)?;
+    Ok(found.map(|bytes| Line::Bytes(file, bytes)))
+}
+
 /// The line that the text spells.
 pub fn parse(alloc: Global, text: &str) -> Result<Option<Line>, AllocError>
     ensures { IfOk result (λ found. IfSome found IsSound) }
@@ -104,6 +118,7 @@ pub fn parse(alloc: Global, text: &str) -> Result<Option<Line>, AllocError>
     let words: Vec<&str> = text.split(' ').collect(alloc)?;
     let line = match words.as_slice() {
         ["store", n] => within(n, 1, MOST_FILES).map(Line::Store),
+        ["bytes", file, hex] => file_bytes(alloc, file, hex)?,
         ["create", "file", limit] => number(limit).map(Line::CreateFile),
         ["put", hex] => message(alloc, hex)?.map(Line::Put),
         ["flush"] => Some(Line::Flush),

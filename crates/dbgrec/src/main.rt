@@ -3,6 +3,7 @@
 
 mod answers;
 mod command;
+mod contents;
 mod fault;
 mod held;
 mod line;

@@ -1,6 +1,9 @@
 // A script over a store in memory.
+ghost use Rattle.std.specs.Prelude.{◌<◌, length};
+ghost use Rattle.trace_store.specs.MemStore.{reads_of};
 
 use crate::answers::Answers;
+use crate::contents::with_bytes;
 use crate::fault::SimFault;
 use crate::held::{Leave, run_port};
 use crate::line::Line;
@@ -9,7 +12,7 @@ use crate::script::Script;
 use crate::stored::{list, list_files};
 use std::alloc::Global;
 use std::io::{BufRead, Write};
-use trace_store::{CrashFault, MemStore, Pick};
+use trace_store::{CrashFault, MemStore, Pick, Store};
 
 /// Runs a script over a store in memory, at first a blank one of one file. What was answered before a fault has been
 /// written. A run that fails of several causes answers the first.
@@ -45,6 +48,8 @@ fn run_lines<R: BufRead, W: Write>(
                 }
                 Err(_) => answers.refused("1 NoMemory")?,
             },
+            Line::Bytes(file, _) if file >= store.files() => return Err(script.bad_command()),
+            Line::Bytes(file, bytes) => set_bytes(alloc, &mut store, file, bytes, answers)?,
             Line::CreateFile(limit) => hold(alloc, &mut store, limit, script, answers)?,
             Line::CrashKept => crash(&mut store, answers)?,
             Line::Files => list_files(&mut store, answers)?,
@@ -53,6 +58,25 @@ fn run_lines<R: BufRead, W: Write>(
         }
     }
     Ok(())
+}
+
+/// Puts a store in the place of this one, in which this file holds these bytes.
+fn set_bytes<W: Write>(
+    alloc: Global,
+    store: &mut MemStore,
+    file: u32,
+    bytes: Vec<u8>,
+    answers: &mut Answers<'_, W>,
+) -> Result<(), SimFault>
+    requires { file < length (reads_of store.old) }
+{
+    match with_bytes(alloc, &mut *store, file, bytes) {
+        Ok(changed) => {
+            *store = changed;
+            answers.ok()
+        }
+        Err(fault) => answers.refused(fault),
+    }
 }
 
 /// Makes a port, and runs lines until it is given up.
