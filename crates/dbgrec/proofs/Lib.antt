@@ -1,2 +1,1 @@
-pub mod RoomLemmas
-pub mod PortLemmas
+pub mod Running

@@ -1,3 +1,2 @@
 pub mod Line
-pub mod Room
-pub mod Port
+pub mod Run

@@ -1,5 +1,6 @@
 -- What a line of a script may say.
-use Rattle.std.specs.Prelude.{◌≤◌, ⊤}
+use Rattle.std.specs.Prelude.{◌≤◌, ◌<◌, ⊤, length}
+use Rattle.trace_store.specs.Disk.{Image}
 use Rattle.entry_codec.specs.Entries.{IsLawful}
 use Rattle.entry_codec.specs.Seen.{view}
 use Rattle.dbgrec.specs.declared.line.Line.{Line}
@@ -10,3 +11,8 @@ abbrev pub IsSound : Line → Type 0
 IsSound (lines.Store files) = (1 ≤ files) × (files ≤ 1001)
 IsSound (lines.Put entry) = IsLawful (view entry)
 IsSound _ = ⊤
+
+-- the file that the line names is one of these
+abbrev pub HasFile : Image → Line → Type 0
+HasFile image (lines.Bytes file bytes) = file < length image
+HasFile image _ = ⊤

@@ -1,8 +1,8 @@
 // The answers of a run.
 
 use crate::fault::SimFault;
+use crate::refusal::Refusal;
 use itoa::Buffer;
-use std::fmt::Display;
 use std::io::Write;
 
 #[derive(Drop)]
@@ -70,19 +70,23 @@ impl<'w, W: Write> Answers<'w, W> {
     }
 
     /// What was refused, by its number and name.
-    pub fn refused<D: Display + Drop>(&mut self, fault: D) -> Result<(), SimFault> {
-        writeln!(self.writer, "refused {fault}").map_err(|_| SimFault::Write)
+    pub fn refused(&mut self, refusal: Refusal) -> Result<(), SimFault> {
+        writeln!(self.writer, "refused {refusal}").map_err(|_| SimFault::Write)
     }
 
     /// A word and a number, or what was refused.
-    pub fn count_or<D: Display + Drop>(
-        &mut self,
-        word: &[u8],
-        answer: Result<u64, D>,
-    ) -> Result<(), SimFault> {
+    pub fn count_or(&mut self, word: &[u8], answer: Result<u64, Refusal>) -> Result<(), SimFault> {
         match answer {
             Ok(number) => self.count(word, number),
-            Err(fault) => self.refused(fault),
+            Err(refusal) => self.refused(refusal),
+        }
+    }
+
+    /// A line of text, or what was refused.
+    pub fn text_or(&mut self, line: &[u8], answer: Result<(), Refusal>) -> Result<(), SimFault> {
+        match answer {
+            Ok(()) => self.text(line),
+            Err(refusal) => self.refused(refusal),
         }
     }
 

@@ -3,43 +3,9 @@ ghost use Rattle.std.specs.Prelude.{◌≡◌, ◌<◌, ◌≤◌, IfOk, length}
 ghost use Rattle.trace_store.specs.Disk.{file_of};
 ghost use Rattle.trace_store.specs.MemStore.{reads_of};
 
-use std::alloc::{AllocError, AllocFailed, Global};
-use std::fmt;
-use trace_store::{DeviceFault, MemStore, Store};
-
-/// Why a store of other bytes couldn't be made.
-#[derive(Clone, Copy, Debug, PartialEq, Eq)]
-pub enum BytesFault {
-    Device,
-    NoMemory,
-}
-
-impl fmt::Display for BytesFault {
-    fn fmt<W: fmt::Write>(&self, f: &mut fmt::Formatter<W>) -> fmt::Result {
-        match self {
-            BytesFault::Device => write!(f, "1 Device"),
-            BytesFault::NoMemory => write!(f, "1 NoMemory"),
-        }
-    }
-}
-
-impl From<DeviceFault> for BytesFault {
-    fn from(_fault: DeviceFault) -> BytesFault {
-        BytesFault::Device
-    }
-}
-
-impl From<AllocError> for BytesFault {
-    fn from(_fault: AllocError) -> BytesFault {
-        BytesFault::NoMemory
-    }
-}
-
-impl<T: Drop> From<AllocFailed<T>> for BytesFault {
-    fn from(_fault: AllocFailed<T>) -> BytesFault {
-        BytesFault::NoMemory
-    }
-}
+use crate::refusal::Refusal;
+use std::alloc::Global;
+use trace_store::{MemStore, Store};
 
 /// A store in which this file holds these bytes and the others what a read gives, with nothing unsynced.
 pub fn with_bytes(
@@ -47,7 +13,7 @@ pub fn with_bytes(
     store: &mut MemStore,
     file: u32,
     bytes: Vec<u8>,
-) -> Result<MemStore, BytesFault>
+) -> Result<MemStore, Refusal>
     requires { file < length (reads_of store.old) }
     ensures same { length (reads_of store.new) ≡ length (reads_of store.old) }
     ensures made { IfOk result (λ made. length (reads_of made) ≡ length (reads_of store.old)) }
@@ -58,7 +24,7 @@ pub fn with_bytes(
 }
 
 /// What a read gives of each file.
-fn contents_of<S: Store>(alloc: Global, store: &mut S) -> Result<Vec<Vec<u8>>, BytesFault>
+fn contents_of<S: Store>(alloc: Global, store: &mut S) -> Result<Vec<Vec<u8>>, Refusal>
     ensures same { length (S.reads store.new) ≡ length (S.reads store.old) }
     ensures count { IfOk result (λ contents. length contents.items ≡ length (S.reads store.old)) }
 {
@@ -70,7 +36,7 @@ fn contents_of<S: Store>(alloc: Global, store: &mut S) -> Result<Vec<Vec<u8>>, B
 }
 
 /// What a read gives of a file.
-fn bytes_of<S: Store>(alloc: Global, store: &mut S, file: u32) -> Result<Vec<u8>, BytesFault>
+fn bytes_of<S: Store>(alloc: Global, store: &mut S, file: u32) -> Result<Vec<u8>, Refusal>
     requires { file < length (S.reads store.old) }
     ensures same { length (S.reads store.new) ≡ length (S.reads store.old) }
     ensures was_honest { S.honest store.new → S.honest store.old }

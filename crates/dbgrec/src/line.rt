@@ -6,21 +6,30 @@ ghost use Rattle.dbgrec.specs.Line.{IsSound};
 
 use entry_codec::Entry;
 use std::alloc::{AllocError, Global};
+use trace_store::Pick;
 
 /// Files of the largest store.
 const MOST_FILES: u32 = 1001;
 
-#[derive(Debug, Drop)]
+/// A line of a script.
+#[derive(Drop)]
 pub enum Line {
     /// A blank store of so many files.
     Store(u32),
     /// A store in which this file holds these bytes.
     Bytes(u32, Vec<u8>),
+    /// A store whose device calls fail after so many.
+    Fuse(u64),
+    /// A store whose device calls fail once, after so many.
+    FailOnce(u64),
     CreateFile(u64),
+    ResumeFile(u64),
     Put(Entry),
     Flush,
+    Seal,
     Abandon,
-    CrashKept,
+    Close,
+    Crash(Pick),
     Files,
     List,
 }
@@ -100,6 +109,19 @@ fn message(alloc: Global, word: &str) -> Result<Option<Entry>, AllocError>
     Ok(Some(entry))
 }
 
+/// A Drop of so many messages, at least one.
+fn drop_of(word: &str) -> Option<Entry>
+    ensures { IfSome result (λ entry. IsLawful (view entry)) }
+{
+    Some(Entry::Drop(within(word, 1, u32::MAX)?))
+}
+
+/// A crash that fills what is unsynced with the byte of these digits.
+fn filled(word: &str, longest: bool) -> Option<Pick> {
+    let byte = byte(word.as_bytes())?;
+    Some(Pick::Fill { byte, longest })
+}
+
 /// Bytes for a file, if a store may have a file of this number.
 fn file_bytes(alloc: Global, file: &str, hex: &str) -> Result<Option<Line>, AllocError>
     ensures { IfOk result (λ found. IfSome found IsSound) }
@@ -111,22 +133,47 @@ fn file_bytes(alloc: Global, file: &str, hex: &str) -> Result<Option<Line>, Allo
     Ok(found.map(|bytes| Line::Bytes(file, bytes)))
 }
 
+/// The line of a store that these words spell, where it holds no bytes.
+fn store_line(words: &[&str]) -> Option<Line>
+    ensures { IfSome result IsSound }
+{
+    match words {
+        ["store", n] => within(n, 1, MOST_FILES).map(Line::Store),
+        ["fuse", calls] => number(calls).map(Line::Fuse),
+        ["failonce", calls] => number(calls).map(Line::FailOnce),
+        ["create", "file", limit] => number(limit).map(Line::CreateFile),
+        ["resume", "file", limit] => number(limit).map(Line::ResumeFile),
+        ["files"] => Some(Line::Files),
+        ["list"] => Some(Line::List),
+        _ => None,
+    }
+}
+
+/// The line of a port or a crash that these words spell, where it holds no bytes.
+fn port_line(words: &[&str]) -> Option<Line>
+    ensures { IfSome result IsSound }
+{
+    match words {
+        ["lose", count] => drop_of(count).map(Line::Put),
+        ["flush"] => Some(Line::Flush),
+        ["seal"] => Some(Line::Seal),
+        ["abandon"] => Some(Line::Abandon),
+        ["close"] => Some(Line::Close),
+        ["crash", "kept"] => Some(Line::Crash(Pick::Kept)),
+        ["crash", "low", byte] => filled(byte, false).map(Line::Crash),
+        ["crash", "high", byte] => filled(byte, true).map(Line::Crash),
+        _ => None,
+    }
+}
+
 /// The line that the text spells.
 pub fn parse(alloc: Global, text: &str) -> Result<Option<Line>, AllocError>
     ensures { IfOk result (λ found. IfSome found IsSound) }
 {
     let words: Vec<&str> = text.split(' ').collect(alloc)?;
-    let line = match words.as_slice() {
-        ["store", n] => within(n, 1, MOST_FILES).map(Line::Store),
-        ["bytes", file, hex] => file_bytes(alloc, file, hex)?,
-        ["create", "file", limit] => number(limit).map(Line::CreateFile),
-        ["put", hex] => message(alloc, hex)?.map(Line::Put),
-        ["flush"] => Some(Line::Flush),
-        ["abandon"] => Some(Line::Abandon),
-        ["crash", "kept"] => Some(Line::CrashKept),
-        ["files"] => Some(Line::Files),
-        ["list"] => Some(Line::List),
-        _ => None,
-    };
-    Ok(line)
+    match words.as_slice() {
+        ["bytes", file, hex] => file_bytes(alloc, file, hex),
+        ["put", hex] => Ok(message(alloc, hex)?.map(Line::Put)),
+        other => Ok(store_line(other).or_else(|| port_line(other))),
+    }
 }

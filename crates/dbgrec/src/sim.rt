@@ -1,18 +1,20 @@
 // A script over a store in memory.
-ghost use Rattle.std.specs.Prelude.{◌<◌, length};
+ghost use Rattle.std.specs.Prelude.{◌<◌, ◌≤◌, length};
 ghost use Rattle.trace_store.specs.MemStore.{reads_of};
+ghost use Rattle.dbgrec.specs.Line.{IsSound, HasFile};
 
 use crate::answers::Answers;
 use crate::contents::with_bytes;
 use crate::fault::SimFault;
-use crate::held::{Leave, run_port};
+use crate::held::{Leave, Origin, hold};
 use crate::line::Line;
-use crate::port::FilePort;
+use crate::refusal::Refusal;
 use crate::script::Script;
 use crate::stored::{list, list_files};
 use std::alloc::Global;
 use std::io::{BufRead, Write};
-use trace_store::{CrashFault, MemStore, Pick, Store};
+use trace_port::{begin_create, begin_resume};
+use trace_store::{MemStore, Pick, Store};
 
 /// Runs a script over a store in memory, at first a blank one of one file. What was answered before a fault has been
 /// written. A run that fails of several causes answers the first.
@@ -41,23 +43,59 @@ fn run_lines<R: BufRead, W: Write>(
             return Ok(());
         };
         match line {
-            Line::Store(files) => match MemStore::blank(alloc, files) {
-                Ok(blank) => {
-                    store = blank;
-                    answers.ok()?;
-                }
-                Err(_) => answers.refused("1 NoMemory")?,
-            },
             Line::Bytes(file, _) if file >= store.files() => return Err(script.bad_command()),
-            Line::Bytes(file, bytes) => set_bytes(alloc, &mut store, file, bytes, answers)?,
-            Line::CreateFile(limit) => hold(alloc, &mut store, limit, script, answers)?,
-            Line::CrashKept => crash(&mut store, answers)?,
-            Line::Files => list_files(&mut store, answers)?,
-            Line::List => list(alloc, &mut store, answers)?,
-            _other => answers.out_of_order()?,
+            Line::CreateFile(limit) => create(alloc, &mut store, limit, script, answers)?,
+            Line::ResumeFile(limit) => resume(alloc, &mut store, limit, script, answers)?,
+            other => run_line(alloc, &mut store, other, answers)?,
         }
     }
     Ok(())
+}
+
+/// Runs a line that holds no port.
+fn run_line<W: Write>(
+    alloc: Global,
+    store: &mut MemStore,
+    line: Line,
+    answers: &mut Answers<'_, W>,
+) -> Result<(), SimFault>
+    requires sound { IsSound line }
+    requires file { HasFile (reads_of store.old) line }
+{
+    match line {
+        Line::Store(files) => set_store(alloc, store, files, answers),
+        Line::Bytes(file, bytes) => set_bytes(alloc, store, file, bytes, answers),
+        Line::Fuse(calls) => {
+            store.fuse(calls);
+            answers.ok()
+        }
+        Line::FailOnce(calls) => {
+            store.fail_once(calls);
+            answers.ok()
+        }
+        Line::Crash(pick) => crash(store, pick, answers),
+        Line::Files => list_files(store, answers),
+        Line::List => list(alloc, store, answers),
+        _other => answers.out_of_order(),
+    }
+}
+
+/// Puts a blank store in the place of this one.
+fn set_store<W: Write>(
+    alloc: Global,
+    store: &mut MemStore,
+    files: u32,
+    answers: &mut Answers<'_, W>,
+) -> Result<(), SimFault>
+    requires { (1 ≤ files) × (files ≤ 1001) }
+{
+    match MemStore::blank(alloc, files) {
+        Ok(blank) => {
+            *store = blank;
+            answers.ok()
+        }
+        Err(_) => answers.refused(Refusal::NoMemory),
+    }
 }
 
 /// Puts a store in the place of this one, in which this file holds these bytes.
@@ -75,35 +113,63 @@ fn set_bytes<W: Write>(
             *store = changed;
             answers.ok()
         }
-        Err(fault) => answers.refused(fault),
+        Err(refusal) => answers.refused(refusal),
     }
 }
 
-/// Makes a port, and runs lines until it is given up.
-fn hold<R: BufRead, W: Write>(
+/// Makes a port over a blank store, and runs lines until it is given up.
+fn create<R: BufRead, W: Write>(
     alloc: Global,
     store: &mut MemStore,
     limit: u64,
     script: &mut Script<'_, R>,
     answers: &mut Answers<'_, W>,
 ) -> Result<(), SimFault> {
-    let mut port = match FilePort::create(alloc, &mut *store, limit) {
-        Ok(port) => port,
-        Err(fault) => return answers.refused(fault),
-    };
-    answers.ok()?;
-    match run_port(&mut port, &mut *store, script, answers)? {
-        Leave::Ended => Ok(()),
-        Leave::Abandoned => answers.ok(),
-        Leave::Crashed => crash(store, answers),
+    match begin_create(alloc, &mut *store, limit) {
+        Ok(opening) => {
+            let left = hold(&mut *store, opening, Origin::Created, script, answers)?;
+            give_up(store, left, answers)
+        }
+        Err(fault) => answers.refused(Refusal::Create(fault)),
     }
 }
 
-/// Leaves the store as a read gives it, with nothing unsynced.
-fn crash<W: Write>(store: &mut MemStore, answers: &mut Answers<'_, W>) -> Result<(), SimFault> {
-    match store.crash(Pick::Kept) {
-        Ok(()) => answers.ok(),
-        Err(CrashFault::NotImage) => answers.refused("1 NotImage"),
-        Err(CrashFault::NoMemory) => answers.refused("2 NoMemory"),
+/// Makes a port that goes on in a store, and runs lines until it is given up.
+fn resume<R: BufRead, W: Write>(
+    alloc: Global,
+    store: &mut MemStore,
+    limit: u64,
+    script: &mut Script<'_, R>,
+    answers: &mut Answers<'_, W>,
+) -> Result<(), SimFault> {
+    match begin_resume(alloc, &mut *store, limit) {
+        Ok(opening) => {
+            let left = hold(&mut *store, opening, Origin::Resumed, script, answers)?;
+            give_up(store, left, answers)
+        }
+        Err(fault) => answers.refused(Refusal::Resume(fault)),
     }
+}
+
+/// Answers how a port was left, which has been dropped.
+fn give_up<W: Write>(
+    store: &mut MemStore,
+    left: Leave,
+    answers: &mut Answers<'_, W>,
+) -> Result<(), SimFault> {
+    match left {
+        Leave::Abandoned => answers.ok(),
+        Leave::Closed => answers.text(b"closed"),
+        Leave::Crashed(pick) => crash(store, pick, answers),
+        Leave::Ended => Ok(()),
+    }
+}
+
+/// Leaves one of the images that a crash may leave, with nothing unsynced and no fuse.
+fn crash<W: Write>(
+    store: &mut MemStore,
+    pick: Pick,
+    answers: &mut Answers<'_, W>,
+) -> Result<(), SimFault> {
+    answers.text_or(b"ok", store.crash(pick).map_err(Refusal::Crash))
 }

@@ -11,6 +11,9 @@ const MESSAGE: &str = "8368047705747261636558770d6e6f6e6f6465406e6f686f7374\
 000000500000000000000000770772656365697665\
 77026f6b";
 
+/// What stands behind the message's number in a listing.
+const LISTED: &str = " opaque 51";
+
 /// What a script answers, and what its fault displays with its status. A line `put E` puts the message.
 fn run(alloc: Global, script: &str) -> Result<(String, String), Fail> {
     let script = script.replace(alloc, "put E", format!(in alloc; "put {MESSAGE}")?.as_str())?;
@@ -22,10 +25,14 @@ fn run(alloc: Global, script: &str) -> Result<(String, String), Fail> {
     Ok((String::from_utf8_lossy(alloc, &written)?, fault))
 }
 
-/// Whether the lines of the script, separated by `;`, give these answers, and end with this fault.
+/// Whether the lines of the script, separated by `;`, give these answers, and end with this fault. In the script `L`
+/// is the greatest limit, and in the answers `N R` the listed line of the message.
 fn gives(alloc: Global, script: &str, answers: &str, fault: &str) -> Result<bool, Fail> {
-    let found = run(alloc, script.replace(alloc, "; ", "\n")?.as_str())?;
-    let told = found.0.replace(alloc, "\n", "; ")?;
+    let script = script.replace(alloc, " L", " 1099511627776")?;
+    let script = script.replace(alloc, "; ", "\n")?;
+    let found = run(alloc, script.as_str())?;
+    let told = found.0.replace(alloc, LISTED, " R")?;
+    let told = told.replace(alloc, "\n", "; ")?;
     Ok(told.as_str() == answers && found.1.as_str() == fault)
 }
 
@@ -34,20 +41,20 @@ fn scripts_are_answered(rt: HostRuntime) -> Result<(), Fail> {
     let rows = [
         // A flush is kept over a crash, and what is behind it isn't.
         (
-            "store 1; create file 1099511627776; put 836a; flush; crash kept; list",
+            "store 1; create file L; put 836a; flush; crash kept; list",
             "ok; ok; entry 0; covered 1; ok; 0 opaque 2; end_of_trace; ",
         ),
         (
-            "store 1; create file 1099511627776; put E; flush; abandon; files; list",
-            "ok; ok; entry 0; covered 1; ok; file 0 length 98 gate 01; 0 opaque 51; end_of_trace; ",
+            "store 1; create file L; put E; flush; abandon; files; list",
+            "ok; ok; entry 0; covered 1; ok; file 0 length 98 gate 01; 0 R; end_of_trace; ",
         ),
         (
-            "store 1; create file 1099511627776; put E; crash kept; list",
+            "store 1; create file L; put E; crash kept; list",
             "ok; ok; entry 0; ok; end_of_trace; ",
         ),
         (
-            "create file 1099511627776; put E; flush; put E; crash kept; list",
-            "ok; entry 0; covered 1; entry 1; ok; 0 opaque 51; end_of_trace; ",
+            "create file L; put E; flush; put E; crash kept; list",
+            "ok; entry 0; covered 1; entry 1; ok; 0 R; end_of_trace; ",
         ),
         // A file is as long as its limit, and no longer.
         (
@@ -64,6 +71,7 @@ fn scripts_are_answered(rt: HostRuntime) -> Result<(), Fail> {
         ),
         ("create file 1099511627777", "refused 2 BadSpec; "),
         ("create file 37; put -", "ok; refused 5 FileFull; "),
+        ("create file 37; lose 1", "ok; refused 5 FileFull; "),
         // A store that isn't blank is kept.
         (
             "create file 99; put 00; flush; abandon; create file 99; list",
@@ -71,8 +79,8 @@ fn scripts_are_answered(rt: HostRuntime) -> Result<(), Fail> {
         ),
         // Lines in the wrong state do nothing.
         (
-            "put E; flush; abandon; create file 99; store 1; create file 99; files; list; flush",
-            "out of order; out of order; out of order; ok; out of order; out of order; out of order; out of order; covered 0; ",
+            "put E; flush; abandon; seal; close; create file 99; store 1; fuse 1; create file 99; resume file 99; files; list; flush",
+            "out of order; out of order; out of order; out of order; out of order; ok; out of order; out of order; out of order; out of order; out of order; out of order; covered 0; ",
         ),
         ("; # a remark; list", "end_of_trace; "),
     ];
@@ -83,13 +91,127 @@ fn scripts_are_answered(rt: HostRuntime) -> Result<(), Fail> {
 }
 
 #[test]
+fn a_trace_goes_on_after_it_is_resumed(rt: HostRuntime) -> Result<(), Fail> {
+    let rows = [
+        (
+            "store 1; list; resume file L",
+            "ok; end_of_trace; refused 2 Blank; ",
+        ),
+        (
+            "create file L; put E; flush; abandon; resume file L; put E; flush; abandon; files; list",
+            "ok; entry 0; covered 1; ok; resumed 1; entry 1; covered 2; ok; file 0 length 159 gate 01; 0 R; 1 R; end_of_trace; ",
+        ),
+        // What was accepted and not flushed before a crash isn't there, and is numbered anew.
+        (
+            "create file L; put E; flush; lose 3; crash kept; resume file L; lose 4; flush; crash kept; resume file L; put E; abandon; list",
+            "ok; entry 0; covered 1; entry 1; ok; resumed 1; entry 1; covered 2; ok; resumed 2; entry 2; ok; 0 R; 1 drop 4; end_of_trace; ",
+        ),
+        (
+            "create file L; lose 3; put E; close; resume file 36; resume file L; list",
+            "ok; entry 0; entry 1; closed; refused 4 BadSpec; refused 1 Sealed; 0 drop 3; 1 R; end_of_trace; ",
+        ),
+        // A sealed port takes nothing.
+        (
+            "create file L; seal; put E; flush; seal; abandon; list",
+            "ok; sealed; refused 3 Sealed; refused 3 Sealed; refused 3 Sealed; ok; end_of_trace; ",
+        ),
+        // A resumption finds what a listing tells of.
+        (
+            "bytes 0 0144425431000000000000000000000000000000000000000000000000000000000000000100000005010000000000; resume file L",
+            "ok; refused 5 Recover 1 Damaged file 0 at 36; ",
+        ),
+        (
+            "store 2; bytes 1 01444254310100010000006400000000000000010000000000000001000000000000000000; resume file L",
+            "ok; ok; refused 3 WrongKind; ",
+        ),
+    ];
+    for (script, answers) in rows {
+        assert!(rt; gives(rt.alloc(), script, answers, "")?);
+    }
+    Ok(())
+}
+
+#[test]
+fn a_device_that_fails_leaves_a_prefix(rt: HostRuntime) -> Result<(), Fail> {
+    let rows = [
+        // The sync of a new segment's gate fails: what a crash leaves there decides whether there is a trace.
+        (
+            "store 1; fuse 9; create file L; crash low 00; resume file L",
+            "ok; ok; refused 3 Device; ok; refused 2 Blank; ",
+        ),
+        (
+            "store 1; fuse 9; create file L; crash low 01; resume file L",
+            "ok; ok; refused 3 Device; ok; resumed 0; ",
+        ),
+        (
+            "store 1; fuse 9; create file L; crash low 37; resume file L",
+            "ok; ok; refused 3 Device; ok; refused 2 Blank; ",
+        ),
+        // The sync of a batch fails: its gate stays closed, whatever is there.
+        (
+            "store 1; fuse 11; create file L; put E; flush; crash high 01; files; list",
+            "ok; ok; ok; entry 0; refused 1 Device; ok; file 0 length 98 gate 01; end_of_trace; ",
+        ),
+        // A broken port is held until it is given up.
+        (
+            "store 1; failonce 11; create file L; put E; flush; put E; flush; seal; abandon; resume file L",
+            "ok; ok; ok; entry 0; refused 1 Device; refused 2 Broken; refused 2 Broken; refused 2 Broken; ok; resumed 0; ",
+        ),
+        (
+            "store 1; failonce 12; create file L; put E; flush; put E; flush; seal; abandon; resume file L",
+            "ok; ok; ok; entry 0; refused 1 Device; refused 2 Broken; refused 2 Broken; refused 2 Broken; ok; resumed 0; ",
+        ),
+        (
+            "store 1; failonce 13; create file L; put E; flush; put E; flush; seal; abandon; resume file L",
+            "ok; ok; ok; entry 0; refused 1 Device; refused 2 Broken; refused 2 Broken; refused 2 Broken; ok; resumed 1; ",
+        ),
+        // No call of the device passes any more.
+        (
+            "create file L; abandon; fuse 0; list; files; resume file L; bytes 0 00",
+            "ok; ok; ok; refused 4 Device; refused 1 Device; refused 5 Recover 4 Device; refused 1 Device; ",
+        ),
+    ];
+    for (script, answers) in rows {
+        assert!(rt; gives(rt.alloc(), script, answers, "")?);
+    }
+    Ok(())
+}
+
+/// The device fails once, at one of the calls of the drop: 10 to 13 are those of the commit, 14 to 17 those of the seal.
+#[test]
+fn a_port_that_is_closed_seals_its_trace(rt: HostRuntime) -> Result<(), Fail> {
+    let alloc = rt.alloc();
+    assert!(rt;
+        gives(
+            alloc,
+            "store 1; create file L; put E; close; files; list; resume file L",
+            "ok; ok; entry 0; closed; file 0 length 102 gate 01; 0 R; end_of_trace; refused 1 Sealed; ",
+            ""
+        )?
+    );
+    for k in 10..18 {
+        let script = format!(in alloc;
+            "store 1; failonce {k}; create file L; put E; close; list; resume file L"
+        )?;
+        let end = match k {
+            10..=12 => "end_of_trace; resumed 0; ",
+            13..=16 => "0 R; end_of_trace; resumed 1; ",
+            _ => "0 R; end_of_trace; refused 1 Sealed; ",
+        };
+        let answers = format!(in alloc; "ok; ok; ok; entry 0; closed; {end}")?;
+        assert!(rt;
+            gives(alloc, script.as_str(), answers.as_str(), "")?,
+            "at {k}"
+        );
+    }
+    Ok(())
+}
+
+#[test]
 fn stores_are_listed_from_their_bytes(rt: HostRuntime) -> Result<(), Fail> {
     let rows = [
         // A closed file isn't read, and a store of one is blank.
-        (
-            "store 1; bytes 0 01; create file 1099511627776",
-            "ok; ok; ok; ",
-        ),
+        ("store 1; bytes 0 01; create file L", "ok; ok; ok; "),
         // Damage is told with its file and place.
         (
             "bytes 0 014442543100000000000000000000000000000000000000000000000000000000000000010000ffff; list",
@@ -110,7 +232,7 @@ fn stores_are_listed_from_their_bytes(rt: HostRuntime) -> Result<(), Fail> {
         ),
         (
             "bytes 0 014442543100000000000000000000000000000000000000000000000000000000000000010000003800000000338368047705747261636558770d6e6f6e6f6465406e6f686f737400000050000000000000000077077265636569766577026f6b00; list",
-            "ok; 0 opaque 51; end_of_trace; ",
+            "ok; 0 R; end_of_trace; ",
         ),
         // Two specifications are told, and generations with a gap.
         (
@@ -124,11 +246,11 @@ fn stores_are_listed_from_their_bytes(rt: HostRuntime) -> Result<(), Fail> {
         // A wrap whose newest segment exceeds the size keeps one run less of those that are stored.
         (
             "store 3; bytes 0 014442543101000200000064000000000000000000000000000000000000000000000000010000007000000000338368047705747261636558770d6e6f6e6f6465406e6f686f737400000050000000000000000077077265636569766577026f6b00000000338368047705747261636558770d6e6f6e6f6465406e6f686f737400000050000000000000000077077265636569766577026f6b00; bytes 1 014442543101000200000064000000000000000100000000000000020000000000000000010000007000000000338368047705747261636558770d6e6f6e6f6465406e6f686f737400000050000000000000000077077265636569766577026f6b00000000338368047705747261636558770d6e6f6e6f6465406e6f686f737400000050000000000000000077077265636569766577026f6b00; list",
-            "ok; ok; ok; before entries 2 dropped 0; 2 opaque 51; 3 opaque 51; end_of_trace; ",
+            "ok; ok; ok; before entries 2 dropped 0; 2 R; 3 R; end_of_trace; ",
         ),
         (
             "store 3; bytes 0 014442543101000200000064000000000000000000000000000000000000000000000000010000007000000000338368047705747261636558770d6e6f6e6f6465406e6f686f737400000050000000000000000077077265636569766577026f6b00000000338368047705747261636558770d6e6f6e6f6465406e6f686f737400000050000000000000000077077265636569766577026f6b00; bytes 1 014442543101000200000064000000000000000100000000000000020000000000000000010000007000000000338368047705747261636558770d6e6f6e6f6465406e6f686f737400000050000000000000000077077265636569766577026f6b00000000338368047705747261636558770d6e6f6e6f6465406e6f686f737400000050000000000000000077077265636569766577026f6b00; bytes 2 01444254310100020000006400000000000000020000000000000004000000000000000000; list",
-            "ok; ok; ok; ok; before entries 2 dropped 0; 2 opaque 51; 3 opaque 51; end_of_trace; ",
+            "ok; ok; ok; ok; before entries 2 dropped 0; 2 R; 3 R; end_of_trace; ",
         ),
     ];
     for (script, answers) in rows {
@@ -156,7 +278,16 @@ fn bad_commands_are_told_by_their_line(rt: HostRuntime) -> Result<(), Fail> {
             "line 1: bad command, 2",
         ),
         ("put 0g", "", "line 1: bad command, 2"),
-        ("seal", "", "line 1: bad command, 2"),
+        ("lose 0", "", "line 1: bad command, 2"),
+        ("lose 4294967296", "", "line 1: bad command, 2"),
+        ("crash low 1", "", "line 1: bad command, 2"),
+        ("crash", "", "line 1: bad command, 2"),
+        (
+            "create file 99; bytes 1 00",
+            "ok; ",
+            "line 2: bad command, 2",
+        ),
+        ("desk", "", "line 1: bad command, 2"),
     ];
     for (script, answers, fault) in rows {
         assert!(rt; gives(rt.alloc(), script, answers, fault)?);

@@ -1,9 +1,10 @@
-use Rattle.std.proofs.Common.{◌<◌, length}
-use Rattle.dbgrec.specs.Port.{Keeps}
+use Rattle.std.proofs.Common.{◌≡◌, List}
+use Rattle.entry_codec.specs.Entries.{Entry as Data}
+use Rattle.dbgrec.specs.Run.{Ran}
 use Rattle.dbgrec.proofs.held.run_port.Given as goal
 
 abbrev pub invariant-loop-line : goal.invariant-loop-line
 invariant-loop-line g l = record {
-  file : 0 < length (g.S.Store.reads l.store);
-  keeps : Keeps (g.S.Store.honest l.store) (g.S.Store.images l.store) l.port;
+  same : g.P.TracePort.lender l.port ≡ g.P.TracePort.lender l.fn.port;
+  ran : (entries : List Data) × Ran (g.P.TracePort.told l.fn.port) (g.P.TracePort.told l.port) entries;
 }

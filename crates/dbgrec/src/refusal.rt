@@ -1,0 +1,96 @@
+// Refusals, as they are told: a number and a name.
+
+use recovery::RecoverFault;
+use std::alloc::{AllocError, AllocFailed};
+use std::fmt;
+use trace_port::{CreateFault, PortFault, ResumeFault};
+use trace_store::{CrashFault, DeviceFault};
+
+/// What was refused.
+#[derive(Clone, Copy, Debug, PartialEq, Eq)]
+pub enum Refusal {
+    /// A call of the store itself.
+    Device,
+    /// A call whose only refusal is want of memory.
+    NoMemory,
+    Crash(CrashFault),
+    Recover(RecoverFault),
+    Create(CreateFault),
+    Resume(ResumeFault),
+    Port(PortFault),
+}
+
+impl From<DeviceFault> for Refusal {
+    fn from(_fault: DeviceFault) -> Refusal {
+        Refusal::Device
+    }
+}
+
+impl From<AllocError> for Refusal {
+    fn from(_fault: AllocError) -> Refusal {
+        Refusal::NoMemory
+    }
+}
+
+impl<T: Drop> From<AllocFailed<T>> for Refusal {
+    fn from(_fault: AllocFailed<T>) -> Refusal {
+        Refusal::NoMemory
+    }
+}
+
+impl fmt::Display for Refusal {
+    fn fmt<W: fmt::Write>(&self, f: &mut fmt::Formatter<W>) -> fmt::Result {
+        match *self {
+            Refusal::Device => f.write_str("1 Device"),
+            Refusal::NoMemory => f.write_str("1 NoMemory"),
+            Refusal::Crash(fault) => f.write_str(crash_text(fault)),
+            Refusal::Recover(fault) => tell_recover(f, fault),
+            Refusal::Create(fault) => f.write_str(create_text(fault)),
+            Refusal::Resume(ResumeFault::Recover(cause)) => {
+                f.write_str("5 Recover ")?;
+                tell_recover(f, cause)
+            }
+            Refusal::Resume(ResumeFault::Sealed) => f.write_str("1 Sealed"),
+            Refusal::Resume(ResumeFault::Blank) => f.write_str("2 Blank"),
+            Refusal::Resume(ResumeFault::WrongKind) => f.write_str("3 WrongKind"),
+            Refusal::Resume(ResumeFault::BadSpec) => f.write_str("4 BadSpec"),
+            Refusal::Port(fault) => f.write_str(port_text(fault)),
+        }
+    }
+}
+
+fn tell_recover<W: fmt::Write>(f: &mut fmt::Formatter<W>, fault: RecoverFault) -> fmt::Result {
+    match fault {
+        RecoverFault::Damaged { file, place } => write!(f, "1 Damaged file {file} at {place}"),
+        RecoverFault::Mixed => f.write_str("2 Mixed"),
+        RecoverFault::Sequence => f.write_str("3 Sequence"),
+        RecoverFault::Device => f.write_str("4 Device"),
+        RecoverFault::NoMemory => f.write_str("5 NoMemory"),
+    }
+}
+
+fn crash_text(fault: CrashFault) -> &'static str {
+    match fault {
+        CrashFault::NotImage => "1 NotImage",
+        CrashFault::NoMemory => "2 NoMemory",
+    }
+}
+
+fn create_text(fault: CreateFault) -> &'static str {
+    match fault {
+        CreateFault::NotBlank => "1 NotBlank",
+        CreateFault::BadSpec => "2 BadSpec",
+        CreateFault::Device => "3 Device",
+        CreateFault::NoMemory => "4 NoMemory",
+    }
+}
+
+fn port_text(fault: PortFault) -> &'static str {
+    match fault {
+        PortFault::Device => "1 Device",
+        PortFault::Broken => "2 Broken",
+        PortFault::Sealed => "3 Sealed",
+        PortFault::CountFull => "4 CountFull",
+        PortFault::FileFull => "5 FileFull",
+    }
+}
