@@ -3,7 +3,10 @@
 use crate::fault::SimFault;
 use crate::refusal::Refusal;
 use itoa::Buffer;
+use recovery::Recovered;
+use std::alloc::Global;
 use std::io::Write;
+use trace_client::list;
 
 #[derive(Drop)]
 pub struct Answers<'w, W: Write> {
@@ -11,6 +14,11 @@ pub struct Answers<'w, W: Write> {
 }
 
 impl<'w, W: Write> Answers<'w, W> {
+    ghost use Rattle.std.specs.Prelude.{ℕ, List, OnOk};
+    ghost use Rattle.std.specs.Io.KnownBytes.{Appends};
+    ghost use Rattle.entry_codec.specs.Seen.{views};
+    ghost use Rattle.trace_client.specs.Lines.{IsListing};
+
     pub fn new(writer: &'w mut W) -> Answers<'w, W> {
         Answers { writer }
     }
@@ -46,18 +54,12 @@ impl<'w, W: Write> Answers<'w, W> {
         self.put(b"\n")
     }
 
-    /// A number, a word and a number.
-    pub fn numbered(&mut self, number: u64, word: &[u8], count: u64) -> Result<(), SimFault> {
-        self.put_number(number)?;
-        self.put(b" ")?;
-        self.count(word, count)
-    }
-
-    /// What came before the entries that are kept.
-    pub fn before(&mut self, entries: u64, dropped: u64) -> Result<(), SimFault> {
-        writeln!(self.writer, "before entries {entries} dropped {dropped}").map_err(
-            |_| SimFault::Write,
-        )
+    /// The listing of what a store holds.
+    pub fn listing(&mut self, alloc: Global, found: &Recovered) -> Result<(), SimFault>
+        ensures { OnOk result ((text : List ℕ) × IsListing found.now.first found.now.lost (views found.now.entries.items) text
+            × Appends (W.contents self.old.writer.now) (W.contents self.new.writer.now) text) }
+    {
+        Ok(list(alloc, found, &mut *self.writer)?)
     }
 
     /// A file with its length and, unless it is empty, its first byte.

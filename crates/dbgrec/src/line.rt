@@ -77,7 +77,7 @@ fn byte(pair: &[u8]) -> Option<u8> {
 }
 
 /// The bytes that hexadecimal digits spell, `-` for none.
-fn bytes(alloc: Global, word: &str) -> Result<Option<Vec<u8>>, AllocError> {
+pub fn bytes(alloc: Global, word: &str) -> Result<Option<Vec<u8>>, AllocError> {
     if word == "-" {
         return Ok(Some(Vec::new(alloc)));
     }

@@ -11,6 +11,7 @@ mod refusal;
 mod script;
 mod sim;
 mod stored;
+mod stream;
 #[cfg(test)]
 mod tests;
 
@@ -22,6 +23,7 @@ use std::io::{BufReader, BufWriter};
 use std::process::ExitCode;
 use std::rt::{Stdin, Stdout};
 use std::{env, io};
+use stream::run_stream;
 
 /// What is read or written at a time, in bytes.
 const BUFFER: usize = 65_536;
@@ -37,6 +39,7 @@ fn output(rt: &HostRuntime) -> Result<BufWriter<Stdout>, SimFault> {
 fn serve(rt: &HostRuntime, request: Request) -> Result<(), SimFault> {
     match request {
         Request::Sim => run_sim(rt.alloc(), &mut input(rt)?, &mut output(rt)?),
+        Request::Stream => run_stream(rt.alloc(), &mut input(rt)?, &mut output(rt)?),
     }
 }
 

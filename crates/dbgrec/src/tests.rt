@@ -1,6 +1,8 @@
 use crate::command::{Request, asked_for};
 use crate::fault::SimFault;
+use crate::line::bytes;
 use crate::sim::run_sim;
+use crate::stream::run_stream;
 use std::alloc::Global;
 use std::io;
 use std::io::{BufReader, Read, Write};
@@ -12,7 +14,7 @@ const MESSAGE: &str = "8368047705747261636558770d6e6f6e6f6465406e6f686f7374\
 77026f6b";
 
 /// What stands behind the message's number in a listing.
-const LISTED: &str = " opaque 51";
+const LISTED: &str = " receive {trace,<nonode@nohost.80.0.0>,'receive',ok}";
 
 /// What a script answers, and what its fault displays with its status. A line `put E` puts the message.
 fn run(alloc: Global, script: &str) -> Result<(String, String), Fail> {
@@ -42,7 +44,7 @@ fn scripts_are_answered(rt: HostRuntime) -> Result<(), Fail> {
         // A flush is kept over a crash, and what is behind it isn't.
         (
             "store 1; create file L; put 836a; flush; crash kept; list",
-            "ok; ok; entry 0; covered 1; ok; 0 opaque 2; end_of_trace; ",
+            "ok; ok; entry 0; covered 1; ok; 0 other []; end_of_trace; ",
         ),
         (
             "store 1; create file L; put E; flush; abandon; files; list",
@@ -260,6 +262,63 @@ fn stores_are_listed_from_their_bytes(rt: HostRuntime) -> Result<(), Fail> {
 }
 
 #[test]
+fn terms_are_listed(rt: HostRuntime) -> Result<(), Fail> {
+    let rows = [
+        ("8377026f6b", "0 other ok"),
+        ("8377024f4b", "0 other 'OK'"),
+        ("8377016100", "0 opaque 5"),
+    ];
+    for (hex, line) in rows {
+        let script = format!(in rt.alloc(); "create file L; put {hex}; flush; abandon; list")?;
+        let answers = format!(in rt.alloc(); "ok; entry 0; covered 1; ok; {line}; end_of_trace; ")?;
+        assert!(rt; gives(rt.alloc(), script.as_str(), answers.as_str(), "")?);
+    }
+    Ok(())
+}
+
+/// Whether the stream of these hexadecimal digits gives these lines, and ends with this fault.
+fn streams(alloc: Global, hex: &str, lines: &str, fault: &str) -> Result<bool, Fail> {
+    let hex = hex.replace(
+        alloc,
+        "E",
+        format!(in alloc; "0000000033{MESSAGE}")?.as_str(),
+    )?;
+    let Some(bytes) = bytes(alloc, hex.as_str())? else {
+        return Err("no digits".into());
+    };
+    let mut written: Vec<u8> = Vec::new(alloc);
+    let told = match run_stream(alloc, &mut bytes.as_slice(), &mut written) {
+        Ok(()) => String::new(alloc),
+        Err(fault) => format!(in alloc; "{fault}, {}", fault.status())?,
+    };
+    let listed = String::from_utf8_lossy(alloc, &written)?.replace(alloc, LISTED, " R")?;
+    let listed = listed.replace(alloc, "\n", "; ")?;
+    Ok(listed.as_str() == lines && told.as_str() == fault)
+}
+
+#[test]
+fn streams_are_listed_up_to_their_first_fault(rt: HostRuntime) -> Result<(), Fail> {
+    let rows = [
+        ("-", "end_of_trace; ", ""),
+        ("E0100000003E", "0 R; 1 drop 3; 2 R; end_of_trace; ", ""),
+        ("E0100000000", "0 R; ", "refused 5 ZeroDrop at 56, 1"),
+        ("000000003383", "", "refused 3 Truncated at 0, 1"),
+        ("02", "", "refused 4 BadOp at 0, 1"),
+        ("000000fffc", "", "refused 6 TooLong at 0, 1"),
+        // A term outside the subset is told by its size.
+        (
+            "000000000c836e08000000000000000080",
+            "0 opaque 12; end_of_trace; ",
+            "",
+        ),
+    ];
+    for (hex, lines, fault) in rows {
+        assert!(rt; streams(rt.alloc(), hex, lines, fault)?);
+    }
+    Ok(())
+}
+
+#[test]
 fn bad_commands_are_told_by_their_line(rt: HostRuntime) -> Result<(), Fail> {
     let rows = [
         ("create file 99; put 0", "ok; ", "line 2: bad command, 2"),
@@ -388,11 +447,18 @@ fn command_lines_are_read(rt: HostRuntime) -> Result<(), Fail> {
             Ok(Request::Sim)
         )
     );
+    assert!(rt;
+        matches!(
+            asked_for(alloc, ["dbgrec", "stream"].as_slice()),
+            Ok(Request::Stream)
+        )
+    );
     let rows = [
         (["dbgrec", "--help"].as_slice(), 0),
         (["dbgrec", "--version"].as_slice(), 0),
         (["dbgrec"].as_slice(), 2),
-        (["dbgrec", "stream"].as_slice(), 2),
+        (["dbgrec", "record"].as_slice(), 2),
+        (["dbgrec", "stream", "x"].as_slice(), 2),
         (["dbgrec", "sim", "x"].as_slice(), 2),
     ];
     for (words, status) in rows {
