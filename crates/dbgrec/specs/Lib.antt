@@ -1,2 +1,4 @@
 pub mod Line
-pub mod Run
+pub mod Texts
+pub mod Asked
+pub mod Held

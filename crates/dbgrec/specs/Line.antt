@@ -7,10 +7,10 @@ use Rattle.dbgrec.specs.declared.line.Line.{Line}
 use Rattle.dbgrec.specs.declared.line.Line.TheVariants as lines
 
 -- a store can have so many files, and what is put may be stored
-abbrev pub IsSound : Line → Type 0
-IsSound (lines.Store files) = (1 ≤ files) × (files ≤ 1001)
-IsSound (lines.Put entry) = IsLawful (view entry)
-IsSound _ = ⊤
+abbrev pub IsWithinLimits : Line → Type 0
+IsWithinLimits (lines.Store files) = (1 ≤ files) × (files ≤ 1001)
+IsWithinLimits (lines.Put entry) = IsLawful (view entry)
+IsWithinLimits _ = ⊤
 
 -- the file that the line names is one of these
 abbrev pub HasFile : Image → Line → Type 0

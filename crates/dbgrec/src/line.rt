@@ -2,7 +2,7 @@
 ghost use Rattle.std.specs.Prelude.{◌<◌, ◌≤◌, IfOk, IfSome};
 ghost use Rattle.entry_codec.specs.Entries.{IsLawful};
 ghost use Rattle.entry_codec.specs.Seen.{view};
-ghost use Rattle.dbgrec.specs.Line.{IsSound};
+ghost use Rattle.dbgrec.specs.Line.{IsWithinLimits};
 
 use entry_codec::Entry;
 use std::alloc::{AllocError, Global};
@@ -27,6 +27,8 @@ pub enum Line {
     Put(Entry),
     Flush,
     Seal,
+    /// The time, in milliseconds.
+    Tick(u64),
     Abandon,
     Close,
     Crash(Pick),
@@ -124,7 +126,7 @@ fn filled(word: &str, longest: bool) -> Option<Pick> {
 
 /// Bytes for a file, if a store may have a file of this number.
 fn file_bytes(alloc: Global, file: &str, hex: &str) -> Result<Option<Line>, AllocError>
-    ensures { IfOk result (λ found. IfSome found IsSound) }
+    ensures { IfOk result (λ found. IfSome found IsWithinLimits) }
 {
     let Some(file) = within(file, 0, MOST_FILES - 1) else {
         return Ok(None);
@@ -135,7 +137,7 @@ fn file_bytes(alloc: Global, file: &str, hex: &str) -> Result<Option<Line>, Allo
 
 /// The line of a store that these words spell, where it holds no bytes.
 fn store_line(words: &[&str]) -> Option<Line>
-    ensures { IfSome result IsSound }
+    ensures { IfSome result IsWithinLimits }
 {
     match words {
         ["store", n] => within(n, 1, MOST_FILES).map(Line::Store),
@@ -151,12 +153,13 @@ fn store_line(words: &[&str]) -> Option<Line>
 
 /// The line of a port or a crash that these words spell, where it holds no bytes.
 fn port_line(words: &[&str]) -> Option<Line>
-    ensures { IfSome result IsSound }
+    ensures { IfSome result IsWithinLimits }
 {
     match words {
         ["lose", count] => drop_of(count).map(Line::Put),
         ["flush"] => Some(Line::Flush),
         ["seal"] => Some(Line::Seal),
+        ["tick", now] => number(now).map(Line::Tick),
         ["abandon"] => Some(Line::Abandon),
         ["close"] => Some(Line::Close),
         ["crash", "kept"] => Some(Line::Crash(Pick::Kept)),
@@ -168,7 +171,7 @@ fn port_line(words: &[&str]) -> Option<Line>
 
 /// The line that the text spells.
 pub fn parse(alloc: Global, text: &str) -> Result<Option<Line>, AllocError>
-    ensures { IfOk result (λ found. IfSome found IsSound) }
+    ensures { IfOk result (λ found. IfSome found IsWithinLimits) }
 {
     let words: Vec<&str> = text.split(' ').collect(alloc)?;
     match words.as_slice() {

@@ -1,6 +1,7 @@
 //! Records traces as `dbg` of Erlang does, and lists what a crash has left of them.
 #![tactic(auto)]
 
+mod answer;
 mod answers;
 mod command;
 mod contents;
@@ -8,6 +9,7 @@ mod fault;
 mod held;
 mod line;
 mod refusal;
+mod reply;
 mod script;
 mod sim;
 mod stored;

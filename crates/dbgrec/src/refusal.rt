@@ -1,4 +1,7 @@
 // Refusals, as they are told: a number and a name.
+ghost use Rattle.std.specs.Prelude.{◌≡◌, Some};
+ghost use Rattle.std.specs.Fmt.{DisplaysOnOk};
+ghost use Rattle.dbgrec.specs.Texts as texts;
 
 use recovery::RecoverFault;
 use std::alloc::{AllocError, AllocFailed};
@@ -38,7 +41,24 @@ impl<T: Drop> From<AllocFailed<T>> for Refusal {
     }
 }
 
+impl From<CreateFault> for Refusal {
+    fn from(fault: CreateFault) -> Refusal {
+        Refusal::Create(fault)
+    }
+}
+
+impl From<ResumeFault> for Refusal {
+    fn from(fault: ResumeFault) -> Refusal {
+        Refusal::Resume(fault)
+    }
+}
+
 impl fmt::Display for Refusal {
+    ghost use Rattle.std.specs.Prelude.{Some};
+    ghost use Rattle.dbgrec.specs.Texts.{refusal_text};
+
+    ghost output = { λ refusal. Some (refusal_text refusal) };
+
     fn fmt<W: fmt::Write>(&self, f: &mut fmt::Formatter<W>) -> fmt::Result {
         match *self {
             Refusal::Device => f.write_str("1 Device"),
@@ -46,20 +66,15 @@ impl fmt::Display for Refusal {
             Refusal::Crash(fault) => f.write_str(crash_text(fault)),
             Refusal::Recover(fault) => tell_recover(f, fault),
             Refusal::Create(fault) => f.write_str(create_text(fault)),
-            Refusal::Resume(ResumeFault::Recover(cause)) => {
-                f.write_str("5 Recover ")?;
-                tell_recover(f, cause)
-            }
-            Refusal::Resume(ResumeFault::Sealed) => f.write_str("1 Sealed"),
-            Refusal::Resume(ResumeFault::Blank) => f.write_str("2 Blank"),
-            Refusal::Resume(ResumeFault::WrongKind) => f.write_str("3 WrongKind"),
-            Refusal::Resume(ResumeFault::BadSpec) => f.write_str("4 BadSpec"),
+            Refusal::Resume(fault) => tell_resume(f, fault),
             Refusal::Port(fault) => f.write_str(port_text(fault)),
         }
     }
 }
 
-fn tell_recover<W: fmt::Write>(f: &mut fmt::Formatter<W>, fault: RecoverFault) -> fmt::Result {
+fn tell_recover<W: fmt::Write>(f: &mut fmt::Formatter<W>, fault: RecoverFault) -> fmt::Result
+    ensures { DisplaysOnOk W.write_str_gives f.old result (Some (texts.recover_text fault)) f.new }
+{
     match fault {
         RecoverFault::Damaged { file, place } => write!(f, "1 Damaged file {file} at {place}"),
         RecoverFault::Mixed => f.write_str("2 Mixed"),
@@ -69,14 +84,33 @@ fn tell_recover<W: fmt::Write>(f: &mut fmt::Formatter<W>, fault: RecoverFault) -
     }
 }
 
-fn crash_text(fault: CrashFault) -> &'static str {
+fn tell_resume<W: fmt::Write>(f: &mut fmt::Formatter<W>, fault: ResumeFault) -> fmt::Result
+    ensures { DisplaysOnOk W.write_str_gives f.old result (Some (texts.resume_text fault)) f.new }
+{
+    match fault {
+        ResumeFault::Sealed => f.write_str("1 Sealed"),
+        ResumeFault::Blank => f.write_str("2 Blank"),
+        ResumeFault::WrongKind => f.write_str("3 WrongKind"),
+        ResumeFault::BadSpec => f.write_str("4 BadSpec"),
+        ResumeFault::Recover(cause) => {
+            f.write_str("5 Recover ")?;
+            tell_recover(f, cause)
+        }
+    }
+}
+
+fn crash_text(fault: CrashFault) -> &'static str
+    ensures { result.now ≡ texts.crash_text fault }
+{
     match fault {
         CrashFault::NotImage => "1 NotImage",
         CrashFault::NoMemory => "2 NoMemory",
     }
 }
 
-fn create_text(fault: CreateFault) -> &'static str {
+fn create_text(fault: CreateFault) -> &'static str
+    ensures { result.now ≡ texts.create_text fault }
+{
     match fault {
         CreateFault::NotBlank => "1 NotBlank",
         CreateFault::BadSpec => "2 BadSpec",
@@ -85,7 +119,9 @@ fn create_text(fault: CreateFault) -> &'static str {
     }
 }
 
-fn port_text(fault: PortFault) -> &'static str {
+fn port_text(fault: PortFault) -> &'static str
+    ensures { result.now ≡ texts.port_text fault }
+{
     match fault {
         PortFault::Device => "1 Device",
         PortFault::Broken => "2 Broken",

@@ -1,6 +1,6 @@
 // The lines of a script, read one at a time.
 ghost use Rattle.std.specs.Prelude.{IfOk, IfSome};
-ghost use Rattle.dbgrec.specs.Line.{IsSound};
+ghost use Rattle.dbgrec.specs.Line.{IsWithinLimits};
 
 use crate::fault::SimFault;
 use crate::line::{Line, parse};
@@ -59,7 +59,7 @@ impl<'r, R: BufRead> Script<'r, R> {
 
     /// The next line that isn't empty or a remark.
     pub fn next_line(&mut self) -> Result<Option<Line>, SimFault>
-        ensures { IfOk result (λ found. IfSome found IsSound) }
+        ensures { IfOk result (λ found. IfSome found IsWithinLimits) }
     {
         for _line in 0..u64::MAX {
             if !self.advance()? {

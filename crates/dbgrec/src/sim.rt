@@ -1,19 +1,22 @@
 // A script over a store in memory.
-ghost use Rattle.std.specs.Prelude.{◌<◌, ◌≤◌, length};
+ghost use Rattle.std.specs.Prelude.{◌<◌, ◌≤◌, IfOk, OnOk, length};
+ghost use Rattle.trace_store.specs.Disk.{file_of};
 ghost use Rattle.trace_store.specs.MemStore.{reads_of};
-ghost use Rattle.dbgrec.specs.Line.{IsSound, HasFile};
+ghost use Rattle.dbgrec.specs.Line.{IsWithinLimits, HasFile};
 
+use crate::answer::Answer;
 use crate::answers::Answers;
 use crate::contents::with_bytes;
 use crate::fault::SimFault;
-use crate::held::{Leave, Origin, hold};
+use crate::held::hold;
 use crate::line::Line;
 use crate::refusal::Refusal;
+use crate::reply::{Leave, Origin};
 use crate::script::Script;
 use crate::stored::{list, list_files};
 use std::alloc::Global;
 use std::io::{BufRead, Write};
-use trace_port::{begin_create, begin_resume};
+use trace_port::{Opening, Pending, begin_create, begin_resume};
 use trace_store::{MemStore, Pick, Store};
 
 /// Runs a script over a store in memory, at first a blank one of one file. What was answered before a fault has been
@@ -44,8 +47,12 @@ fn run_lines<R: BufRead, W: Write>(
         };
         match line {
             Line::Bytes(file, _) if file >= store.files() => return Err(script.bad_command()),
-            Line::CreateFile(limit) => create(alloc, &mut store, limit, script, answers)?,
-            Line::ResumeFile(limit) => resume(alloc, &mut store, limit, script, answers)?,
+            Line::CreateFile(limit) => {
+                run_file_port(alloc, &mut store, Origin::Created, limit, script, answers)?;
+            }
+            Line::ResumeFile(limit) => {
+                run_file_port(alloc, &mut store, Origin::Resumed, limit, script, answers)?;
+            }
             other => run_line(alloc, &mut store, other, answers)?,
         }
     }
@@ -59,7 +66,7 @@ fn run_line<W: Write>(
     line: Line,
     answers: &mut Answers<'_, W>,
 ) -> Result<(), SimFault>
-    requires sound { IsSound line }
+    requires sound { IsWithinLimits line }
     requires file { HasFile (reads_of store.old) line }
 {
     match line {
@@ -67,16 +74,16 @@ fn run_line<W: Write>(
         Line::Bytes(file, bytes) => set_bytes(alloc, store, file, bytes, answers),
         Line::Fuse(calls) => {
             store.fuse(calls);
-            answers.ok()
+            answers.tell(Answer::Done)
         }
         Line::FailOnce(calls) => {
             store.fail_once(calls);
-            answers.ok()
+            answers.tell(Answer::Done)
         }
         Line::Crash(pick) => crash(store, pick, answers),
         Line::Files => list_files(store, answers),
         Line::List => list(alloc, store, answers),
-        _other => answers.out_of_order(),
+        _other => answers.tell(Answer::OutOfOrder),
     }
 }
 
@@ -92,9 +99,9 @@ fn set_store<W: Write>(
     match MemStore::blank(alloc, files) {
         Ok(blank) => {
             *store = blank;
-            answers.ok()
+            answers.tell(Answer::Done)
         }
-        Err(_) => answers.refused(Refusal::NoMemory),
+        Err(_) => answers.tell(Answer::Refused(Refusal::NoMemory)),
     }
 }
 
@@ -111,57 +118,57 @@ fn set_bytes<W: Write>(
     match with_bytes(alloc, &mut *store, file, bytes) {
         Ok(changed) => {
             *store = changed;
-            answers.ok()
+            answers.tell(Answer::Done)
         }
-        Err(refusal) => answers.refused(refusal),
+        Err(refusal) => answers.tell(Answer::Refused(refusal)),
     }
 }
 
-/// Makes a port over a blank store, and runs lines until it is given up.
-fn create<R: BufRead, W: Write>(
+/// Makes a port over a blank store, or one that goes on in a store, and runs lines until it is given up.
+fn run_file_port<R: BufRead, W: Write>(
     alloc: Global,
     store: &mut MemStore,
+    origin: Origin,
     limit: u64,
     script: &mut Script<'_, R>,
     answers: &mut Answers<'_, W>,
 ) -> Result<(), SimFault> {
-    match begin_create(alloc, &mut *store, limit) {
-        Ok(opening) => {
-            let left = hold(&mut *store, opening, Origin::Created, script, answers)?;
-            give_up(store, left, answers)
-        }
-        Err(fault) => answers.refused(Refusal::Create(fault)),
+    let opening = match open(alloc, &mut *store, origin, limit) {
+        Ok(opening) => opening,
+        Err(refusal) => return answers.tell(Answer::Refused(refusal)),
+    };
+    match hold(&mut *store, opening, origin, script, answers)? {
+        Some(leave) => give_up(store, leave, answers),
+        None => Ok(()),
     }
 }
 
-/// Makes a port that goes on in a store, and runs lines until it is given up.
-fn resume<R: BufRead, W: Write>(
+/// Finds what a file port is made of.
+fn open(
     alloc: Global,
     store: &mut MemStore,
+    origin: Origin,
     limit: u64,
-    script: &mut Script<'_, R>,
-    answers: &mut Answers<'_, W>,
-) -> Result<(), SimFault> {
-    match begin_resume(alloc, &mut *store, limit) {
-        Ok(opening) => {
-            let left = hold(&mut *store, opening, Origin::Resumed, script, answers)?;
-            give_up(store, left, answers)
-        }
-        Err(fault) => answers.refused(Refusal::Resume(fault)),
+) -> Result<Opening<Pending>, Refusal>
+    ensures some { OnOk result (0 < length (reads_of store.new)) }
+    ensures within { IfOk result (λ o. o.gate < length (file_of (reads_of store.new) 0)) }
+{
+    match origin {
+        Origin::Created => Ok(begin_create(alloc, store, limit)?),
+        Origin::Resumed => Ok(begin_resume(alloc, store, limit)?),
     }
 }
 
 /// Answers how a port was left, which has been dropped.
 fn give_up<W: Write>(
     store: &mut MemStore,
-    left: Leave,
+    leave: Leave,
     answers: &mut Answers<'_, W>,
 ) -> Result<(), SimFault> {
-    match left {
-        Leave::Abandoned => answers.ok(),
-        Leave::Closed => answers.text(b"closed"),
+    match leave {
+        Leave::Abandoned => answers.tell(Answer::Done),
+        Leave::Closed => answers.tell(Answer::Closed),
         Leave::Crashed(pick) => crash(store, pick, answers),
-        Leave::Ended => Ok(()),
     }
 }
 
@@ -171,5 +178,8 @@ fn crash<W: Write>(
     pick: Pick,
     answers: &mut Answers<'_, W>,
 ) -> Result<(), SimFault> {
-    answers.text_or(b"ok", store.crash(pick).map_err(Refusal::Crash))
+    answers.tell(match store.crash(pick) {
+        Ok(()) => Answer::Done,
+        Err(fault) => Answer::Refused(Refusal::Crash(fault)),
+    })
 }

@@ -16,341 +16,270 @@ const MESSAGE: &str = "8368047705747261636558770d6e6f6e6f6465406e6f686f7374\
 /// What stands behind the message's number in a listing.
 const LISTED: &str = " receive {trace,<nonode@nohost.80.0.0>,'receive',ok}";
 
-/// What a script answers, and what its fault displays with its status. A line `put E` puts the message.
-fn run(alloc: Global, script: &str) -> Result<(String, String), Fail> {
-    let script = script.replace(alloc, "put E", format!(in alloc; "put {MESSAGE}")?.as_str())?;
+/// What the lines of a script or, behind the word `stream`, an entry stream gives, and what its fault displays with its
+/// status.
+///
+/// In a script `put E` puts the message, `<e>` is its entry, `_` parts the fields of a file, and `L` is the greatest
+/// limit. In a stream `E` is the entry.
+fn found(alloc: Global, script: &str) -> Result<(String, String), Fail> {
+    let entry = format!(in alloc; "0000000033{MESSAGE}")?;
     let mut written: Vec<u8> = Vec::new(alloc);
-    let fault = match run_sim(alloc, &mut script.as_bytes(), &mut written) {
+    let done = if let Some(hex) = script.strip_prefix("stream ") {
+        let hex = hex.replace(alloc, "E", entry.as_str())?;
+        let Some(bytes) = bytes(alloc, hex.as_str())? else {
+            return Err("no digits".into());
+        };
+        run_stream(alloc, &mut bytes.as_slice(), &mut written)
+    } else {
+        let script = script.replace(alloc, "put E", format!(in alloc; "put {MESSAGE}")?.as_str())?;
+        let script = script.replace(alloc, "<e>", entry.as_str())?;
+        let script = script.replace(alloc, "_", "")?;
+        let script = script.replace(alloc, " L", " 1099511627776")?;
+        let script = script.replace(alloc, "; ", "\n")?;
+        run_sim(alloc, &mut script.as_bytes(), &mut written)
+    };
+    let fault = match done {
         Ok(()) => String::new(alloc),
         Err(fault) => format!(in alloc; "{fault}, {}", fault.status())?,
     };
     Ok((String::from_utf8_lossy(alloc, &written)?, fault))
 }
 
-/// Whether the lines of the script, separated by `;`, give these answers, and end with this fault. In the script `L`
-/// is the greatest limit, and in the answers `N R` the listed line of the message.
-fn gives(alloc: Global, script: &str, answers: &str, fault: &str) -> Result<bool, Fail> {
-    let script = script.replace(alloc, " L", " 1099511627776")?;
-    let script = script.replace(alloc, "; ", "\n")?;
-    let found = run(alloc, script.as_str())?;
-    let told = found.0.replace(alloc, LISTED, " R")?;
-    let told = told.replace(alloc, "\n", "; ")?;
-    Ok(told.as_str() == answers && found.1.as_str() == fault)
+/// Whether the script, or the stream, gives these lines, separated by `;`, and ends with this fault. There `N R` is
+/// the listed line of the message.
+fn gives(alloc: Global, script: &str, lines: &str, fault: &str) -> Result<bool, Fail> {
+    let (written, told) = found(alloc, script)?;
+    let written = written.replace(alloc, LISTED, " R")?;
+    let written = written.replace(alloc, "\n", "; ")?;
+    let all = written.as_str();
+    Ok(all.strip_suffix("; ").unwrap_or(all) == lines && told.as_str() == fault)
+}
+
+/// The number of the first line of the table that doesn't hold: `SCRIPT => LINES` or `SCRIPT => LINES => FAULT`.
+/// Empty lines and those that begin with `#` tell nothing.
+fn first_wrong(alloc: Global, table: &str) -> Result<Option<usize>, Fail> {
+    for (number, row) in table.lines().enumerate() {
+        if row.is_empty() || row.starts_with('#') {
+            continue;
+        }
+        let Some((script, rest)) = row.split_once(" =>") else {
+            return Ok(Some(number));
+        };
+        let (lines, fault) = rest.split_once(" => ").unwrap_or((rest, ""));
+        if !gives(alloc, script, lines.trim_start(), fault)? {
+            return Ok(Some(number));
+        }
+    }
+    Ok(None)
 }
 
 #[test]
 fn scripts_are_answered(rt: HostRuntime) -> Result<(), Fail> {
-    let rows = [
-        // A flush is kept over a crash, and what is behind it isn't.
-        (
-            "store 1; create file L; put 836a; flush; crash kept; list",
-            "ok; ok; entry 0; covered 1; ok; 0 other []; end_of_trace; ",
-        ),
-        (
-            "store 1; create file L; put E; flush; abandon; files; list",
-            "ok; ok; entry 0; covered 1; ok; file 0 length 98 gate 01; 0 R; end_of_trace; ",
-        ),
-        (
-            "store 1; create file L; put E; crash kept; list",
-            "ok; ok; entry 0; ok; end_of_trace; ",
-        ),
-        (
-            "create file L; put E; flush; put E; crash kept; list",
-            "ok; entry 0; covered 1; entry 1; ok; 0 R; end_of_trace; ",
-        ),
-        // A file is as long as its limit, and no longer.
-        (
-            "create file 154; put E; put E; put E; flush; flush; abandon; files",
-            "ok; entry 0; entry 1; refused 5 FileFull; covered 2; covered 2; ok; file 0 length 154 gate 01; ",
-        ),
-        (
-            "create file 153; put E; put E; put -; flush",
-            "ok; entry 0; refused 5 FileFull; entry 1; covered 2; ",
-        ),
-        (
-            "create file 36; files",
-            "refused 2 BadSpec; file 0 length 0 gate --; ",
-        ),
-        ("create file 1099511627777", "refused 2 BadSpec; "),
-        ("create file 37; put -", "ok; refused 5 FileFull; "),
-        ("create file 37; lose 1", "ok; refused 5 FileFull; "),
-        // A store that isn't blank is kept.
-        (
-            "create file 99; put 00; flush; abandon; create file 99; list",
-            "ok; entry 0; covered 1; ok; refused 1 NotBlank; 0 opaque 1; end_of_trace; ",
-        ),
-        // Lines in the wrong state do nothing.
-        (
-            "put E; flush; abandon; seal; close; create file 99; store 1; fuse 1; create file 99; resume file 99; files; list; flush",
-            "out of order; out of order; out of order; out of order; out of order; ok; out of order; out of order; out of order; out of order; out of order; out of order; covered 0; ",
-        ),
-        ("; # a remark; list", "end_of_trace; "),
-    ];
-    for (script, answers) in rows {
-        assert!(rt; gives(rt.alloc(), script, answers, "")?);
-    }
+    let rows = "
+# A flush is kept over a crash, and what is behind it isn't.
+store 1; create file L; put 836a; flush; crash kept; list => ok; ok; entry 0; covered 1; ok; 0 other []; end_of_trace
+store 1; create file L; put E; flush; abandon; files; list => ok; ok; entry 0; covered 1; ok; file 0 length 98 gate 01; 0 R; end_of_trace
+store 1; create file L; put E; crash kept; list => ok; ok; entry 0; ok; end_of_trace
+create file L; put E; flush; put E; crash kept; list => ok; entry 0; covered 1; entry 1; ok; 0 R; end_of_trace
+# A file is as long as its limit, and no longer.
+create file 154; put E; put E; put E; flush; flush; abandon; files => ok; entry 0; entry 1; refused 5 FileFull; covered 2; covered 2; ok; file 0 length 154 gate 01
+create file 153; put E; put E; put -; flush => ok; entry 0; refused 5 FileFull; entry 1; covered 2
+create file 36; files => refused 2 BadSpec; file 0 length 0 gate --
+create file 1099511627777 => refused 2 BadSpec
+create file 37; put - => ok; refused 5 FileFull
+create file 37; lose 1 => ok; refused 5 FileFull
+# A store that isn't blank is kept.
+create file 99; put 00; flush; abandon; create file 99; list => ok; entry 0; covered 1; ok; refused 1 NotBlank; 0 opaque 1; end_of_trace
+# Lines in the wrong state do nothing.
+put E; flush; abandon; seal; close; create file 99; store 1; fuse 1; create file 99; resume file 99; files; list; flush => out of order; out of order; out of order; out of order; out of order; ok; out of order; out of order; out of order; out of order; out of order; out of order; covered 0
+; # a remark; list => end_of_trace
+";
+    assert_eq!(rt; first_wrong(rt.alloc(), rows)?, None);
     Ok(())
 }
 
 #[test]
 fn a_trace_goes_on_after_it_is_resumed(rt: HostRuntime) -> Result<(), Fail> {
-    let rows = [
-        (
-            "store 1; list; resume file L",
-            "ok; end_of_trace; refused 2 Blank; ",
-        ),
-        (
-            "create file L; put E; flush; abandon; resume file L; put E; flush; abandon; files; list",
-            "ok; entry 0; covered 1; ok; resumed 1; entry 1; covered 2; ok; file 0 length 159 gate 01; 0 R; 1 R; end_of_trace; ",
-        ),
-        // What was accepted and not flushed before a crash isn't there, and is numbered anew.
-        (
-            "create file L; put E; flush; lose 3; crash kept; resume file L; lose 4; flush; crash kept; resume file L; put E; abandon; list",
-            "ok; entry 0; covered 1; entry 1; ok; resumed 1; entry 1; covered 2; ok; resumed 2; entry 2; ok; 0 R; 1 drop 4; end_of_trace; ",
-        ),
-        (
-            "create file L; lose 3; put E; close; resume file 36; resume file L; list",
-            "ok; entry 0; entry 1; closed; refused 4 BadSpec; refused 1 Sealed; 0 drop 3; 1 R; end_of_trace; ",
-        ),
-        // A sealed port takes nothing.
-        (
-            "create file L; seal; put E; flush; seal; abandon; list",
-            "ok; sealed; refused 3 Sealed; refused 3 Sealed; refused 3 Sealed; ok; end_of_trace; ",
-        ),
-        // A resumption finds what a listing tells of.
-        (
-            "bytes 0 0144425431000000000000000000000000000000000000000000000000000000000000000100000005010000000000; resume file L",
-            "ok; refused 5 Recover 1 Damaged file 0 at 36; ",
-        ),
-        (
-            "store 2; bytes 1 01444254310100010000006400000000000000010000000000000001000000000000000000; resume file L",
-            "ok; ok; refused 3 WrongKind; ",
-        ),
-    ];
-    for (script, answers) in rows {
-        assert!(rt; gives(rt.alloc(), script, answers, "")?);
-    }
+    let rows = "
+store 1; list; resume file L => ok; end_of_trace; refused 2 Blank
+create file L; put E; flush; abandon; resume file L; put E; flush; abandon; files; list => ok; entry 0; covered 1; ok; resumed 1; entry 1; covered 2; ok; file 0 length 159 gate 01; 0 R; 1 R; end_of_trace
+# What was accepted and not flushed before a crash isn't there, and is numbered anew.
+create file L; put E; flush; lose 3; crash kept; resume file L; lose 4; flush; crash kept; resume file L; put E; abandon; list => ok; entry 0; covered 1; entry 1; ok; resumed 1; entry 1; covered 2; ok; resumed 2; entry 2; ok; 0 R; 1 drop 4; end_of_trace
+create file L; lose 3; put E; close; resume file 36; resume file L; list => ok; entry 0; entry 1; closed; refused 4 BadSpec; refused 1 Sealed; 0 drop 3; 1 R; end_of_trace
+# A sealed port takes nothing.
+create file L; seal; put E; flush; seal; abandon; list => ok; sealed; refused 3 Sealed; refused 3 Sealed; refused 3 Sealed; ok; end_of_trace
+# A resumed port goes on in its old segment.
+bytes 0 01_44425431_00_0000_00000000_0000000000000000_0000000000000000_0000000000000000_01_00000038_<e>_00; resume file L; put E; flush; abandon; files; list => ok; resumed 1; entry 1; covered 2; ok; file 0 length 159 gate 01; 0 R; 1 R; end_of_trace
+# A resumption finds what a listing tells of.
+bytes 0 01_44425431_00_0000_00000000_0000000000000000_0000000000000000_0000000000000000_0100000005010000000000; resume file L => ok; refused 5 Recover 1 Damaged file 0 at 36
+store 2; bytes 1 01_44425431_01_0001_00000064_0000000000000001_0000000000000001_0000000000000000_00; resume file L => ok; ok; refused 3 WrongKind
+store 2; bytes 0 01_44425432_02_0001_0000000a_0000000000000000_0000000000000000_0000000000000000_00; resume file L => ok; ok; refused 3 WrongKind
+";
+    assert_eq!(rt; first_wrong(rt.alloc(), rows)?, None);
     Ok(())
 }
 
 #[test]
 fn a_device_that_fails_leaves_a_prefix(rt: HostRuntime) -> Result<(), Fail> {
-    let rows = [
-        // The sync of a new segment's gate fails: what a crash leaves there decides whether there is a trace.
-        (
-            "store 1; fuse 9; create file L; crash low 00; resume file L",
-            "ok; ok; refused 3 Device; ok; refused 2 Blank; ",
-        ),
-        (
-            "store 1; fuse 9; create file L; crash low 01; resume file L",
-            "ok; ok; refused 3 Device; ok; resumed 0; ",
-        ),
-        (
-            "store 1; fuse 9; create file L; crash low 37; resume file L",
-            "ok; ok; refused 3 Device; ok; refused 2 Blank; ",
-        ),
-        // The sync of a batch fails: its gate stays closed, whatever is there.
-        (
-            "store 1; fuse 11; create file L; put E; flush; crash high 01; files; list",
-            "ok; ok; ok; entry 0; refused 1 Device; ok; file 0 length 98 gate 01; end_of_trace; ",
-        ),
-        // A broken port is held until it is given up.
-        (
-            "store 1; failonce 11; create file L; put E; flush; put E; flush; seal; abandon; resume file L",
-            "ok; ok; ok; entry 0; refused 1 Device; refused 2 Broken; refused 2 Broken; refused 2 Broken; ok; resumed 0; ",
-        ),
-        (
-            "store 1; failonce 12; create file L; put E; flush; put E; flush; seal; abandon; resume file L",
-            "ok; ok; ok; entry 0; refused 1 Device; refused 2 Broken; refused 2 Broken; refused 2 Broken; ok; resumed 0; ",
-        ),
-        (
-            "store 1; failonce 13; create file L; put E; flush; put E; flush; seal; abandon; resume file L",
-            "ok; ok; ok; entry 0; refused 1 Device; refused 2 Broken; refused 2 Broken; refused 2 Broken; ok; resumed 1; ",
-        ),
-        // No call of the device passes any more.
-        (
-            "create file L; abandon; fuse 0; list; files; resume file L; bytes 0 00",
-            "ok; ok; ok; refused 4 Device; refused 1 Device; refused 5 Recover 4 Device; refused 1 Device; ",
-        ),
-    ];
-    for (script, answers) in rows {
-        assert!(rt; gives(rt.alloc(), script, answers, "")?);
-    }
+    let rows = "
+# The sync of a new segment's gate fails: what a crash leaves there decides whether there is a trace.
+store 1; fuse 9; create file L; crash low 00; resume file L => ok; ok; refused 3 Device; ok; refused 2 Blank
+store 1; fuse 9; create file L; crash low 01; resume file L => ok; ok; refused 3 Device; ok; resumed 0
+store 1; fuse 9; create file L; crash low 37; resume file L => ok; ok; refused 3 Device; ok; refused 2 Blank
+# The sync of a batch fails: its gate stays closed, whatever is there.
+store 1; fuse 11; create file L; put E; flush; crash high 01; files; list => ok; ok; ok; entry 0; refused 1 Device; ok; file 0 length 98 gate 01; end_of_trace
+# A broken port is held until it is given up.
+store 1; failonce 11; create file L; put E; flush; put E; flush; seal; abandon; resume file L => ok; ok; ok; entry 0; refused 1 Device; refused 2 Broken; refused 2 Broken; refused 2 Broken; ok; resumed 0
+store 1; failonce 12; create file L; put E; flush; put E; flush; seal; abandon; resume file L => ok; ok; ok; entry 0; refused 1 Device; refused 2 Broken; refused 2 Broken; refused 2 Broken; ok; resumed 0
+store 1; failonce 13; create file L; put E; flush; put E; flush; seal; abandon; resume file L => ok; ok; ok; entry 0; refused 1 Device; refused 2 Broken; refused 2 Broken; refused 2 Broken; ok; resumed 1
+# No call of the device passes any more.
+create file L; abandon; fuse 0; list; files; resume file L; bytes 0 00 => ok; ok; ok; refused 4 Device; refused 1 Device; refused 5 Recover 4 Device; refused 1 Device
+";
+    assert_eq!(rt; first_wrong(rt.alloc(), rows)?, None);
     Ok(())
 }
 
-/// The device fails once, at one of the calls of the drop: 10 to 13 are those of the commit, 14 to 17 those of the seal.
 #[test]
 fn a_port_that_is_closed_seals_its_trace(rt: HostRuntime) -> Result<(), Fail> {
-    let alloc = rt.alloc();
-    assert!(rt;
-        gives(
-            alloc,
-            "store 1; create file L; put E; close; files; list; resume file L",
-            "ok; ok; entry 0; closed; file 0 length 102 gate 01; 0 R; end_of_trace; refused 1 Sealed; ",
-            ""
-        )?
-    );
-    for k in 10..18 {
-        let script = format!(in alloc;
-            "store 1; failonce {k}; create file L; put E; close; list; resume file L"
-        )?;
-        let end = match k {
-            10..=12 => "end_of_trace; resumed 0; ",
-            13..=16 => "0 R; end_of_trace; resumed 1; ",
-            _ => "0 R; end_of_trace; refused 1 Sealed; ",
-        };
-        let answers = format!(in alloc; "ok; ok; ok; entry 0; closed; {end}")?;
-        assert!(rt;
-            gives(alloc, script.as_str(), answers.as_str(), "")?,
-            "at {k}"
-        );
-    }
+    let rows = "
+store 1; create file L; put E; close; files; list; resume file L => ok; ok; entry 0; closed; file 0 length 102 gate 01; 0 R; end_of_trace; refused 1 Sealed
+# Calls 10 to 13 are those of the commit, 14 to 17 those of the seal.
+store 1; failonce 10; create file L; put E; close; list; resume file L => ok; ok; ok; entry 0; closed; end_of_trace; resumed 0
+store 1; failonce 11; create file L; put E; close; list; resume file L => ok; ok; ok; entry 0; closed; end_of_trace; resumed 0
+store 1; failonce 12; create file L; put E; close; list; resume file L => ok; ok; ok; entry 0; closed; end_of_trace; resumed 0
+store 1; failonce 13; create file L; put E; close; list; resume file L => ok; ok; ok; entry 0; closed; 0 R; end_of_trace; resumed 1
+store 1; failonce 14; create file L; put E; close; list; resume file L => ok; ok; ok; entry 0; closed; 0 R; end_of_trace; resumed 1
+store 1; failonce 15; create file L; put E; close; list; resume file L => ok; ok; ok; entry 0; closed; 0 R; end_of_trace; resumed 1
+store 1; failonce 16; create file L; put E; close; list; resume file L => ok; ok; ok; entry 0; closed; 0 R; end_of_trace; resumed 1
+store 1; failonce 17; create file L; put E; close; list; resume file L => ok; ok; ok; entry 0; closed; 0 R; end_of_trace; refused 1 Sealed
+";
+    assert_eq!(rt; first_wrong(rt.alloc(), rows)?, None);
     Ok(())
 }
 
 #[test]
-fn stores_are_listed_from_their_bytes(rt: HostRuntime) -> Result<(), Fail> {
-    let rows = [
-        // A closed file isn't read, and a store of one is blank.
-        ("store 1; bytes 0 01; create file L", "ok; ok; ok; "),
-        // Damage is told with its file and place.
-        (
-            "bytes 0 014442543100000000000000000000000000000000000000000000000000000000000000010000ffff; list",
-            "ok; refused 1 Damaged file 0 at 36; ",
-        ),
-        (
-            "bytes 0 0144425431000000000000000000000000000000000000000000000000000000000000000100000005010000000000; list",
-            "ok; refused 1 Damaged file 0 at 36; ",
-        ),
-        (
-            "bytes 0 014442543100000000000000000000000000000000000000000000000000000000000000010000003800000000338368047705747261636558770d6e6f6e6f6465406e6f686f737400000050000000000000000077077265636569766577026f6b; list",
-            "ok; refused 1 Damaged file 0 at 36; ",
-        ),
-        // Nothing behind a closed gate is read, whatever its byte is.
-        (
-            "bytes 0 014442543100000000000000000000000000000000000000000000000000000000000000020000003800000000338368047705747261636558770d6e6f6e6f6465406e6f686f737400000050000000000000000077077265636569766577026f6b00; list",
-            "ok; end_of_trace; ",
-        ),
-        (
-            "bytes 0 014442543100000000000000000000000000000000000000000000000000000000000000010000003800000000338368047705747261636558770d6e6f6e6f6465406e6f686f737400000050000000000000000077077265636569766577026f6b00; list",
-            "ok; 0 R; end_of_trace; ",
-        ),
-        // Two specifications are told, and generations with a gap.
-        (
-            "store 2; bytes 0 01444254310000000000000000000000000000000000000000000000000000000000000000; bytes 1 01444254310100020000006400000000000000010000000000000000000000000000000000; list",
-            "ok; ok; ok; refused 2 Mixed; ",
-        ),
-        (
-            "store 3; bytes 0 01444254310100020000006400000000000000060000000000000000000000000000000000; bytes 1 01444254310100020000006400000000000000040000000000000000000000000000000000; list",
-            "ok; ok; ok; refused 3 Sequence; ",
-        ),
-        // A wrap whose newest segment exceeds the size keeps one run less of those that are stored.
-        (
-            "store 3; bytes 0 014442543101000200000064000000000000000000000000000000000000000000000000010000007000000000338368047705747261636558770d6e6f6e6f6465406e6f686f737400000050000000000000000077077265636569766577026f6b00000000338368047705747261636558770d6e6f6e6f6465406e6f686f737400000050000000000000000077077265636569766577026f6b00; bytes 1 014442543101000200000064000000000000000100000000000000020000000000000000010000007000000000338368047705747261636558770d6e6f6e6f6465406e6f686f737400000050000000000000000077077265636569766577026f6b00000000338368047705747261636558770d6e6f6e6f6465406e6f686f737400000050000000000000000077077265636569766577026f6b00; list",
-            "ok; ok; ok; before entries 2 dropped 0; 2 R; 3 R; end_of_trace; ",
-        ),
-        (
-            "store 3; bytes 0 014442543101000200000064000000000000000000000000000000000000000000000000010000007000000000338368047705747261636558770d6e6f6e6f6465406e6f686f737400000050000000000000000077077265636569766577026f6b00000000338368047705747261636558770d6e6f6e6f6465406e6f686f737400000050000000000000000077077265636569766577026f6b00; bytes 1 014442543101000200000064000000000000000100000000000000020000000000000000010000007000000000338368047705747261636558770d6e6f6e6f6465406e6f686f737400000050000000000000000077077265636569766577026f6b00000000338368047705747261636558770d6e6f6e6f6465406e6f686f737400000050000000000000000077077265636569766577026f6b00; bytes 2 01444254310100020000006400000000000000020000000000000004000000000000000000; list",
-            "ok; ok; ok; ok; before entries 2 dropped 0; 2 R; 3 R; end_of_trace; ",
-        ),
-    ];
-    for (script, answers) in rows {
-        assert!(rt; gives(rt.alloc(), script, answers, "")?);
-    }
+fn a_file_port_answers_ticks_without_a_cut(rt: HostRuntime) -> Result<(), Fail> {
+    let rows = "
+create file L; tick 5000; put E; tick 10; tick 18446744073709551615; flush; seal; tick 0; abandon; tick 0; files; list => ok; open; entry 0; open; open; covered 1; sealed; refused 3 Sealed; ok; out of order; file 0 length 102 gate 01; 0 R; end_of_trace
+store 1; failonce 11; create file L; tick 0; put E; flush; tick 1 => ok; ok; ok; open; entry 0; refused 1 Device; refused 2 Broken
+";
+    assert_eq!(rt; first_wrong(rt.alloc(), rows)?, None);
+    Ok(())
+}
+
+/// `VV` is the last byte of the magic, for either version.
+#[test]
+fn stores_of_both_versions_are_listed_from_their_bytes(rt: HostRuntime) -> Result<(), Fail> {
+    let rows = "
+# A closed file isn't read, and a store of one is blank.
+store 1; bytes 0 01; create file L => ok; ok; ok
+bytes 0 01_444254VV_00_0000_00000000_0000000000000000_0000000000000000_0000000000000000_00; list => ok; end_of_trace
+bytes 0 01_444254VV_00_0000_00000000_0000000000000000_0000000000000000_0000000000000000_01_00000038_<e>_00; list => ok; 0 R; end_of_trace
+# Nothing behind a closed gate is read, whatever its byte is.
+bytes 0 01_444254VV_00_0000_00000000_0000000000000000_0000000000000000_0000000000000000_02_00000038_<e>_00; list => ok; end_of_trace
+# Damage is told with its file and place.
+bytes 0 01_444254VV_00_0000_00000000_0000000000000000_0000000000000000_0000000000000000_01_0000ffff; list => ok; refused 1 Damaged file 0 at 36
+bytes 0 01_444254VV_00_0000_00000000_0000000000000000_0000000000000000_0000000000000000_01_00000005_0100000000_00; list => ok; refused 1 Damaged file 0 at 36
+bytes 0 01_444254VV_00_0000_00000000_0000000000000000_0000000000000000_0000000000000000_01_00000038_<e>; list => ok; refused 1 Damaged file 0 at 36
+bytes 0 01_444254VV_03_0001_0000000a_0000000000000000_0000000000000000_0000000000000000_00; list => ok; refused 1 Damaged file 0 at 0
+# Two specifications are told, and generations with a gap.
+store 2; bytes 0 01_444254VV_00_0000_00000000_0000000000000000_0000000000000000_0000000000000000_00; bytes 1 01_444254VV_01_0002_00000064_0000000000000001_0000000000000000_0000000000000000_00; list => ok; ok; ok; refused 2 Mixed
+store 3; bytes 0 01_444254VV_01_0002_00000064_0000000000000006_0000000000000000_0000000000000000_00; bytes 1 01_444254VV_01_0002_00000064_0000000000000004_0000000000000000_0000000000000000_00; list => ok; ok; ok; refused 3 Sequence
+# The greatest count before a segment.
+store 2; bytes 1 01_444254VV_01_0001_00000064_0000000000000001_ffffffffffffffff_0000000000000000_00; list => ok; ok; before entries 18446744073709551615 dropped 0; end_of_trace
+# A wrap whose newest segment exceeds the size keeps one run less of those that are stored, as does one whose
+# next segment is there, with the oldest or without it.
+store 3; bytes 0 01_444254VV_01_0002_00000064_0000000000000000_0000000000000000_0000000000000000_01_00000070_<e><e>_00; bytes 1 01_444254VV_01_0002_00000064_0000000000000001_0000000000000002_0000000000000000_01_00000070_<e><e>_00; list => ok; ok; ok; before entries 2 dropped 0; 2 R; 3 R; end_of_trace
+store 3; bytes 0 01_444254VV_01_0002_00000064_0000000000000000_0000000000000000_0000000000000000_01_00000070_<e><e>_00; bytes 1 01_444254VV_01_0002_00000064_0000000000000001_0000000000000002_0000000000000000_01_00000070_<e><e>_00; bytes 2 01_444254VV_01_0002_00000064_0000000000000002_0000000000000004_0000000000000000_00; list => ok; ok; ok; ok; before entries 2 dropped 0; 2 R; 3 R; end_of_trace
+store 3; bytes 0 00; bytes 1 01_444254VV_01_0002_00000064_0000000000000001_0000000000000002_0000000000000000_01_00000070_<e><e>_00; bytes 2 01_444254VV_01_0002_00000064_0000000000000002_0000000000000004_0000000000000000_00; list => ok; ok; ok; ok; before entries 2 dropped 0; 2 R; 3 R; end_of_trace
+";
+    let first = rows.replace(rt.alloc(), "VV", "31")?;
+    assert_eq!(rt; first_wrong(rt.alloc(), first.as_str())?, None);
+    let second = rows.replace(rt.alloc(), "VV", "32")?;
+    assert_eq!(rt; first_wrong(rt.alloc(), second.as_str())?, None);
+    Ok(())
+}
+
+#[test]
+fn a_store_changes_from_the_first_version_to_the_second_only(rt: HostRuntime) -> Result<(), Fail> {
+    let rows = "
+store 3; bytes 0 00; bytes 1 01_44425431_01_0002_00000064_0000000000000001_0000000000000002_0000000000000000_01_00000070_<e><e>_00; bytes 2 01_44425432_01_0002_00000064_0000000000000002_0000000000000004_0000000000000000_00; list => ok; ok; ok; ok; before entries 2 dropped 0; 2 R; 3 R; end_of_trace
+store 3; bytes 0 00; bytes 1 01_44425432_01_0002_00000064_0000000000000001_0000000000000002_0000000000000000_01_00000070_<e><e>_00; bytes 2 01_44425431_01_0002_00000064_0000000000000002_0000000000000004_0000000000000000_00; list => ok; ok; ok; ok; refused 3 Sequence
+";
+    assert_eq!(rt; first_wrong(rt.alloc(), rows)?, None);
+    Ok(())
+}
+
+#[test]
+fn stores_of_a_wrap_by_time_are_listed_from_their_bytes(rt: HostRuntime) -> Result<(), Fail> {
+    let rows = "
+# Only the second version has it, for at least a millisecond and 1 to 1,000 files.
+bytes 0 01_44425431_02_0001_0000000a_0000000000000000_0000000000000000_0000000000000000_00; list => ok; refused 1 Damaged file 0 at 0
+bytes 0 01_44425432_02_0001_00000000_0000000000000000_0000000000000000_0000000000000000_00; list => ok; refused 1 Damaged file 0 at 0
+bytes 0 01_44425432_02_0000_0000000a_0000000000000000_0000000000000000_0000000000000000_00; list => ok; refused 1 Damaged file 0 at 0
+bytes 0 01_44425432_02_03e9_0000000a_0000000000000000_0000000000000000_0000000000000000_00; list => ok; refused 1 Damaged file 0 at 0
+bytes 0 01_44425432_02_03e8_00000001_0000000000000000_0000000000000000_0000000000000000_01_00000038_<e>_00; list => ok; 0 R; end_of_trace
+# No size ends a run, and none is added.
+store 3; bytes 0 01_44425432_02_0002_0000000a_0000000000000000_0000000000000000_0000000000000000_01_00000038_<e>_00; bytes 1 01_44425432_02_0002_0000000a_0000000000000001_0000000000000001_0000000000000000_01_00000038_<e>_00; list => ok; ok; ok; 0 R; 1 R; end_of_trace
+# One file more is there only while a cut is half done: then the newest is empty.
+store 2; bytes 0 01_44425432_02_0001_0000000a_0000000000000000_0000000000000000_0000000000000000_01_00000038_<e>_00; bytes 1 01_44425432_02_0001_0000000a_0000000000000001_0000000000000001_0000000000000000_00; list => ok; ok; ok; before entries 1 dropped 0; end_of_trace
+store 2; bytes 0 01_44425432_02_0001_0000000a_0000000000000000_0000000000000000_0000000000000000_01_00000038_<e>_00; bytes 1 01_44425432_02_0001_0000000a_0000000000000001_0000000000000001_0000000000000000_01_00000038_<e>_00; list => ok; ok; ok; refused 3 Sequence
+# The time is part of what a store is made for.
+store 3; bytes 0 01_44425432_02_0002_0000000a_0000000000000000_0000000000000000_0000000000000000_00; bytes 1 01_44425432_02_0002_0000000b_0000000000000001_0000000000000000_0000000000000000_00; list => ok; ok; ok; refused 2 Mixed
+";
+    assert_eq!(rt; first_wrong(rt.alloc(), rows)?, None);
     Ok(())
 }
 
 #[test]
 fn terms_are_listed(rt: HostRuntime) -> Result<(), Fail> {
-    let rows = [
-        ("8377026f6b", "0 other ok"),
-        ("8377024f4b", "0 other 'OK'"),
-        ("8377016100", "0 opaque 5"),
-    ];
-    for (hex, line) in rows {
-        let script = format!(in rt.alloc(); "create file L; put {hex}; flush; abandon; list")?;
-        let answers = format!(in rt.alloc(); "ok; entry 0; covered 1; ok; {line}; end_of_trace; ")?;
-        assert!(rt; gives(rt.alloc(), script.as_str(), answers.as_str(), "")?);
-    }
+    let rows = "
+create file L; put 8377026f6b; flush; abandon; list => ok; entry 0; covered 1; ok; 0 other ok; end_of_trace
+create file L; put 8377024f4b; flush; abandon; list => ok; entry 0; covered 1; ok; 0 other 'OK'; end_of_trace
+create file L; put 8377016100; flush; abandon; list => ok; entry 0; covered 1; ok; 0 opaque 5; end_of_trace
+";
+    assert_eq!(rt; first_wrong(rt.alloc(), rows)?, None);
     Ok(())
-}
-
-/// Whether the stream of these hexadecimal digits gives these lines, and ends with this fault.
-fn streams(alloc: Global, hex: &str, lines: &str, fault: &str) -> Result<bool, Fail> {
-    let hex = hex.replace(
-        alloc,
-        "E",
-        format!(in alloc; "0000000033{MESSAGE}")?.as_str(),
-    )?;
-    let Some(bytes) = bytes(alloc, hex.as_str())? else {
-        return Err("no digits".into());
-    };
-    let mut written: Vec<u8> = Vec::new(alloc);
-    let told = match run_stream(alloc, &mut bytes.as_slice(), &mut written) {
-        Ok(()) => String::new(alloc),
-        Err(fault) => format!(in alloc; "{fault}, {}", fault.status())?,
-    };
-    let listed = String::from_utf8_lossy(alloc, &written)?.replace(alloc, LISTED, " R")?;
-    let listed = listed.replace(alloc, "\n", "; ")?;
-    Ok(listed.as_str() == lines && told.as_str() == fault)
 }
 
 #[test]
 fn streams_are_listed_up_to_their_first_fault(rt: HostRuntime) -> Result<(), Fail> {
-    let rows = [
-        ("-", "end_of_trace; ", ""),
-        ("E0100000003E", "0 R; 1 drop 3; 2 R; end_of_trace; ", ""),
-        ("E0100000000", "0 R; ", "refused 5 ZeroDrop at 56, 1"),
-        ("000000003383", "", "refused 3 Truncated at 0, 1"),
-        ("02", "", "refused 4 BadOp at 0, 1"),
-        ("000000fffc", "", "refused 6 TooLong at 0, 1"),
-        // A term outside the subset is told by its size.
-        (
-            "000000000c836e08000000000000000080",
-            "0 opaque 12; end_of_trace; ",
-            "",
-        ),
-    ];
-    for (hex, lines, fault) in rows {
-        assert!(rt; streams(rt.alloc(), hex, lines, fault)?);
-    }
+    let rows = "
+stream - => end_of_trace
+stream E0100000003E => 0 R; 1 drop 3; 2 R; end_of_trace
+stream E0100000000 => 0 R => refused 5 ZeroDrop at 56, 1
+stream 000000003383 => => refused 3 Truncated at 0, 1
+stream 02 => => refused 4 BadOp at 0, 1
+stream 000000fffc => => refused 6 TooLong at 0, 1
+# A term outside the subset is told by its size.
+stream 000000000c836e08000000000000000080 => 0 opaque 12; end_of_trace
+";
+    assert_eq!(rt; first_wrong(rt.alloc(), rows)?, None);
     Ok(())
 }
 
 #[test]
 fn bad_commands_are_told_by_their_line(rt: HostRuntime) -> Result<(), Fail> {
-    let rows = [
-        ("create file 99; put 0", "ok; ", "line 2: bad command, 2"),
-        (
-            "files; ; #; files 0",
-            "file 0 length 0 gate --; ",
-            "line 4: bad command, 2",
-        ),
-        ("store 1002", "", "line 1: bad command, 2"),
-        ("bytes 1 00", "", "line 1: bad command, 2"),
-        ("store 01", "", "line 1: bad command, 2"),
-        ("store  1", "", "line 1: bad command, 2"),
-        (
-            "create file 18446744073709551616",
-            "",
-            "line 1: bad command, 2",
-        ),
-        ("put 0g", "", "line 1: bad command, 2"),
-        ("lose 0", "", "line 1: bad command, 2"),
-        ("lose 4294967296", "", "line 1: bad command, 2"),
-        ("crash low 1", "", "line 1: bad command, 2"),
-        ("crash", "", "line 1: bad command, 2"),
-        (
-            "create file 99; bytes 1 00",
-            "ok; ",
-            "line 2: bad command, 2",
-        ),
-        ("desk", "", "line 1: bad command, 2"),
-    ];
-    for (script, answers, fault) in rows {
-        assert!(rt; gives(rt.alloc(), script, answers, fault)?);
-    }
+    let rows = "
+create file 99; put 0 => ok => line 2: bad command, 2
+files; ; #; files 0 => file 0 length 0 gate -- => line 4: bad command, 2
+store 1002 => => line 1: bad command, 2
+bytes 1 00 => => line 1: bad command, 2
+store 01 => => line 1: bad command, 2
+store  1 => => line 1: bad command, 2
+create file 18446744073709551616 => => line 1: bad command, 2
+put 0g => => line 1: bad command, 2
+lose 0 => => line 1: bad command, 2
+lose 4294967296 => => line 1: bad command, 2
+crash low 1 => => line 1: bad command, 2
+crash => => line 1: bad command, 2
+create file 99; bytes 1 00 => ok => line 2: bad command, 2
+desk => => line 1: bad command, 2
+tick => => line 1: bad command, 2
+tick 01 => => line 1: bad command, 2
+create file 99; tick 18446744073709551615; tick 18446744073709551616 => ok; open => line 3: bad command, 2
+";
+    assert_eq!(rt; first_wrong(rt.alloc(), rows)?, None);
     Ok(())
 }
 
@@ -362,7 +291,7 @@ fn what_does_not_fit_the_room_is_committed_first(rt: HostRuntime) -> Result<(), 
     let script = format!(in alloc;
         "create file 1099511627776\nput {zeros}\nput {zeros}\ncrash kept\nfiles\nlist\n"
     )?;
-    let found = run(alloc, script.as_str())?;
+    let found = found(alloc, script.as_str())?;
     assert_eq!(rt;
         found.0.as_str(),
         "ok\nentry 0\nentry 1\nok\nfile 0 length 40047 gate 01\n0 opaque 40000\nend_of_trace\n"

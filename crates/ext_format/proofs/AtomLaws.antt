@@ -11,9 +11,9 @@ use Rattle.ext_format.specs.declared.fault.DecodeFault.TheVariants.{BadText, Ato
 use Rattle.ext_format.specs.declared.tag.Tag.{Tag}
 use Rattle.ext_format.specs.declared.tag.Tag.TheVariants.{SmallIntegerExt, IntegerExt, SmallBigExt, SmallAtomUtf8Ext, AtomUtf8Ext, SmallAtomExt, AtomExt, NewPidExt, PidExt, SmallTupleExt, LargeTupleExt, NilExt, StringExt, ListExt, BinaryExt}
 use Rattle.ext_format.specs.Tags.{byte_of}
-use Rattle.ext_format.specs.Spelling.{run, IsText, AtomForm, small_atom_utf8, atom_utf8, small_atom, old_atom, pid_fields, FitsPid}
-use Rattle.ext_format.specs.Reading.{◌>>=◌, number_at, run_at, tag_at, short_text, utf8_text, latin1_text, text_in, text_at, node_at, pid_at}
-use Rattle.ext_format.proofs.FieldLaws.{IsBytes, IsBytes-rest, bind_ok, guard_ok, ok_is, Takes, Takes-then, IsWide, wide8, wide16, wide32, number_takes, number_again, run_takes, run_again, tag_takes, tag_again}
+use Rattle.ext_format.specs.Spelling.{sized, IsText, AtomForm, small_atom_utf8, atom_utf8, small_atom, old_atom, pid_fields, FitsPid}
+use Rattle.ext_format.specs.Reading.{◌>>=◌, number_at, sized_at, tag_at, short_text, utf8_text, latin1_text, text_in, text_at, node_at, pid_at}
+use Rattle.ext_format.proofs.FieldLaws.{IsBytes, IsBytes-rest, bind_ok, guard_ok, ok_is, Takes, Takes-then, IsWide, wide8, wide16, wide32, number_takes, number_again, sized_takes, sized_again, tag_takes, tag_again}
 
 -- ---- texts
 
@@ -48,20 +48,20 @@ utf8_again text is = rw (is_utf8-from_IsUtf8 text is.utf8) (is_short-again text 
 
 record Raw (text_of : List ℕ → Result (List ℕ) DecodeFault) (w : Width) (limit : ℕ) (bytes text rest : List ℕ) : Type 0 where
   raw : List ℕ
-  taken : Takes bytes (run w raw) rest
+  taken : Takes bytes (sized w raw) rest
   len : length raw < limit
   fits : IsBytes raw
   is : text_of raw ≡ Ok text
 
 raw_text : (text_of : List ℕ → Result (List ℕ) DecodeFault) (w : Width) (limit : ℕ) (wide : IsWide w limit) (bytes text rest : List ℕ) → IsBytes bytes → text_in text_of w bytes ≡ Ok (text, rest) → Raw text_of w limit bytes text rest
 raw_text text_of w limit wide bytes text rest fits e =
-    let r = bind_ok (run_at w bytes) (λ run. text_of run.0 >>= λ text. Ok (text, run.1)) (text, rest) e in
+    let r = bind_ok (sized_at w bytes) (λ sized. text_of sized.0 >>= λ text. Ok (text, sized.1)) (text, rest) e in
     let t = bind_ok (text_of r.0.0) (λ text. Ok (text, r.0.1)) (text, rest) r.2 in
     let both : (t.0, r.0.1) ≡ (text, rest) = ok_is (t.0, r.0.1) (text, rest) t.2 in
-    let taken = run_takes w limit wide bytes r.0.0 r.0.1 fits r.1 in
+    let taken = sized_takes w limit wide bytes r.0.0 r.0.1 fits r.1 in
     record {
       raw = r.0.0;
-      taken = subst (λ (p : List ℕ × List ℕ). Takes bytes (run w r.0.0) p.1) both taken.0;
+      taken = subst (λ (p : List ℕ × List ℕ). Takes bytes (sized w r.0.0) p.1) both taken.0;
       len = taken.1;
       fits = taken.2;
       is = t.1 ∙ ap (λ (p : List ℕ × List ℕ). Ok p.0) both;
@@ -77,19 +77,19 @@ unfolding text_at
 text_takes SmallAtomUtf8Ext bytes text rest fits e =
     let r = raw_text utf8_text w8 (2 ^ 8) wide8 bytes text rest fits e in
     let is = utf8_is r.raw text r.is in
-    record { fields = run w8 r.raw; is_form = subst (λ (t : List ℕ). AtomForm t (119 ∷ run w8 r.raw)) is.1 (small_atom_utf8 r.raw is.0 r.len); taken = r.taken }
+    record { fields = sized w8 r.raw; is_form = subst (λ (t : List ℕ). AtomForm t (119 ∷ sized w8 r.raw)) is.1 (small_atom_utf8 r.raw is.0 r.len); taken = r.taken }
 text_takes AtomUtf8Ext bytes text rest fits e =
     let r = raw_text utf8_text w16 (2 ^ 16) wide16 bytes text rest fits e in
     let is = utf8_is r.raw text r.is in
-    record { fields = run w16 r.raw; is_form = subst (λ (t : List ℕ). AtomForm t (118 ∷ run w16 r.raw)) is.1 (atom_utf8 r.raw is.0 r.len); taken = r.taken }
+    record { fields = sized w16 r.raw; is_form = subst (λ (t : List ℕ). AtomForm t (118 ∷ sized w16 r.raw)) is.1 (atom_utf8 r.raw is.0 r.len); taken = r.taken }
 text_takes SmallAtomExt bytes text rest fits e =
     let r = raw_text latin1_text w8 (2 ^ 8) wide8 bytes text rest fits e in
     let is = latin1_is r.raw text r.fits r.is in
-    record { fields = run w8 r.raw; is_form = subst (λ (t : List ℕ). AtomForm t (115 ∷ run w8 r.raw)) is.1 (small_atom r.raw is.0 r.len); taken = r.taken }
+    record { fields = sized w8 r.raw; is_form = subst (λ (t : List ℕ). AtomForm t (115 ∷ sized w8 r.raw)) is.1 (small_atom r.raw is.0 r.len); taken = r.taken }
 text_takes AtomExt bytes text rest fits e =
     let r = raw_text latin1_text w16 (2 ^ 16) wide16 bytes text rest fits e in
     let is = latin1_is r.raw text r.fits r.is in
-    record { fields = run w16 r.raw; is_form = subst (λ (t : List ℕ). AtomForm t (100 ∷ run w16 r.raw)) is.1 (old_atom r.raw is.0 r.len); taken = r.taken }
+    record { fields = sized w16 r.raw; is_form = subst (λ (t : List ℕ). AtomForm t (100 ∷ sized w16 r.raw)) is.1 (old_atom r.raw is.0 r.len); taken = r.taken }
 text_takes SmallIntegerExt bytes text rest fits e = absurd cc
 text_takes IntegerExt bytes text rest fits e = absurd cc
 text_takes SmallBigExt bytes text rest fits e = absurd cc
@@ -111,10 +111,10 @@ pub record TextAgain (text form : List ℕ) : Type 0 where
 
 pub text_again : (text form : List ℕ) → AtomForm text form → TextAgain text form
 unfolding text_at
-text_again _ _ (small_atom_utf8 text is len) = record { tag = SmallAtomUtf8Ext; fields = run w8 text; parts = refl; again = λ rest. rw (run_again w8 (2 ^ 8) wide8 text rest len, utf8_again text is) refl }
-text_again _ _ (atom_utf8 text is len) = record { tag = AtomUtf8Ext; fields = run w16 text; parts = refl; again = λ rest. rw (run_again w16 (2 ^ 16) wide16 text rest len, utf8_again text is) refl }
-text_again _ _ (small_atom codes is len) = record { tag = SmallAtomExt; fields = run w8 codes; parts = refl; again = λ rest. rw (run_again w8 (2 ^ 8) wide8 codes rest len, is_short-again (encode_utf8_all codes) is) refl }
-text_again _ _ (old_atom codes is len) = record { tag = AtomExt; fields = run w16 codes; parts = refl; again = λ rest. rw (run_again w16 (2 ^ 16) wide16 codes rest len, is_short-again (encode_utf8_all codes) is) refl }
+text_again _ _ (small_atom_utf8 text is len) = record { tag = SmallAtomUtf8Ext; fields = sized w8 text; parts = refl; again = λ rest. rw (sized_again w8 (2 ^ 8) wide8 text rest len, utf8_again text is) refl }
+text_again _ _ (atom_utf8 text is len) = record { tag = AtomUtf8Ext; fields = sized w16 text; parts = refl; again = λ rest. rw (sized_again w16 (2 ^ 16) wide16 text rest len, utf8_again text is) refl }
+text_again _ _ (small_atom codes is len) = record { tag = SmallAtomExt; fields = sized w8 codes; parts = refl; again = λ rest. rw (sized_again w8 (2 ^ 8) wide8 codes rest len, is_short-again (encode_utf8_all codes) is) refl }
+text_again _ _ (old_atom codes is len) = record { tag = AtomExt; fields = sized w16 codes; parts = refl; again = λ rest. rw (sized_again w16 (2 ^ 16) wide16 codes rest len, is_short-again (encode_utf8_all codes) is) refl }
 
 -- ---- nodes and pids
 

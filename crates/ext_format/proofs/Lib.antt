@@ -3,7 +3,6 @@ pub mod AtomLaws
 pub mod Digits
 pub mod FieldLaws
 pub mod Fitting
-pub mod Found
 pub mod Loop
 pub mod Seen
 pub mod Sizes

@@ -13,9 +13,9 @@ use Rattle.ext_format.specs.declared.tag.Tag.{Tag}
 use Rattle.ext_format.specs.declared.tag.Tag.TheVariants.{SmallIntegerExt, IntegerExt, SmallBigExt, SmallAtomUtf8Ext, AtomUtf8Ext, SmallAtomExt, AtomExt, NewPidExt, PidExt, SmallTupleExt, LargeTupleExt, NilExt, StringExt, ListExt, BinaryExt}
 use Rattle.ext_format.specs.Tags.{byte_of}
 use Rattle.ext_format.specs.Members.{integers, member_count}
-use Rattle.ext_format.specs.Spelling.{run, little_endian, with_sign, pid_fields, Form, Forms, small_integer, integer, small_big, an_atom, new_pid, old_pid, small_tuple, large_tuple, nil, string, a_list, a_binary, no_forms, form, Spells}
-use Rattle.ext_format.specs.Reading.{◌>>=◌, Read, number_at, bytes_at, run_at, tag_at, signed, big_at, text_at, pid_at, members_at, tuple_at, tail_at, list_at, fields_at, tagged_at, inner_of, term_at, whole_at}
-use Rattle.ext_format.proofs.FieldLaws.{IsBytes, bind_ok, ok_is, Takes, Takes-then, IsWide, wide8, wide16, wide32, one_byte, number_takes, bytes_take, run_takes, tag_takes}
+use Rattle.ext_format.specs.Spelling.{sized, little_endian, with_sign, pid_fields, Form, Forms, small_integer, integer, small_big, an_atom, new_pid, old_pid, small_tuple, large_tuple, nil, string, a_list, a_binary, no_forms, form, Spells}
+use Rattle.ext_format.specs.Reading.{◌>>=◌, Read, number_at, bytes_at, sized_at, tag_at, signed, big_at, text_at, pid_at, members_at, tuple_at, tail_at, list_at, fields_at, tagged_at, inner_of, term_at, whole_at}
+use Rattle.ext_format.proofs.FieldLaws.{IsBytes, bind_ok, ok_is, Takes, Takes-then, IsWide, wide8, wide16, wide32, one_byte, number_takes, bytes_take, sized_takes, tag_takes}
 use Rattle.ext_format.proofs.AtomLaws.{text_takes, pid_takes}
 
 -- ---- integers
@@ -248,20 +248,20 @@ fields_take NilExt room inner bytes x sound fits e =
     let whole : FieldsTaken NilExt room bytes (list no_members) bytes = record { fields = []; is_form = nil; taken = record { parts = refl; rest_fits = fits }; shallow = omega arith } in
     subst (λ (y : Data × List ℕ). FieldsTaken NilExt room bytes y.0 y.1) (ok_is (list no_members, bytes) x i.2) whole
 fields_take StringExt room inner bytes x sound fits e =
-    let i = inner_is room inner (λ read. run_at w16 bytes >>= λ run. Ok (list (integers run.0), run.1)) x sound e in
-    let r = bind_ok (run_at w16 bytes) (λ run. Ok (list (integers run.0), run.1)) x i.2 in
-    let t = run_takes w16 (2 ^ 16) wide16 bytes r.0.0 r.0.1 fits r.1 in
+    let i = inner_is room inner (λ read. sized_at w16 bytes >>= λ sized. Ok (list (integers sized.0), sized.1)) x sound e in
+    let r = bind_ok (sized_at w16 bytes) (λ sized. Ok (list (integers sized.0), sized.1)) x i.2 in
+    let t = sized_takes w16 (2 ^ 16) wide16 bytes r.0.0 r.0.1 fits r.1 in
     let some = i.1.some in
     let flat = depth-integers r.0.0 in
-    let whole : FieldsTaken StringExt room bytes (list (integers r.0.0)) r.0.1 = record { fields = run w16 r.0.0; is_form = string r.0.0 t.1; taken = t.0; shallow = omega arith } in
+    let whole : FieldsTaken StringExt room bytes (list (integers r.0.0)) r.0.1 = record { fields = sized w16 r.0.0; is_form = string r.0.0 t.1; taken = t.0; shallow = omega arith } in
     subst (λ (y : Data × List ℕ). FieldsTaken StringExt room bytes y.0 y.1) (ok_is (list (integers r.0.0), r.0.1) x r.2) whole
 fields_take ListExt room inner bytes x sound fits e =
     let i = inner_is room inner (λ read. list_at read bytes) x sound e in
     subst (λ (k : ℕ). FieldsTaken ListExt k bytes x.0 x.1) i.1.some (list_takes (room - 1) i.0 i.1.sound bytes x fits i.2)
 fields_take BinaryExt room inner bytes x sound fits e =
-    let r = bind_ok (run_at w32 bytes) (λ run. Ok (binary run.0, run.1)) x e in
-    let t = run_takes w32 (2 ^ 32) wide32 bytes r.0.0 r.0.1 fits r.1 in
-    let whole : FieldsTaken BinaryExt room bytes (binary r.0.0) r.0.1 = record { fields = run w32 r.0.0; is_form = a_binary r.0.0 t.1; taken = t.0; shallow = omega arith } in
+    let r = bind_ok (sized_at w32 bytes) (λ sized. Ok (binary sized.0, sized.1)) x e in
+    let t = sized_takes w32 (2 ^ 32) wide32 bytes r.0.0 r.0.1 fits r.1 in
+    let whole : FieldsTaken BinaryExt room bytes (binary r.0.0) r.0.1 = record { fields = sized w32 r.0.0; is_form = a_binary r.0.0 t.1; taken = t.0; shallow = omega arith } in
     subst (λ (y : Data × List ℕ). FieldsTaken BinaryExt room bytes y.0 y.1) (ok_is (binary r.0.0, r.0.1) x r.2) whole
 
 tagged_sound : (room : ℕ) (inner : Result (List ℕ → Read Data) DecodeFault) → SoundInner room inner → Sound room (tagged_at inner)

@@ -1,24 +1,20 @@
 -- The canonical spelling is a spelling.
-use Rattle.std.proofs.Common.{◌≡◌, ℕ, suc, ◌^◌, ◌<◌, ◌≤◌, Bool, true, false, cond, ltb, ℤ, pos, negsuc, List, [], ◌∷◌, ◌++◌, length, take, refl, sym, ap, subst, ◌∙◌, lit<, arith, Result, Ok, Err, inl, inr}
-use Rattle.std.specs.Prelude.{IfOk, OnOk, ◌↔◌}
-use Rattle.std.specs.Global.{Vec}
+use Rattle.std.proofs.Common.{◌≡◌, ℕ, suc, ◌^◌, ◌<◌, ◌≤◌, Bool, true, false, cond, ltb, ℤ, pos, negsuc, List, [], ◌∷◌, ◌++◌, length, take, refl, sym, ap, subst, ◌∙◌, lit<, arith}
 use Rattle.std.specs.Int.{w8, w16, w32, w64, to_be_bytes, to_le_bytes, cast_unsigned}
 use Rattle.std.specs.Int.RustNames.{FitsSigned}
-use Rattle.std.proofs.lemmas.Bool.{ltb-true, and_parts, cases_lt}
+use Rattle.std.proofs.lemmas.Bool.{ltb-true, and_parts}
 use Rattle.std.proofs.lemmas.List.{length-append}
 use Rattle.trace_terms.specs.Data.{Data, int, atom, pid, tuple, list, binary, Members, no_members, member, depth}
-use Rattle.ext_format.specs.declared.fault.EncodeFault.{EncodeFault}
-use Rattle.ext_format.specs.declared.fault.EncodeFault.TheVariants.{TooDeep, TooLong}
 use Rattle.ext_format.specs.Members.{integers, member_count}
 use Rattle.ext_format.specs.Fits.{Fits, AllFit}
-use Rattle.ext_format.specs.Spelling.{run, little_endian, with_sign, IsText, AtomForm, small_atom_utf8, atom_utf8, Form, Forms, small_integer, integer, small_big, an_atom, new_pid, small_tuple, large_tuple, nil, string, a_list, a_binary, no_forms, form, Spells}
+use Rattle.ext_format.specs.Spelling.{sized, little_endian, with_sign, IsText, AtomForm, small_atom_utf8, atom_utf8, Form, Forms, small_integer, integer, small_big, an_atom, new_pid, small_tuple, large_tuple, nil, string, a_list, a_binary, no_forms, form, Spells}
 use Rattle.ext_format.specs.Canonical.{digit_count, big_form, integer_form, atom_form, arity_form, is_byte, byte_value, are_bytes, byte_values, is_string, list_form, canonical_form, canonical_forms, canonical}
 use Rattle.ext_format.proofs.FieldLaws.{one_byte}
 use Rattle.ext_format.proofs.Sizes.{atom_form-longer, member_count_le, length-byte_values, list_form-empty, list_form-string, list_form-other, is_string-short, is_string-bytes, length-tuple, length-pid, length-list_form-other}
 
 -- ---- texts
 
-short_or_long : (text : List ℕ) (b : Bool) → ltb (length text) (2 ^ 8) ≡ b → IsText text → length text < 2 ^ 16 → AtomForm text (cond b (119 ∷ length text ∷ text) (118 ∷ run w16 text))
+short_or_long : (text : List ℕ) (b : Bool) → ltb (length text) (2 ^ 8) ≡ b → IsText text → length text < 2 ^ 16 → AtomForm text (cond b (119 ∷ length text ∷ text) (118 ∷ sized w16 text))
 short_or_long text true e is lt = subst (λ (n : List ℕ). AtomForm text (119 ∷ (n ++ text))) (one_byte (length text) (ltb-true _ _ e)) (small_atom_utf8 text is (ltb-true _ _ e))
 short_or_long text false e is lt = atom_utf8 text is lt
 
@@ -119,8 +115,8 @@ string_is ts forms some is =
     let bytes = byte_values ts in
     let len = length-byte_values ts in
     let short = is_string-short ts is in
-    let made : Form (list (integers bytes)) (107 ∷ run w16 bytes) = string bytes (omega arith) in
-    let named : Form (list ts) (107 ∷ run w16 bytes) = subst (λ (ms : Members). Form (list ms) (107 ∷ run w16 bytes)) (bytes_are ts (is_string-bytes ts is)) made in
+    let made : Form (list (integers bytes)) (107 ∷ sized w16 bytes) = string bytes (omega arith) in
+    let named : Form (list ts) (107 ∷ sized w16 bytes) = subst (λ (ms : Members). Form (list ms) (107 ∷ sized w16 bytes)) (bytes_are ts (is_string-bytes ts is)) made in
     let counted : Form (list ts) (107 ∷ (to_be_bytes w16 (member_count ts) ++ bytes)) = subst (λ (n : ℕ). Form (list ts) (107 ∷ (to_be_bytes w16 n ++ bytes))) len named in
     subst (λ (x : List ℕ). Form (list ts) x) (sym (list_form-string ts forms some is)) counted
 
@@ -154,16 +150,3 @@ mutual
 
 pub canonical_spells : (t : Data) → Fits t → depth t ≤ 64 → length (canonical t) ≤ 65531 → Spells t (canonical t)
 canonical_spells t fits shallow short = record { form = canonical_form t; is_form = form_is t fits (omega arith); behind_version = refl; not_too_deep = shallow }
-
--- what is canonical, and neither too deep nor too long, is spelled so
-pub is_spelled : (t : Data) (r : Result (Vec ℕ) EncodeFault) → IfOk r (λ bytes. bytes.items ≡ canonical t) → OnOk r (Fits t)
-    → (r ≡ Err TooDeep) ↔ (64 < depth t) → (r ≡ Err TooLong) ↔ ((depth t ≤ 64) × (65531 < length (canonical t))) → IfOk r (λ bytes. Spells t bytes.items)
-is_spelled t (Err e) is fits deep long = tt
-is_spelled t (Ok bytes) is fits deep long =
-    elim (cases_lt 64 (depth t)) [
-      | inl deeper ↦ absurd (cc (deep.1 deeper))
-      | inr shallow ↦ elim (cases_lt 65531 (length (canonical t))) [
-        | inl longer ↦ absurd (cc (long.1 (shallow, longer)))
-        | inr short ↦ subst (λ (b : List ℕ). Spells t b) (sym is) (canonical_spells t fits shallow short)
-      ]
-    ]

@@ -13,7 +13,7 @@ use Rattle.ext_format.specs.declared.tag.Tag.TheVariants.{SmallIntegerExt, Integ
 use Rattle.ext_format.specs.Tags.{tag_of}
 use Rattle.ext_format.specs.Members.{integers}
 use Rattle.ext_format.specs.Spelling.{little_endian, Spells}
-use Rattle.ext_format.specs.Reading.{◌>>=◌, Read, number_at, bytes_at, run_at, tag_at, signed, big_at, utf8_text, latin1_text, text_in, text_at, node_at, pid_at, members_at, tuple_at, tail_at, list_at, fields_at, tagged_at, inner_of, term_at, whole_at}
+use Rattle.ext_format.specs.Reading.{◌>>=◌, Read, number_at, bytes_at, sized_at, tag_at, signed, big_at, utf8_text, latin1_text, text_in, text_at, node_at, pid_at, members_at, tuple_at, tail_at, list_at, fields_at, tagged_at, inner_of, term_at, whole_at}
 use Rattle.ext_format.proofs.FieldLaws.{ok_is}
 use Rattle.ext_format.proofs.Again.{whole_again}
 
@@ -71,9 +71,9 @@ number_steady w bytes more = front (byte_len w) bytes more (from_be_bytes w) (lt
 bytes_steady : (n : ℕ) → Steady (bytes_at n)
 bytes_steady n bytes more = front n bytes more (λ x. x) (ltb (length bytes) n) refl
 
-run_steady : (w : Width) → Steady (run_at w)
-unfolding run_at
-run_steady w bytes more = then (number_at w bytes) (number_at w (bytes ++ more)) (λ n. bytes_at n.0 n.1) more (number_steady w bytes more) (λ n rest. bytes_steady n rest more)
+sized_steady : (w : Width) → Steady (sized_at w)
+unfolding sized_at
+sized_steady w bytes more = then (number_at w bytes) (number_at w (bytes ++ more)) (λ n. bytes_at n.0 n.1) more (number_steady w bytes more) (λ n rest. bytes_steady n rest more)
 
 tag_steady : Steady tag_at
 unfolding tag_at
@@ -93,8 +93,8 @@ big_steady bytes more =
 
 text_in_steady : (text_of : List ℕ → Result (List ℕ) DecodeFault) (w : Width) → Steady (text_in text_of w)
 text_in_steady text_of w bytes more =
-    then (run_at w bytes) (run_at w (bytes ++ more)) (λ run. text_of run.0 >>= λ text. Ok (text, run.1)) more (run_steady w bytes more)
-    (λ run rest. pure (text_of run) (λ text. Ok (text, rest)) (λ text. Ok (text, rest ++ more)) more (λ text. refl))
+    then (sized_at w bytes) (sized_at w (bytes ++ more)) (λ sized. text_of sized.0 >>= λ text. Ok (text, sized.1)) more (sized_steady w bytes more)
+    (λ sized rest. pure (text_of sized) (λ text. Ok (text, rest)) (λ text. Ok (text, rest ++ more)) more (λ text. refl))
 
 text_steady : (tag : Tag) → Steady (text_at tag)
 unfolding text_at
@@ -171,10 +171,10 @@ fields_steady inner steady SmallTupleExt = inside inner (tuple_at w8) steady (λ
 fields_steady inner steady LargeTupleExt = inside inner (tuple_at w32) steady (λ read s. tuple_steady read s w32)
 fields_steady inner steady NilExt = inside inner (λ read bytes. Ok (list no_members, bytes)) steady (λ read s bytes more. refl)
 fields_steady inner steady StringExt =
-    inside inner (λ read bytes. run_at w16 bytes >>= λ run. Ok (list (integers run.0), run.1)) steady
-    (λ read s bytes more. then (run_at w16 bytes) (run_at w16 (bytes ++ more)) (λ run. Ok (list (integers run.0), run.1)) more (run_steady w16 bytes more) (λ run rest. refl))
+    inside inner (λ read bytes. sized_at w16 bytes >>= λ sized. Ok (list (integers sized.0), sized.1)) steady
+    (λ read s bytes more. then (sized_at w16 bytes) (sized_at w16 (bytes ++ more)) (λ sized. Ok (list (integers sized.0), sized.1)) more (sized_steady w16 bytes more) (λ sized rest. refl))
 fields_steady inner steady ListExt = inside inner list_at steady (λ read s. list_steady read s)
-fields_steady inner steady BinaryExt = λ bytes more. then (run_at w32 bytes) (run_at w32 (bytes ++ more)) (λ run. Ok (binary run.0, run.1)) more (run_steady w32 bytes more) (λ run rest. refl)
+fields_steady inner steady BinaryExt = λ bytes more. then (sized_at w32 bytes) (sized_at w32 (bytes ++ more)) (λ sized. Ok (binary sized.0, sized.1)) more (sized_steady w32 bytes more) (λ sized rest. refl)
 fields_steady inner steady SmallAtomUtf8Ext = λ bytes more. then (text_at SmallAtomUtf8Ext bytes) (text_at SmallAtomUtf8Ext (bytes ++ more)) (λ text. Ok (atom text.0, text.1)) more (text_steady SmallAtomUtf8Ext bytes more) (λ text rest. refl)
 fields_steady inner steady AtomUtf8Ext = λ bytes more. then (text_at AtomUtf8Ext bytes) (text_at AtomUtf8Ext (bytes ++ more)) (λ text. Ok (atom text.0, text.1)) more (text_steady AtomUtf8Ext bytes more) (λ text rest. refl)
 fields_steady inner steady SmallAtomExt = λ bytes more. then (text_at SmallAtomExt bytes) (text_at SmallAtomExt (bytes ++ more)) (λ text. Ok (atom text.0, text.1)) more (text_steady SmallAtomExt bytes more) (λ text rest. refl)

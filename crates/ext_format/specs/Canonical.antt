@@ -3,7 +3,7 @@ use Rattle.std.specs.Prelude.{ℕ, suc, ◌^◌, ℤ, pos, negsuc, List, [], ◌
 use Rattle.std.specs.Int.{w16, w32, w64, to_be_bytes, to_le_bytes, cast_unsigned}
 use Rattle.trace_terms.specs.Data.{Data, int, atom, pid, tuple, list, binary, Members, no_members, member}
 use Rattle.ext_format.specs.Members.{member_count}
-use Rattle.ext_format.specs.Spelling.{run, pid_fields}
+use Rattle.ext_format.specs.Spelling.{sized, pid_fields}
 
 -- the fewest bytes of a number from 2 ^ 31 on
 abbrev pub digit_count : ℕ → ℕ
@@ -20,7 +20,7 @@ integer_form (negsuc n) = if nat_lt n (2 ^ 31) then 98 ∷ to_be_bytes w32 (cast
 
 -- an atom: SMALL_ATOM_UTF8_EXT up to 255 bytes, else ATOM_UTF8_EXT
 unfoldable pub atom_form : List ℕ → List ℕ
-atom_form text = if nat_lt (length text) (2 ^ 8) then 119 ∷ length text ∷ text else 118 ∷ run w16 text
+atom_form text = if nat_lt (length text) (2 ^ 8) then 119 ∷ length text ∷ text else 118 ∷ sized w16 text
 
 -- a tuple's form without its elements: SMALL_TUPLE_EXT up to 255, else LARGE_TUPLE_EXT
 unfoldable pub arity_form : ℕ → List ℕ
@@ -65,7 +65,7 @@ abbrev mutual
   canonical_form (pid p) = 88 ∷ pid_fields w32 p (atom_form p.node)
   canonical_form (tuple ts) = arity_form (member_count ts) ++ canonical_forms ts
   canonical_form (list ts) = list_form ts (canonical_forms ts)
-  canonical_form (binary bytes) = 109 ∷ run w32 bytes
+  canonical_form (binary bytes) = 109 ∷ sized w32 bytes
 
   -- those of members, one behind the other
   pub canonical_forms : Members → List ℕ

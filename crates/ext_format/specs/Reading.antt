@@ -46,8 +46,8 @@ abbrev pub bytes_at : ℕ → List ℕ → Read (List ℕ)
 bytes_at n bytes = if nat_lt (length bytes) n then Err Truncated else Ok (take n bytes, drop n bytes)
 
 -- a length, and that many bytes
-unfoldable pub run_at : Width → List ℕ → Read (List ℕ)
-run_at w bytes = do
+unfoldable pub sized_at : Width → List ℕ → Read (List ℕ)
+sized_at w bytes = do
   n ← number_at w bytes
   bytes_at n.0 n.1
 
@@ -91,9 +91,9 @@ latin1_text bytes = short_text (encode_utf8_all bytes)
 -- a length of the width w, and the bytes of a text
 abbrev pub text_in : (List ℕ → Result (List ℕ) DecodeFault) → Width → List ℕ → Read (List ℕ)
 text_in text_of w bytes = do
-  run ← run_at w bytes
-  text ← text_of run.0
-  Ok (text, run.1)
+  sized ← sized_at w bytes
+  text ← text_of sized.0
+  Ok (text, sized.1)
 
 -- the fields behind an atom's tag
 unfoldable pub text_at : Tag → List ℕ → Read (List ℕ)
@@ -164,14 +164,14 @@ integer_at bytes = do
 -- the fields behind STRING_EXT
 abbrev pub string_at : List ℕ → Read Data
 string_at bytes = do
-  run ← run_at w16 bytes
-  Ok (list (integers run.0), run.1)
+  sized ← sized_at w16 bytes
+  Ok (list (integers sized.0), sized.1)
 
 -- the fields behind BINARY_EXT
 abbrev pub binary_at : List ℕ → Read Data
 binary_at bytes = do
-  run ← run_at w32 bytes
-  Ok (binary run.0, run.1)
+  sized ← sized_at w32 bytes
+  Ok (binary sized.0, sized.1)
 
 -- The fields behind a tag. The members of a tuple or a list are read by inner, or may not be there at all.
 unfoldable pub fields_at : Result (List ℕ → Read Data) DecodeFault → Tag → List ℕ → Read Data

@@ -8,8 +8,8 @@ use Rattle.trace_terms.specs.Data.{Data, int, atom, pid, tuple, list, binary, Me
 use Rattle.ext_format.specs.Members.{integers, member_count}
 
 -- a length, and that many bytes
-abbrev pub run : Width → List ℕ → List ℕ
-run w bytes = to_be_bytes w (length bytes) ++ bytes
+abbrev pub sized : Width → List ℕ → List ℕ
+sized w bytes = to_be_bytes w (length bytes) ++ bytes
 
 -- the text of an atom is UTF-8 of at most 255 characters
 pub record IsText (text : List ℕ) : Type 0 where
@@ -29,13 +29,13 @@ with_sign (suc sign) size = neg_ℤ (pos size)
 -- the forms of an atom's text
 pub data AtomForm : List ℕ → List ℕ → Type 0 where
   -- SMALL_ATOM_UTF8_EXT
-  small_atom_utf8 : (text : List ℕ) → IsText text → length text < 2 ^ 8 → AtomForm text (119 ∷ run w8 text)
+  small_atom_utf8 : (text : List ℕ) → IsText text → length text < 2 ^ 8 → AtomForm text (119 ∷ sized w8 text)
   -- ATOM_UTF8_EXT
-  atom_utf8 : (text : List ℕ) → IsText text → length text < 2 ^ 16 → AtomForm text (118 ∷ run w16 text)
+  atom_utf8 : (text : List ℕ) → IsText text → length text < 2 ^ 16 → AtomForm text (118 ∷ sized w16 text)
   -- SMALL_ATOM_EXT: the codes of the characters, in Latin-1
-  small_atom : (codes : List ℕ) → IsText (encode_utf8_all codes) → length codes < 2 ^ 8 → AtomForm (encode_utf8_all codes) (115 ∷ run w8 codes)
+  small_atom : (codes : List ℕ) → IsText (encode_utf8_all codes) → length codes < 2 ^ 8 → AtomForm (encode_utf8_all codes) (115 ∷ sized w8 codes)
   -- ATOM_EXT: the same, with a length of two bytes
-  old_atom : (codes : List ℕ) → IsText (encode_utf8_all codes) → length codes < 2 ^ 16 → AtomForm (encode_utf8_all codes) (100 ∷ run w16 codes)
+  old_atom : (codes : List ℕ) → IsText (encode_utf8_all codes) → length codes < 2 ^ 16 → AtomForm (encode_utf8_all codes) (100 ∷ sized w16 codes)
 
 -- a node and the numbers, the last of the width w
 abbrev pub pid_fields : Width → Pid → List ℕ → List ℕ
@@ -70,11 +70,11 @@ mutual
     -- NIL_EXT
     nil : Form (list no_members) (106 ∷ [])
     -- STRING_EXT: a byte for each integer
-    string : (bytes : List ℕ) → length bytes < 2 ^ 16 → Form (list (integers bytes)) (107 ∷ run w16 bytes)
+    string : (bytes : List ℕ) → length bytes < 2 ^ 16 → Form (list (integers bytes)) (107 ∷ sized w16 bytes)
     -- LIST_EXT: the tail is NIL_EXT
     a_list : (ts : Members) (forms : List ℕ) → Forms ts forms → member_count ts < 2 ^ 32 → Form (list ts) (108 ∷ (to_be_bytes w32 (member_count ts) ++ forms ++ 106 ∷ []))
     -- BINARY_EXT
-    a_binary : (bytes : List ℕ) → length bytes < 2 ^ 32 → Form (binary bytes) (109 ∷ run w32 bytes)
+    a_binary : (bytes : List ℕ) → length bytes < 2 ^ 32 → Form (binary bytes) (109 ∷ sized w32 bytes)
 
   -- the forms of members, one behind the other
   pub data Forms : Members → List ℕ → Type 0 where

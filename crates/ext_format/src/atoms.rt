@@ -6,7 +6,7 @@ ghost use Rattle.std.specs.Str.{encode_utf8_all};
 ghost use Rattle.ext_format.specs.Reading.{Gives, short_text, utf8_text, latin1_text, text_at, node_at, pid_at};
 
 use crate::fault::DecodeFault;
-use crate::fields::{run_8, run_16, tag_behind, u8_at, u32_at};
+use crate::fields::{sized_8, sized_16, tag_behind, u8_at, u32_at};
 use crate::tag::Tag;
 use std::alloc::{AllocError, Global};
 use std::str;
@@ -60,19 +60,19 @@ pub fn atom_of(alloc: Global, tag: Tag, bytes: &[u8]) -> Result<(Atom, &[u8]), D
 {
     match tag {
         Tag::SmallAtomUtf8Ext => {
-            let (text, rest) = run_8(bytes)?;
+            let (text, rest) = sized_8(bytes)?;
             Ok((utf8_atom(alloc, text)?, rest))
         }
         Tag::AtomUtf8Ext => {
-            let (text, rest) = run_16(bytes)?;
+            let (text, rest) = sized_16(bytes)?;
             Ok((utf8_atom(alloc, text)?, rest))
         }
         Tag::SmallAtomExt => {
-            let (text, rest) = run_8(bytes)?;
+            let (text, rest) = sized_8(bytes)?;
             Ok((latin1_atom(alloc, text)?, rest))
         }
         Tag::AtomExt => {
-            let (text, rest) = run_16(bytes)?;
+            let (text, rest) = sized_16(bytes)?;
             Ok((latin1_atom(alloc, text)?, rest))
         }
         _ => Err(DecodeFault::BadTag),

@@ -2,7 +2,7 @@
 
 ghost use Rattle.std.specs.Prelude.{◌≡◌};
 ghost use Rattle.std.specs.Int.{w8, w16, w32};
-ghost use Rattle.ext_format.specs.Reading.{Gives, number_at, bytes_at, run_at, tag_at};
+ghost use Rattle.ext_format.specs.Reading.{Gives, number_at, bytes_at, sized_at, tag_at};
 
 use crate::fault::DecodeFault;
 use crate::tag::{Tag, tag_named};
@@ -49,27 +49,27 @@ pub fn bytes_of(count: usize, bytes: &[u8]) -> Result<(&[u8], &[u8]), DecodeFaul
 }
 
 /// A length of one byte, and that many bytes.
-#[tactic(auto, unfolding(crate::specs::Reading::run_at))]
-pub fn run_8(bytes: &[u8]) -> Result<(&[u8], &[u8]), DecodeFault>
-    ensures { Gives (λ x. (x.0.now, x.1.now)) result (run_at w8 bytes.now) }
+#[tactic(auto, unfolding(crate::specs::Reading::sized_at))]
+pub fn sized_8(bytes: &[u8]) -> Result<(&[u8], &[u8]), DecodeFault>
+    ensures { Gives (λ x. (x.0.now, x.1.now)) result (sized_at w8 bytes.now) }
 {
     let (count, rest) = u8_at(bytes)?;
     bytes_of(usize::from(count), rest)
 }
 
 /// A length of two bytes, and that many bytes.
-#[tactic(auto, unfolding(crate::specs::Reading::run_at))]
-pub fn run_16(bytes: &[u8]) -> Result<(&[u8], &[u8]), DecodeFault>
-    ensures { Gives (λ x. (x.0.now, x.1.now)) result (run_at w16 bytes.now) }
+#[tactic(auto, unfolding(crate::specs::Reading::sized_at))]
+pub fn sized_16(bytes: &[u8]) -> Result<(&[u8], &[u8]), DecodeFault>
+    ensures { Gives (λ x. (x.0.now, x.1.now)) result (sized_at w16 bytes.now) }
 {
     let (count, rest) = u16_at(bytes)?;
     bytes_of(usize::from(count), rest)
 }
 
 /// A length of four bytes, and that many bytes.
-#[tactic(auto, unfolding(crate::specs::Reading::run_at))]
-pub fn run_32(bytes: &[u8]) -> Result<(&[u8], &[u8]), DecodeFault>
-    ensures { Gives (λ x. (x.0.now, x.1.now)) result (run_at w32 bytes.now) }
+#[tactic(auto, unfolding(crate::specs::Reading::sized_at))]
+pub fn sized_32(bytes: &[u8]) -> Result<(&[u8], &[u8]), DecodeFault>
+    ensures { Gives (λ x. (x.0.now, x.1.now)) result (sized_at w32 bytes.now) }
 {
     let (count, rest) = u32_at(bytes)?;
     bytes_of(count as usize, rest)

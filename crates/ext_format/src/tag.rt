@@ -3,39 +3,69 @@
 ghost use Rattle.std.specs.Prelude.{◌≡◌};
 ghost use Rattle.ext_format.specs.Tags.{tag_of};
 
+pub const SMALL_INTEGER_EXT: u8 = 97;
+
+pub const INTEGER_EXT: u8 = 98;
+
+pub const SMALL_BIG_EXT: u8 = 110;
+
+pub const SMALL_ATOM_UTF8_EXT: u8 = 119;
+
+pub const ATOM_UTF8_EXT: u8 = 118;
+
+pub const SMALL_ATOM_EXT: u8 = 115;
+
+pub const ATOM_EXT: u8 = 100;
+
+pub const NEW_PID_EXT: u8 = 88;
+
+pub const PID_EXT: u8 = 103;
+
+pub const SMALL_TUPLE_EXT: u8 = 104;
+
+pub const LARGE_TUPLE_EXT: u8 = 105;
+
+pub const NIL_EXT: u8 = 106;
+
+pub const STRING_EXT: u8 = 107;
+
+pub const LIST_EXT: u8 = 108;
+
+pub const BINARY_EXT: u8 = 109;
+
 /// What stands behind a tag byte.
 #[derive(Clone, Copy, Debug, PartialEq, Eq)]
 pub enum Tag {
-    /// 97, section SMALL_INTEGER_EXT: a byte, an unsigned number.
+    /// SMALL_INTEGER_EXT: a byte, an unsigned number.
     SmallIntegerExt,
-    /// 98, section INTEGER_EXT: four bytes, a signed number.
+    /// INTEGER_EXT: four bytes, a signed number.
     IntegerExt,
-    /// 110, section SMALL_BIG_EXT: a number of bytes, a sign, and that many bytes of the number's
+    /// SMALL_BIG_EXT: a number of bytes, a sign, and that many bytes of the number's
     /// size, the least significant first. Every sign but 0 is negative.
     SmallBigExt,
-    /// 119, section SMALL_ATOM_UTF8_EXT: a length of one byte and that many bytes of UTF-8.
+    /// SMALL_ATOM_UTF8_EXT: a length of one byte and that many bytes of UTF-8.
     SmallAtomUtf8Ext,
-    /// 118, section ATOM_UTF8_EXT: a length of two bytes and that many bytes of UTF-8.
+    /// ATOM_UTF8_EXT: a length of two bytes and that many bytes of UTF-8.
     AtomUtf8Ext,
-    /// 115, section SMALL_ATOM_EXT (deprecated): a length of one byte and that many of Latin-1.
+    /// SMALL_ATOM_EXT (deprecated): a length of one byte and that many of Latin-1.
     SmallAtomExt,
-    /// 100, section ATOM_EXT (deprecated): a length of two bytes and that many of Latin-1.
+    /// ATOM_EXT (deprecated): a length of two bytes and that many of Latin-1.
     AtomExt,
-    /// 88, section NEW_PID_EXT: an atom, and three numbers of four bytes.
+    /// NEW_PID_EXT: an atom, and three numbers of four bytes.
     NewPidExt,
-    /// 103, section PID_EXT: an atom, two numbers of four bytes and one of a byte.
+    /// PID_EXT: an atom, two numbers of four bytes and one of a byte.
     PidExt,
-    /// 104, section SMALL_TUPLE_EXT: an arity of one byte and that many terms.
+    /// SMALL_TUPLE_EXT: an arity of one byte and that many terms.
     SmallTupleExt,
-    /// 105, section LARGE_TUPLE_EXT: an arity of four bytes and that many terms.
+    /// LARGE_TUPLE_EXT: an arity of four bytes and that many terms.
     LargeTupleExt,
-    /// 106, section NIL_EXT: nothing; the empty list.
+    /// NIL_EXT: nothing; the empty list.
     NilExt,
-    /// 107, section STRING_EXT: a length of two bytes and that many bytes, each an integer.
+    /// STRING_EXT: a length of two bytes and that many bytes, each an integer.
     StringExt,
-    /// 108, section LIST_EXT: a length of four bytes, that many terms, and the tail.
+    /// LIST_EXT: a length of four bytes, that many terms, and the tail.
     ListExt,
-    /// 109, section BINARY_EXT: a length of four bytes and that many bytes.
+    /// BINARY_EXT: a length of four bytes and that many bytes.
     BinaryExt,
 }
 
@@ -45,21 +75,21 @@ pub fn tag_named(byte: u8) -> Option<Tag>
     ensures { result ≡ tag_of byte }
 {
     match byte {
-        97 => Some(Tag::SmallIntegerExt),
-        98 => Some(Tag::IntegerExt),
-        110 => Some(Tag::SmallBigExt),
-        119 => Some(Tag::SmallAtomUtf8Ext),
-        118 => Some(Tag::AtomUtf8Ext),
-        115 => Some(Tag::SmallAtomExt),
-        100 => Some(Tag::AtomExt),
-        88 => Some(Tag::NewPidExt),
-        103 => Some(Tag::PidExt),
-        104 => Some(Tag::SmallTupleExt),
-        105 => Some(Tag::LargeTupleExt),
-        106 => Some(Tag::NilExt),
-        107 => Some(Tag::StringExt),
-        108 => Some(Tag::ListExt),
-        109 => Some(Tag::BinaryExt),
+        SMALL_INTEGER_EXT => Some(Tag::SmallIntegerExt),
+        INTEGER_EXT => Some(Tag::IntegerExt),
+        SMALL_BIG_EXT => Some(Tag::SmallBigExt),
+        SMALL_ATOM_UTF8_EXT => Some(Tag::SmallAtomUtf8Ext),
+        ATOM_UTF8_EXT => Some(Tag::AtomUtf8Ext),
+        SMALL_ATOM_EXT => Some(Tag::SmallAtomExt),
+        ATOM_EXT => Some(Tag::AtomExt),
+        NEW_PID_EXT => Some(Tag::NewPidExt),
+        PID_EXT => Some(Tag::PidExt),
+        SMALL_TUPLE_EXT => Some(Tag::SmallTupleExt),
+        LARGE_TUPLE_EXT => Some(Tag::LargeTupleExt),
+        NIL_EXT => Some(Tag::NilExt),
+        STRING_EXT => Some(Tag::StringExt),
+        LIST_EXT => Some(Tag::ListExt),
+        BINARY_EXT => Some(Tag::BinaryExt),
         _ => None,
     }
 }

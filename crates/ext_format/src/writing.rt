@@ -5,13 +5,17 @@ ghost use Rattle.trace_terms.specs.Data.{depth};
 ghost use Rattle.trace_terms.specs.View.{view, members_view};
 ghost use Rattle.ext_format.specs.Canonical.{integer_form, big_form, atom_form, arity_form, are_bytes, byte_values, list_form, canonical_form, canonical_forms, canonical};
 ghost use Rattle.ext_format.specs.Fits.{Fits, AllFit, FitsPidFields};
-ghost use Rattle.ext_format.specs.Spelling.{run, pid_fields, Spells};
+ghost use Rattle.ext_format.specs.Spelling.{sized, pid_fields, Spells};
 ghost use Rattle.std.specs.Int.{w32, w64};
 ghost use Rattle.std.specs.Int.RustNames.{FitsSigned};
 
 use crate::fault::EncodeFault;
 use crate::limits::{MAX_DEPTH, MAX_SIZE, VERSION};
 use crate::size::{byte_in, digit_count, is_string, room_after};
+use crate::tag::{
+    ATOM_UTF8_EXT, BINARY_EXT, INTEGER_EXT, LARGE_TUPLE_EXT, LIST_EXT, NEW_PID_EXT, NIL_EXT,
+    SMALL_ATOM_UTF8_EXT, SMALL_BIG_EXT, SMALL_INTEGER_EXT, SMALL_TUPLE_EXT, STRING_EXT,
+};
 use std::alloc::{AllocError, Global};
 use trace_terms::{Pid, Term};
 
@@ -23,17 +27,6 @@ pub fn encode(alloc: Global, term: &Term) -> Result<Vec<u8>, EncodeFault>
     // So decoding gives the term back.
     ensures spelled { IfOk result (λ bytes. Spells (view term.now) bytes.items) }
 
-    ensures too_deep { (result ≡ Err EncodeFault.TooDeep) ↔ (64 < depth (view term.now)) }
-    ensures too_long { (result ≡ Err EncodeFault.TooLong)
-        ↔ ((depth (view term.now) ≤ 64) × (65531 < length (canonical (view term.now)))) }
-{
-    spelling_of(alloc, term)
-}
-
-/// The canonical spelling, where the term is neither too deep nor too long.
-fn spelling_of(alloc: Global, term: &Term) -> Result<Vec<u8>, EncodeFault>
-    ensures ok { IfOk result (λ bytes. bytes.items ≡ canonical (view term.now)) }
-    ensures fits { OnOk result (Fits (view term.now)) }
     ensures too_deep { (result ≡ Err EncodeFault.TooDeep) ↔ (64 < depth (view term.now)) }
     ensures too_long { (result ≡ Err EncodeFault.TooLong)
         ↔ ((depth (view term.now) ≤ 64) × (65531 < length (canonical (view term.now)))) }
@@ -56,7 +49,7 @@ fn put_big(out: &mut Vec<u8>, sign: u8, size: u64) -> Result<(), AllocError>
     ensures { OnOk result (out.new.items ≡ out.old.items ++ big_form sign size) }
 {
     let count = digit_count(size);
-    out.push(110)?;
+    out.push(SMALL_BIG_EXT)?;
     out.push(count as u8)?;
     out.push(sign)?;
     out.extend_from_slice(&size.to_le_bytes()[..count])
@@ -69,10 +62,10 @@ fn put_integer(out: &mut Vec<u8>, number: i64) -> Result<(), AllocError>
     ensures fits { FitsSigned w64 number }
 {
     if let Ok(byte) = u8::try_from(number) {
-        return Ok(out.extend_from_slice(&[97, byte])?);
+        return Ok(out.extend_from_slice(&[SMALL_INTEGER_EXT, byte])?);
     }
     if let Ok(number) = i32::try_from(number) {
-        out.push(98)?;
+        out.push(INTEGER_EXT)?;
         return Ok(out.extend_from_slice(&number.to_be_bytes())?);
     }
     put_big(out, u8::from(number < 0), number.unsigned_abs())
@@ -86,9 +79,9 @@ fn put_atom(out: &mut Vec<u8>, text: &str) -> Result<(), AllocError>
 {
     let len = text.len();
     if len < 256 {
-        out.extend_from_slice(&[119, len as u8])?;
+        out.extend_from_slice(&[SMALL_ATOM_UTF8_EXT, len as u8])?;
     } else {
-        out.push(118)?;
+        out.push(ATOM_UTF8_EXT)?;
         out.extend_from_slice(&(len as u16).to_be_bytes())?;
     }
     out.extend_from_slice(text.as_bytes())
@@ -100,7 +93,7 @@ fn put_pid(out: &mut Vec<u8>, pid: &Pid) -> Result<(), AllocError>
     ensures written { OnOk result (out.new.items ≡ out.old.items ++ 88 ∷ pid_fields w32 pid.now (atom_form pid.now.node)) }
     ensures fits { OnOk result (FitsPidFields pid.now) }
 {
-    out.push(88)?;
+    out.push(NEW_PID_EXT)?;
     put_atom(out, pid.node.text())?;
     out.extend_from_slice(&pid.id.to_be_bytes())?;
     out.extend_from_slice(&pid.serial.to_be_bytes())?;
@@ -114,18 +107,18 @@ fn put_arity(out: &mut Vec<u8>, arity: usize) -> Result<(), AllocError>
     ensures { OnOk result (out.new.items ≡ out.old.items ++ arity_form arity) }
 {
     if arity < 256 {
-        return out.extend_from_slice(&[104, arity as u8]);
+        return out.extend_from_slice(&[SMALL_TUPLE_EXT, arity as u8]);
     }
-    out.push(105)?;
+    out.push(LARGE_TUPLE_EXT)?;
     out.extend_from_slice(&(arity as u32).to_be_bytes())
 }
 
 /// A binary: BINARY_EXT.
 fn put_binary(out: &mut Vec<u8>, bytes: &[u8]) -> Result<(), AllocError>
     requires { length bytes.now < 2 ^ 32 }
-    ensures { OnOk result (out.new.items ≡ out.old.items ++ 109 ∷ run w32 bytes.now) }
+    ensures { OnOk result (out.new.items ≡ out.old.items ++ 109 ∷ sized w32 bytes.now) }
 {
-    out.push(109)?;
+    out.push(BINARY_EXT)?;
     out.extend_from_slice(&(bytes.len() as u32).to_be_bytes())?;
     out.extend_from_slice(bytes)
 }
@@ -136,9 +129,10 @@ fn put_bytes(out: &mut Vec<u8>, members: &Vec<Term>) -> Result<(), AllocError>
     ensures { OnOk result (out.new.items ≡ out.old.items ++ byte_values (members_view members.now.items)) }
 {
     for member in members {
-        if let Some(byte) = byte_in(member) {
-            out.push(byte)?;
-        }
+        let Some(byte) = byte_in(member) else {
+            unreachable!()
+        };
+        out.push(byte)?;
     }
     Ok(())
 }
@@ -172,17 +166,17 @@ fn put_list(out: &mut Vec<u8>, members: &Vec<Term>) -> Result<(), AllocError>
     ensures fits { OnOk result (AllFit (members_view members.now.items)) }
 {
     if members.is_empty() {
-        return Ok(out.push(106)?);
+        return Ok(out.push(NIL_EXT)?);
     }
     if is_string(members) {
-        out.push(107)?;
+        out.push(STRING_EXT)?;
         out.extend_from_slice(&(members.len() as u16).to_be_bytes())?;
         return put_bytes(out, members);
     }
-    out.push(108)?;
+    out.push(LIST_EXT)?;
     out.extend_from_slice(&(members.len() as u32).to_be_bytes())?;
     put_forms(out, members)?;
-    Ok(out.push(106)?)
+    Ok(out.push(NIL_EXT)?)
 }
 
 /// Terms one behind the other, each without the version.

@@ -12,12 +12,12 @@ use Rattle.trace_message.specs.declared.word.Word.{Word}
 use Rattle.trace_message.specs.declared.word.Word.TheVariants.{Trace, TraceTs, Call, ReturnFrom, ExceptionFrom, Send, SendToNonExistingProcess, Receive}
 use Rattle.trace_message.specs.Events as events
 use Rattle.trace_message.specs.Events.{EventData}
-use Rattle.trace_message.specs.Kinds.{IsRow, IsMessage, plain, stamped, call, call_with_arity, return_from, exception_from, send, send_lost, receive, seen_of}
+use Rattle.trace_message.specs.Kinds.{IsRow, IsMessage, plain, stamped, calls, calls_with_arity, returns, raises, sends, sends_lost, receives, seen_of}
 use Rattle.trace_message.specs.Messages.{called_with, row_of, told_by, is_asked, message_of}
 use Rattle.trace_message.specs.Shapes.{list_of, is_atom, is_int, is_list, is_function, is_reason, is_call, is_return, is_exception, is_one, is_two, only_if, kind_behind, row_kind, ends_with_stamp, front_of, stamped_row_kind, kind_under, parts_kind, kind_of}
 use Rattle.trace_message.specs.Texts.{text_trace, text_trace_ts, text_call, text_return_from, text_exception_from, text_send, text_send_to_non_existing_process, text_receive}
 use Rattle.trace_message.specs.Tuples.{tuple_of, pair_of, triple_of, function_of}
-use Rattle.trace_message.specs.Words.{text_of, word_of}
+use Rattle.trace_message.specs.Words.{text_of, word_named}
 use Rattle.trace_message.proofs.ShapeLemmas.{list_of-members_of, members_of-list_of, both, atom_is, int_is, ends_is, stamped_row_kind-snoc}
 
 -- ---- words
@@ -28,9 +28,9 @@ named_or text v w other true is e otherwise =
     (bytes_decides text (text_of v)).0 is ∙ ap text_of same
 named_or text v w other false is e otherwise = otherwise e
 
-pub word_of-is : (text : List ℕ) (w : Word) → word_of text ≡ Some w → text ≡ text_of w
-unfolding word_of
-word_of-is text w e =
+pub word_named-is : (text : List ℕ) (w : Word) → word_named text ≡ Some w → text ≡ text_of w
+unfolding word_named
+word_named-is text w e =
     named_or text Trace w _ _ refl e (λ e1.
     named_or text TraceTs w _ _ refl e1 (λ e2.
     named_or text Call w _ _ refl e2 (λ e3.
@@ -47,8 +47,8 @@ only true k seen e = (refl, cc)
 only false k seen e = absurd cc
 
 called_row : (m f : List ℕ) (c : Data) → (is_list c || is_int c) ≡ true → IsRow kinds.Call (atom text_call ∷ triple_of (atom m) (atom f) c ∷ [])
-called_row m f (list args) e = call m f args
-called_row m f (int n) e = call_with_arity m f n
+called_row m f (list args) e = calls m f args
+called_row m f (int n) e = calls_with_arity m f n
 called_row m f (atom text) e = absurd cc
 called_row m f (pid p) e = absurd cc
 called_row m f (tuple ts) e = absurd cc
@@ -100,7 +100,7 @@ reason_is (member a (member b (member c ts))) e = absurd cc
 return_row : (row : List Data) → is_return row ≡ true → IsRow kinds.Return (atom text_return_from ∷ row)
 return_row (tuple ts ∷ value ∷ []) e =
     let h = function_is ts e in
-    rw h.1.1.1 (return_from h.0 h.1.0 h.1.1.0 value)
+    rw h.1.1.1 (returns h.0 h.1.0 h.1.1.0 value)
 return_row [] e = absurd cc
 return_row (int n ∷ row) e = absurd cc
 return_row (atom text ∷ row) e = absurd cc
@@ -115,7 +115,7 @@ exception_row (tuple ts ∷ tuple us ∷ []) e =
     let k = both (is_function (list_of ts)) (is_reason (list_of us)) e in
     let h = function_is ts k.0 in
     let r = reason_is us k.1 in
-    rw (h.1.1.1, r.1.1) (exception_from h.0 h.1.0 h.1.1.0 r.0 r.1.0)
+    rw (h.1.1.1, r.1.1) (raises h.0 h.1.0 h.1.1.0 r.0 r.1.0)
 exception_row [] e = absurd cc
 exception_row (int n ∷ row) e = absurd cc
 exception_row (atom text ∷ row) e = absurd cc
@@ -131,19 +131,19 @@ exception_row (tuple ts ∷ binary bytes ∷ us) e = absurd cc
 exception_row (tuple ts ∷ tuple us ∷ v ∷ vs) e = absurd cc
 
 send_row : (row : List Data) → is_two row ≡ true → IsRow kinds.Send (atom text_send ∷ row)
-send_row (a ∷ b ∷ []) e = send a b
+send_row (a ∷ b ∷ []) e = sends a b
 send_row [] e = absurd cc
 send_row (a ∷ []) e = absurd cc
 send_row (a ∷ b ∷ c ∷ row) e = absurd cc
 
 send_lost_row : (row : List Data) → is_two row ≡ true → IsRow kinds.SendLost (atom text_send_to_non_existing_process ∷ row)
-send_lost_row (a ∷ b ∷ []) e = send_lost a b
+send_lost_row (a ∷ b ∷ []) e = sends_lost a b
 send_lost_row [] e = absurd cc
 send_lost_row (a ∷ []) e = absurd cc
 send_lost_row (a ∷ b ∷ c ∷ row) e = absurd cc
 
 receive_row : (row : List Data) → is_one row ≡ true → IsRow kinds.Receive (atom text_receive ∷ row)
-receive_row (a ∷ []) e = receive a
+receive_row (a ∷ []) e = receives a
 receive_row [] e = absurd cc
 receive_row (a ∷ b ∷ row) e = absurd cc
 
@@ -158,12 +158,12 @@ behind Send row seen e = let h = only (is_two row) kinds.Send seen e in rw (← 
 behind SendToNonExistingProcess row seen e = let h = only (is_two row) kinds.SendLost seen e in rw (← h.1) (send_lost_row row h.0)
 behind Receive row seen e = let h = only (is_one row) kinds.Receive seen e in rw (← h.1) (receive_row row h.0)
 
-behind_text : (text : List ℕ) (w : Option Word) (row : List Data) (seen : Seen) → word_of text ≡ w → kind_behind w row ≡ Some seen → IsRow seen (atom text ∷ row)
+behind_text : (text : List ℕ) (w : Option Word) (row : List Data) (seen : Seen) → word_named text ≡ w → kind_behind w row ≡ Some seen → IsRow seen (atom text ∷ row)
 behind_text text None row seen is e = absurd cc
-behind_text text (Some w) row seen is e = rw (word_of-is text w is) (behind w row seen e)
+behind_text text (Some w) row seen is e = rw (word_named-is text w is) (behind w row seen e)
 
 row_sound : (row : List Data) (seen : Seen) → row_kind row ≡ Some seen → IsRow seen row
-row_sound (atom text ∷ row) seen e = behind_text text (word_of text) row seen refl e
+row_sound (atom text ∷ row) seen e = behind_text text (word_named text) row seen refl e
 row_sound [] seen e = absurd cc
 row_sound (int n ∷ row) seen e = absurd cc
 row_sound (pid p ∷ row) seen e = absurd cc
@@ -179,9 +179,9 @@ stamped_if p row seen true is e =
     rw h.1.1.1 (stamped seen p (front_of row) h.0 h.1.0 h.1.1.0 (row_sound (front_of row) seen e))
 stamped_if p row seen false is e = absurd cc
 
-under : (head : List ℕ) (w : Option Word) (p : Pid) (row : List Data) (seen : Seen) → word_of head ≡ w → kind_under w row ≡ Some seen → IsMessage seen (tuple_of (atom head ∷ pid p ∷ row))
-under head (Some Trace) p row seen is e = rw (word_of-is head Trace is) (plain seen p row (row_sound row seen e))
-under head (Some TraceTs) p row seen is e = rw (word_of-is head TraceTs is) (stamped_if p row seen (ends_with_stamp row) refl e)
+under : (head : List ℕ) (w : Option Word) (p : Pid) (row : List Data) (seen : Seen) → word_named head ≡ w → kind_under w row ≡ Some seen → IsMessage seen (tuple_of (atom head ∷ pid p ∷ row))
+under head (Some Trace) p row seen is e = rw (word_named-is head Trace is) (plain seen p row (row_sound row seen e))
+under head (Some TraceTs) p row seen is e = rw (word_named-is head TraceTs is) (stamped_if p row seen (ends_with_stamp row) refl e)
 under head (Some Call) p row seen is e = absurd cc
 under head (Some ReturnFrom) p row seen is e = absurd cc
 under head (Some ExceptionFrom) p row seen is e = absurd cc
@@ -191,7 +191,7 @@ under head (Some Receive) p row seen is e = absurd cc
 under head None p row seen is e = absurd cc
 
 parts_sound : (ts : List Data) (seen : Seen) → parts_kind ts ≡ Some seen → IsMessage seen (tuple_of ts)
-parts_sound (atom head ∷ pid p ∷ row) seen e = under head (word_of head) p row seen refl e
+parts_sound (atom head ∷ pid p ∷ row) seen e = under head (word_named head) p row seen refl e
 parts_sound [] seen e = absurd cc
 parts_sound (int n ∷ ts) seen e = absurd cc
 parts_sound (pid p ∷ ts) seen e = absurd cc
@@ -216,21 +216,21 @@ sound (binary bytes) seen e = absurd cc
 -- ---- what is of a kind is found
 
 row_complete : (seen : Seen) (row : List Data) → IsRow seen row → row_kind row ≡ Some seen
-unfolding word_of
-row_complete _ _ (call m f args) = refl
-row_complete _ _ (call_with_arity m f n) = refl
-row_complete _ _ (return_from m f n value) = refl
-row_complete _ _ (exception_from m f n class value) = refl
-row_complete _ _ (send msg target) = refl
-row_complete _ _ (send_lost msg target) = refl
-row_complete _ _ (receive msg) = refl
+unfolding word_named
+row_complete _ _ (calls m f args) = refl
+row_complete _ _ (calls_with_arity m f n) = refl
+row_complete _ _ (returns m f n value) = refl
+row_complete _ _ (raises m f n class value) = refl
+row_complete _ _ (sends msg target) = refl
+row_complete _ _ (sends_lost msg target) = refl
+row_complete _ _ (receives msg) = refl
 
-plain_complete : (row : List Data) → kind_under (word_of text_trace) row ≡ row_kind row
-unfolding word_of
+plain_complete : (row : List Data) → kind_under (word_named text_trace) row ≡ row_kind row
+unfolding word_named
 plain_complete row = refl
 
-stamped_complete : (row : List Data) → kind_under (word_of text_trace_ts) row ≡ stamped_row_kind row
-unfolding word_of
+stamped_complete : (row : List Data) → kind_under (word_named text_trace_ts) row ≡ stamped_row_kind row
+unfolding word_named
 stamped_complete row = refl
 
 complete : (seen : Seen) (t : Data) → IsMessage seen t → kind_of t ≡ Some seen
@@ -243,12 +243,24 @@ complete _ _ (stamped seen p row mega sec micro h) =
 pub kind_is : (t : Data) (seen : Seen) → (kind_of t ≡ Some seen) ↔ IsMessage seen t
 kind_is t seen = (sound t seen, complete seen t)
 
+-- each term is of some kind, or of none
+pub some_kind : (t : Data) → (found : Option Seen) × ((seen : Seen) → (found ≡ Some seen) ↔ IsMessage seen t)
+some_kind t = (kind_of t, kind_is t)
+
 -- what is found of a tuple's members
 pub found_of_parts : (ts : List Data) (t : Data) (found : Option Seen) → found ≡ parts_kind ts → t ≡ tuple_of ts → found ≡ kind_of t
 found_of_parts ts t found is same = is ∙ ap parts_kind (sym (list_of-members_of ts)) ∙ ap kind_of (sym same)
 
 pub kind_found : (t : Data) (found : Option Seen) → found ≡ kind_of t → (seen : Seen) → (found ≡ Some seen) ↔ IsMessage seen t
 kind_found t found is seen = rw is (kind_is t seen)
+
+-- no kind fits exactly where none is found
+none_is : (t : Data) (found : Option Seen) → kind_of t ≡ found → (found ≡ None) ↔ ((seen : Seen) → IsMessage seen t → ⊥)
+none_is t None e = (λ _. λ seen h. let f = complete seen t h in cc, λ _. refl)
+none_is t (Some seen) e = (λ f. absurd cc, λ no. absurd (no seen (sound t seen e)))
+
+pub none_found : (t : Data) (found : Option Seen) → found ≡ kind_of t → (found ≡ None) ↔ ((seen : Seen) → IsMessage seen t → ⊥)
+none_found t found is = rw is (none_is t (kind_of t) refl)
 
 pub one_kind : (t : Data) (a b : Seen) → IsMessage a t → IsMessage b t → a ≡ b
 one_kind t a b h k =
@@ -259,16 +271,16 @@ one_kind t a b h k =
 -- ---- messages of events
 
 called : (flags : Flags) (m f : List ℕ) (args : List Data) (b : Bool) → flags.arity ≡ b → IsRow kinds.Call (atom text_call ∷ function_of m f (called_with flags args) ∷ [])
-called flags m f args true is = rw is (call_with_arity m f _)
-called flags m f args false is = rw is (call m f _)
+called flags m f args true is = rw is (calls_with_arity m f _)
+called flags m f args false is = rw is (calls m f _)
 
 row_is : (flags : Flags) (event : EventData) → IsRow (seen_of event) (row_of flags event)
 row_is flags (events.call m f args) = called flags m f args flags.arity refl
-row_is flags (events.return_from m f arity value) = return_from m f _ value
-row_is flags (events.exception_from m f arity class value) = exception_from m f _ class value
-row_is flags (events.send msg target) = send msg target
-row_is flags (events.send_lost msg target) = send_lost msg target
-row_is flags (events.receive msg) = receive msg
+row_is flags (events.return_from m f arity value) = returns m f _ value
+row_is flags (events.exception_from m f arity class value) = raises m f _ class value
+row_is flags (events.send msg target) = sends msg target
+row_is flags (events.send_lost msg target) = sends_lost msg target
+row_is flags (events.receive msg) = receives msg
 
 told_is : (seen : Seen) (flags : Flags) (p : Pid) (stamp : Stamp) (row : List Data) (b : Bool) → flags.timestamp ≡ b → IsRow seen row → IsMessage seen (told_by flags p stamp row)
 told_is seen flags p stamp row true is h = rw is (stamped seen p row _ _ _ h)

@@ -1,10 +1,10 @@
 -- What an event says, as data.
-use Rattle.std.specs.Prelude.{ℕ, List}
+use Rattle.std.specs.Prelude.{ℕ, List, map}
 use Rattle.trace_terms.specs.Data.{Data}
 use Rattle.trace_terms.specs.View.{view}
-use Rattle.std.specs.Prelude.{map}
 use Rattle.trace_message.specs.declared.event.Event.{Event}
 
+-- an event, with its terms as data
 pub data EventData : Type 0 where
   call : (mod_name fun_name : List ℕ) (args : List Data) → EventData
   return_from : (mod_name fun_name : List ℕ) (arity : ℕ) (value : Data) → EventData

@@ -11,13 +11,13 @@ use Rattle.trace_message.specs.Tuples.{tuple_of, triple_of, function_of, reason_
 
 -- What stands behind the pid, without a moment: a row of the table each.
 pub data IsRow : Seen → List Data → Type 0 where
-  call : (mod_name fun_name : List ℕ) (args : Members) → IsRow Call (atom text_call ∷ function_of mod_name fun_name (list args) ∷ [])
-  call_with_arity : (mod_name fun_name : List ℕ) (arity : ℤ) → IsRow Call (atom text_call ∷ function_of mod_name fun_name (int arity) ∷ [])
-  return_from : (mod_name fun_name : List ℕ) (arity : ℤ) (value : Data) → IsRow Return (atom text_return_from ∷ function_of mod_name fun_name (int arity) ∷ value ∷ [])
-  exception_from : (mod_name fun_name : List ℕ) (arity : ℤ) (class : List ℕ) (value : Data) → IsRow Exception (atom text_exception_from ∷ function_of mod_name fun_name (int arity) ∷ reason_of class value ∷ [])
-  send : (message target : Data) → IsRow Send (atom text_send ∷ message ∷ target ∷ [])
-  send_lost : (message target : Data) → IsRow SendLost (atom text_send_to_non_existing_process ∷ message ∷ target ∷ [])
-  receive : (message : Data) → IsRow Receive (atom text_receive ∷ message ∷ [])
+  calls : (mod_name fun_name : List ℕ) (args : Members) → IsRow Call (atom text_call ∷ function_of mod_name fun_name (list args) ∷ [])
+  calls_with_arity : (mod_name fun_name : List ℕ) (arity : ℤ) → IsRow Call (atom text_call ∷ function_of mod_name fun_name (int arity) ∷ [])
+  returns : (mod_name fun_name : List ℕ) (arity : ℤ) (value : Data) → IsRow Return (atom text_return_from ∷ function_of mod_name fun_name (int arity) ∷ value ∷ [])
+  raises : (mod_name fun_name : List ℕ) (arity : ℤ) (class : List ℕ) (value : Data) → IsRow Exception (atom text_exception_from ∷ function_of mod_name fun_name (int arity) ∷ reason_of class value ∷ [])
+  sends : (message target : Data) → IsRow Send (atom text_send ∷ message ∷ target ∷ [])
+  sends_lost : (message target : Data) → IsRow SendLost (atom text_send_to_non_existing_process ∷ message ∷ target ∷ [])
+  receives : (message : Data) → IsRow Receive (atom text_receive ∷ message ∷ [])
 
 -- The term is {trace,P,..}, or {trace_ts,P,..,{Mega,Sec,Micro}}, with a row of the kind.
 pub data IsMessage : Seen → Data → Type 0 where

@@ -1,11 +1,11 @@
--- The kind of a term's message, found part by part. Kinds has the table itself; the law `kinds_are_found` joins the two.
+-- The kind of a term's message, found part by part. Kinds has the table itself; the lemma `kind_is` joins the two.
 use Rattle.std.specs.Prelude.{List, [], ◌∷◌, Bool, true, false, ◌&&◌, ◌||◌, Option, Some, None, if◌then◌else◌}
 use Rattle.trace_terms.specs.Data.{Data, int, atom, pid, tuple, list, Members, no_members, member}
 use Rattle.trace_message.specs.declared.word.Word.{Word}
 use Rattle.trace_message.specs.declared.word.Word.TheVariants as words
 use Rattle.trace_message.specs.declared.seen.Seen.{Seen}
 use Rattle.trace_message.specs.declared.seen.Seen.TheVariants as kinds
-use Rattle.trace_message.specs.Words.{word_of}
+use Rattle.trace_message.specs.Words.{word_named}
 
 -- members as a list
 abbrev pub list_of : Members → List Data
@@ -88,7 +88,7 @@ kind_behind (Some words.Receive) row = only_if (is_one row) kinds.Receive
 
 -- the kind of what stands behind the pid
 abbrev pub row_kind : List Data → Option Seen
-row_kind (atom text ∷ row) = kind_behind (word_of text) row
+row_kind (atom text ∷ row) = kind_behind (word_named text) row
 row_kind other = None
 
 -- all but the last
@@ -120,7 +120,7 @@ kind_under other row = None
 
 -- the kind of a tuple with these members
 abbrev pub parts_kind : List Data → Option Seen
-parts_kind (atom head ∷ pid p ∷ row) = kind_under (word_of head) row
+parts_kind (atom head ∷ pid p ∷ row) = kind_under (word_named head) row
 parts_kind other = None
 
 -- the kind of a term

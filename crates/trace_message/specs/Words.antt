@@ -1,10 +1,11 @@
--- The text of each word.
+-- The words that trace messages are told with.
 use Rattle.std.specs.Prelude.{ℕ, List, Option, Some, None, if◌then◌else◌}
 use Rattle.std.specs.Str.{bytes_eq}
 use Rattle.trace_message.specs.declared.word.Word.{Word}
 use Rattle.trace_message.specs.declared.word.Word.TheVariants.{Trace, TraceTs, Call, ReturnFrom, ExceptionFrom, Send, SendToNonExistingProcess, Receive}
 use Rattle.trace_message.specs.Texts.{text_trace, text_trace_ts, text_call, text_return_from, text_exception_from, text_send, text_send_to_non_existing_process, text_receive}
 
+-- the text of each word
 abbrev pub text_of : Word → List ℕ
 text_of Trace = text_trace
 text_of TraceTs = text_trace_ts
@@ -20,7 +21,7 @@ abbrev pub or_else : List ℕ → Word → Option Word → Option Word
 or_else text word other = if bytes_eq text (text_of word) then Some word else other
 
 -- the word of a text
-unfoldable pub word_of : List ℕ → Option Word
-word_of text =
+unfoldable pub word_named : List ℕ → Option Word
+word_named text =
     or_else text Trace (or_else text TraceTs (or_else text Call (or_else text ReturnFrom
     (or_else text ExceptionFrom (or_else text Send (or_else text SendToNonExistingProcess (or_else text Receive None)))))))

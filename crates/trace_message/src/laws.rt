@@ -1,13 +1,12 @@
 //! What holds of messages and kinds alone.
 
-ghost use Rattle.std.specs.Prelude.{◌≡◌, ◌↔◌, Some};
+ghost use Rattle.std.specs.Prelude.{◌≡◌, ◌↔◌, Option, Some};
 ghost use Rattle.trace_message.specs.declared.event.Flags.{Flags as TheFlags};
 ghost use Rattle.trace_message.specs.declared.event.Stamp.{Stamp as TheStamp};
 ghost use Rattle.trace_message.specs.declared.seen.Seen.{Seen as TheSeen};
 ghost use Rattle.trace_message.specs.Events.{EventData};
 ghost use Rattle.trace_message.specs.Kinds.{IsMessage, seen_of};
 ghost use Rattle.trace_message.specs.Messages.{message_of};
-ghost use Rattle.trace_message.specs.Shapes.{kind_of};
 ghost use Rattle.trace_terms.specs.declared.term.Pid.{Pid as ThePid};
 ghost use Rattle.trace_terms.specs.Data.{Data};
 
@@ -16,9 +15,9 @@ pub fn one_kind()
     ensures { (term : Data) (a b : TheSeen) → IsMessage a term → IsMessage b term → a ≡ b }
 {}
 
-/// The kind that is found part by part is the kind by the table.
-pub fn kinds_are_found()
-    ensures { (term : Data) (seen : TheSeen) → (kind_of term ≡ Some seen) ↔ IsMessage seen term }
+/// Each term is a message of some kind, or of none.
+pub fn some_kind_or_none()
+    ensures { (term : Data) → (found : Option TheSeen) × ((seen : TheSeen) → (found ≡ Some seen) ↔ IsMessage seen term) }
 {}
 
 /// The message of an event is of the event's kind.

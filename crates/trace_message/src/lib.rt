@@ -8,7 +8,7 @@ mod seen;
 mod word;
 
 pub use event::{Event, Flags, Stamp};
-pub use laws::{kinds_are_found, messages_have_their_kind, one_kind};
+pub use laws::{messages_have_their_kind, one_kind, some_kind_or_none};
 pub use messages::message;
 pub use seen::{Seen, classify};
 

@@ -1,4 +1,4 @@
-ghost use Rattle.std.specs.Prelude.{◌≡◌, ◌↔◌, Some, map, IsTrue};
+ghost use Rattle.std.specs.Prelude.{◌≡◌, ◌↔◌, Some, None, map};
 ghost use Rattle.trace_message.specs.declared.seen.Seen.{Seen as TheSeen};
 ghost use Rattle.trace_message.specs.Kinds.{IsMessage};
 ghost use Rattle.trace_message.specs.Shapes as shapes;
@@ -22,7 +22,7 @@ pub enum Seen {
 /// term.
 pub fn classify(term: &Term) -> Option<Seen>
     ensures kind { (seen : TheSeen) → (result ≡ Some seen) ↔ IsMessage seen (view term.now) }
-    ensures found { result ≡ shapes.kind_of (view term.now) }
+    ensures none { (result ≡ None) ↔ ((seen : TheSeen) → IsMessage seen (view term.now) → ⊥) }
 {
     match term {
         Term::Tuple(parts) => parts_kind(parts),

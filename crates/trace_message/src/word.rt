@@ -1,5 +1,5 @@
 ghost use Rattle.std.specs.Prelude.{◌≡◌};
-ghost use Rattle.trace_message.specs.Words.{text_of, word_of};
+ghost use Rattle.trace_message.specs.Words.{text_of, word_named};
 
 /// The atoms that trace messages are told with.
 #[derive(Clone, Copy, Debug, PartialEq, Eq)]
@@ -30,9 +30,9 @@ impl Word {
         }
     }
 
-    #[tactic(auto, unfolding(crate::specs::Words::word_of))]
+    #[tactic(auto, unfolding(crate::specs::Words::word_named))]
     pub fn named(text: &str) -> Option<Word>
-        ensures { result ≡ word_of text.now }
+        ensures { result ≡ word_named text.now }
     {
         match text {
             "trace" => Some(Word::Trace),

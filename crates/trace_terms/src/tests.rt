@@ -1,47 +1,44 @@
 use super::*;
+use std::alloc::Global;
+use std::process::Abort;
 use std::test::*;
 
 /// A character so many times.
-fn repeated(rt: &HostRuntime, character: char, count: u32) -> Result<String, Fail> {
-    let mut text = String::new(rt.alloc());
+fn repeated(rt: &impl Abort, alloc: Global, character: char, count: u32) -> String {
+    let mut text = String::new(alloc);
     for _ in 0..count {
-        text.push(character)?;
+        text.push(character).expect(rt, "memory");
     }
-    Ok(text)
+    text
 }
 
-/// A list in a list, so many times.
-fn nested(rt: &HostRuntime, depth: u32) -> Result<Term, Fail> {
+/// The number 7 in a list in a list, so many times.
+fn nested(rt: &impl Abort, alloc: Global, depth: u32) -> Term {
     let mut term = Term::Int(7);
     for _ in 0..depth {
-        let mut members = Vec::new(rt.alloc());
-        members.push(term)?;
-        term = Term::List(members);
+        term = Term::List(Vec::from_array(alloc, [term]).expect(rt, "memory"));
     }
-    Ok(term)
+    term
+}
+
+fn binary(rt: &impl Abort, alloc: Global) -> Term {
+    Term::Binary(Vec::from_slice(alloc, b"hi").expect(rt, "memory"))
 }
 
 #[test]
-fn an_atom_has_at_most_255_characters(rt: HostRuntime) -> Result<(), Fail> {
-    let text = repeated(&rt, 'é', 255)?;
-    let atom = Atom::new(rt.alloc(), text.as_str())
-        .ok()
-        .ok_or("255 characters")?;
+fn an_atom_has_at_most_255_characters(rt: HostRuntime) {
+    let text = repeated(&rt, rt.alloc(), 'é', 255);
+    let atom = Atom::new(rt.alloc(), text.as_str()).expect(&rt, "255 characters");
     assert_eq!(rt; atom.text(), text.as_str());
     for character in ['a', 'é'] {
-        let longer = repeated(&rt, character, 256)?;
-        assert!(rt;
-            matches!(
-                Atom::new(rt.alloc(), longer.as_str()),
-                Err(AtomFault::TooLong)
-            )
-        );
+        let longer = repeated(&rt, rt.alloc(), character, 256);
+        let refused = Atom::new(rt.alloc(), longer.as_str());
+        assert!(rt; refused == Err(AtomFault::TooLong));
     }
-    Ok(())
 }
 
 #[test]
-fn a_depth_above_65_is_answered_as_65(rt: HostRuntime) -> Result<(), Fail> {
+fn a_depth_above_65_is_answered_as_65(rt: HostRuntime) {
     let table = [
         (0u32, 0u32),
         (1, 1),
@@ -51,34 +48,24 @@ fn a_depth_above_65_is_answered_as_65(rt: HostRuntime) -> Result<(), Fail> {
         (200, 65),
     ];
     for (depth, answer) in table {
-        assert_eq!(rt; nested(&rt, depth)?.depth(), answer);
+        assert_eq!(rt; nested(&rt, rt.alloc(), depth).depth(), answer);
     }
     assert_eq!(rt; Term::Tuple(Vec::new(rt.alloc())).depth(), 1);
-    assert_eq!(rt;
-        Term::Binary(Vec::from_slice(rt.alloc(), b"hi")?).depth(),
-        0
-    );
-    Ok(())
+    assert_eq!(rt; binary(&rt, rt.alloc()).depth(), 0);
 }
 
 #[test]
-fn a_copy_equals_its_source(rt: HostRuntime) -> Result<(), Fail> {
-    let node = Atom::new(rt.alloc(), "nonode@nohost")
-        .ok()
-        .ok_or("an atom")?;
+fn a_copy_equals_its_source(rt: HostRuntime) {
     let pid = Pid {
-        node,
+        node: Atom::new(rt.alloc(), "nonode@nohost").expect(&rt, "an atom"),
         id: 80,
         serial: 0,
         creation: 0,
     };
-    let mut members = Vec::new(rt.alloc());
-    members.push(Term::Pid(pid))?;
-    members.push(nested(&rt, 3)?)?;
-    members.push(Term::Binary(Vec::from_slice(rt.alloc(), b"hi")?))?;
-    let term = Term::Tuple(members);
-    let copied = term.copy().ok().ok_or("memory")?;
+    let list = nested(&rt, rt.alloc(), 3);
+    let parts = [Term::Pid(pid), list, binary(&rt, rt.alloc())];
+    let term = Term::Tuple(Vec::from_array(rt.alloc(), parts).expect(&rt, "memory"));
+    let copied = term.copy().expect(&rt, "memory");
     assert_eq!(rt; copied, term);
-    assert_ne!(rt; copied, nested(&rt, 3)?);
-    Ok(())
+    assert_ne!(rt; copied, nested(&rt, rt.alloc(), 3));
 }
