@@ -151,3 +151,4 @@ is_out_of_order (lines.CreateFile limit) put flush seal tick abandon close crash
 is_out_of_order (lines.ResumeFile limit) put flush seal tick abandon close crash = tt
 is_out_of_order lines.Files put flush seal tick abandon close crash = tt
 is_out_of_order lines.List put flush seal tick abandon close crash = tt
+is_out_of_order lines.Wipe put flush seal tick abandon close crash = tt

@@ -34,6 +34,7 @@ pub enum Line {
     Crash(Pick),
     Files,
     List,
+    Wipe,
 }
 
 /// A decimal number without a sign and leading zeros.
@@ -147,6 +148,7 @@ fn store_line(words: &[&str]) -> Option<Line>
         ["resume", "file", limit] => number(limit).map(Line::ResumeFile),
         ["files"] => Some(Line::Files),
         ["list"] => Some(Line::List),
+        ["wipe"] => Some(Line::Wipe),
         _ => None,
     }
 }

@@ -14,6 +14,7 @@ use crate::refusal::Refusal;
 use crate::reply::{Leave, Origin};
 use crate::script::Script;
 use crate::stored::{list, list_files};
+use recovery::wipe;
 use std::alloc::Global;
 use std::io::{BufRead, Write};
 use trace_port::{Opening, Pending, begin_create, begin_resume};
@@ -83,8 +84,17 @@ fn run_line<W: Write>(
         Line::Crash(pick) => crash(store, pick, answers),
         Line::Files => list_files(store, answers),
         Line::List => list(alloc, store, answers),
+        Line::Wipe => clear(store, answers),
         _other => answers.tell(Answer::OutOfOrder),
     }
+}
+
+/// Closes each open file for good.
+fn clear<W: Write>(store: &mut MemStore, answers: &mut Answers<'_, W>) -> Result<(), SimFault> {
+    answers.tell(match wipe(store) {
+        Ok(()) => Answer::Done,
+        Err(fault) => Answer::Refused(Refusal::from(fault)),
+    })
 }
 
 /// Puts a blank store in the place of this one.

@@ -91,8 +91,19 @@ create file 37; lose 1 => ok; refused 5 FileFull
 # A store that isn't blank is kept.
 create file 99; put 00; flush; abandon; create file 99; list => ok; entry 0; covered 1; ok; refused 1 NotBlank; 0 opaque 1; end_of_trace
 # Lines in the wrong state do nothing.
-put E; flush; abandon; seal; close; create file 99; store 1; fuse 1; create file 99; resume file 99; files; list; flush => out of order; out of order; out of order; out of order; out of order; ok; out of order; out of order; out of order; out of order; out of order; out of order; covered 0
+put E; flush; abandon; seal; close; create file 99; store 1; bytes 0 00; fuse 1; create file 99; resume file 99; files; list; flush => out of order; out of order; out of order; out of order; out of order; ok; out of order; out of order; out of order; out of order; out of order; out of order; out of order; covered 0
 ; # a remark; list => end_of_trace
+";
+    assert_eq!(rt; first_wrong(rt.alloc(), rows)?, None);
+    Ok(())
+}
+
+#[test]
+fn a_wipe_closes_each_open_file(rt: HostRuntime) -> Result<(), Fail> {
+    let rows = "
+create file L; put E; close; wipe; files; list; create file L => ok; entry 0; closed; ok; file 0 length 1 gate 00; end_of_trace; ok
+store 3; bytes 0 01_44425432_02_0002_0000000a_0000000000000000_0000000000000000_0000000000000000_00; bytes 1 01_44425432_02_0002_0000000a_0000000000000001_0000000000000000_0000000000000000_00; wipe; files; list => ok; ok; ok; ok; file 0 length 1 gate 00; file 1 length 1 gate 00; file 2 length 0 gate --; end_of_trace
+create file L; wipe; close; fuse 0; wipe => ok; out of order; closed; ok; refused 1 Device
 ";
     assert_eq!(rt; first_wrong(rt.alloc(), rows)?, None);
     Ok(())
