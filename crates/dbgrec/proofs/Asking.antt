@@ -13,7 +13,7 @@ use Rattle.trace_port.specs.declared.kinds.PortState.{PortState}
 use Rattle.trace_port.specs.declared.kinds.PortState.TheVariants.{Live, Broken, Sealed}
 use Rattle.trace_port.specs.declared.kinds.PortFault.{PortFault}
 use Rattle.trace_port.specs.declared.kinds.PortFault.TheVariants as faults
-use Rattle.trace_port.proofs.FilePorts.{grows_same}
+use Rattle.trace_port.proofs.Ports.{grows_same}
 use Rattle.dbgrec.specs.declared.line.Line.{Line}
 use Rattle.dbgrec.specs.declared.line.Line.TheVariants as lines
 use Rattle.dbgrec.specs.declared.answer.Answer.TheVariants as answers
@@ -149,6 +149,9 @@ is_out_of_order (lines.Fuse calls) put flush seal tick abandon close crash = tt
 is_out_of_order (lines.FailOnce calls) put flush seal tick abandon close crash = tt
 is_out_of_order (lines.CreateFile limit) put flush seal tick abandon close crash = tt
 is_out_of_order (lines.ResumeFile limit) put flush seal tick abandon close crash = tt
+is_out_of_order (lines.CreateWrap size count) put flush seal tick abandon close crash = tt
+is_out_of_order (lines.CreateTime millis count) put flush seal tick abandon close crash = tt
+is_out_of_order lines.ResumeWrap put flush seal tick abandon close crash = tt
 is_out_of_order lines.Files put flush seal tick abandon close crash = tt
 is_out_of_order lines.List put flush seal tick abandon close crash = tt
 is_out_of_order lines.Wipe put flush seal tick abandon close crash = tt

@@ -1,16 +1,16 @@
 -- What a run of lines on a port keeps.
-use Rattle.std.proofs.Common.{◌≡◌, ◌≢◌, ◌⊎◌, inl, inr, ⊎_elim, ℕ, ◌≤◌, Option, Some, None, List, [], ◌∷◌, ◌++◌, refl, sym, ◌∙◌, ap, subst, arith, append_assoc}
+use Rattle.std.proofs.Common.{◌≡◌, ◌≢◌, ◌⊎◌, inl, inr, ⊎_elim, ℕ, ◌≤◌, Option, Some, None, List, [], ◌∷◌, ◌++◌, Result, IfOk, refl, sym, ◌∙◌, ap, subst, arith, append_assoc}
 use Rattle.std.proofs.lemmas.List.{append-nil}
 use Rattle.trace_store.specs.Disk.{Image}
 use Rattle.segment.specs.Specification.{Spec}
 use Rattle.recovery.specs.Items.{Item}
 use Rattle.recovery.specs.Views.{View}
-use Rattle.trace_port.specs.Device.{Device, Leaves}
+use Rattle.trace_port.specs.Device.{Device, Leaves, IsIdle}
 use Rattle.trace_port.specs.Sound.{Sound}
 use Rattle.trace_port.specs.Port.{Told, Fits, Goes, Ends, covered_to}
 use Rattle.trace_port.specs.declared.kinds.PortState.{PortState}
 use Rattle.trace_port.specs.declared.kinds.PortState.TheVariants.{Live, Broken, Sealed}
-use Rattle.trace_port.proofs.Leaving.{weaker, both}
+use Rattle.trace_port.proofs.Leaving.{weaker, both, stays_idle}
 use Rattle.trace_port.proofs.Lending.{sound_less, covers_more}
 use Rattle.dbgrec.specs.declared.line.Line.{Line}
 use Rattle.dbgrec.specs.declared.answer.Answer.{Answer}
@@ -18,7 +18,10 @@ use Rattle.dbgrec.specs.declared.reply.Leave.{Leave}
 use Rattle.dbgrec.specs.declared.reply.Reply.{Reply}
 use Rattle.dbgrec.specs.declared.reply.Reply.TheVariants.{Told as Answered, Left}
 use Rattle.dbgrec.specs.Asked.{IsAsked, items_by, has_covered}
-use Rattle.dbgrec.specs.Held.{Exchange, AreAsked, ends, leaves, asks, accepted, covered_by, IsSoundSince, IsSoundThroughout}
+use Rattle.dbgrec.specs.declared.reply.Origin.{Origin}
+use Rattle.dbgrec.specs.declared.fault.SimFault.{SimFault}
+use Rattle.dbgrec.specs.Texts.{line_of, greeting}
+use Rattle.dbgrec.specs.Held.{Exchange, AreAsked, ends, leaves, asks, left_by, accepted, covered_by, written, IsSoundSince, IsSoundThroughout, WasHeld}
 use Rattle.dbgrec.proofs.Asking.{IsStill, no_call, asked_calls}
 
 live_or_not : (s : PortState) → (s ≡ Live) ⊎ (s ≢ Live)
@@ -152,6 +155,27 @@ module _ {P : Type 0} (told : P → Told) (still : (p : P) → IsStill (told p))
 
   pub is_sound_throughout : IsSoundThroughout told first run leave end last v0 c
   is_sound_throughout = record { each = is_sound_since; inside = is_inside }
+
+-- a port over an opening: what it was asked, and what its drop left
+pub was_held : {P : Type 0} (told : P → Told) → ((p : P) → IsStill (told p)) → (opened : Told) (origin : Origin) (first end : P) (last : Device) (left : Result (Option Leave) SimFault) (Writes : List ℕ → Type 0)
+    → ((Q : Device → Type 0) → Q (told first).device → Q opened.device) → (told first).spec ≡ opened.spec → ((v0 : View) (ys : List Item) (c : ℕ) → Fits opened v0 ys c → Fits (told first) v0 ys c) → Ends (told end) last
+    → ((done : List Exchange) × AreAsked told first done (left_by left) end × IfOk left (λ _. Writes (line_of (greeting origin (told first).total) ++ written done))) → WasHeld told opened origin left last Writes
+was_held told still opened origin first end last left Writes moved same fits over ran = record {
+  done = ran.0;
+  held = record {
+    first = first;
+    end = end;
+    at_first = moved (λ d. IsIdle d (told first).device) (stays_idle (told first).device);
+    fits = fits;
+    asks = ran.1;
+    over = over;
+    whole = λ h v0 c f. moved (λ d. Leaves d last (Sound opened.spec v0 (accepted ran.0) c))
+        (subst (λ (spec : Spec). Leaves (told first).device last (Sound spec v0 (accepted ran.0) c)) same
+        (is_sound_since told still first end last ran.0 (left_by left) over h v0 c (fits v0 [] c f) [] ran.0 first refl ends ran.1).since);
+    lines = λ h v0 c f. is_sound_throughout told still first end last ran.0 (left_by left) over h v0 c (fits v0 [] c f);
+  };
+  text = ran.2;
+}
 
 -- ---- a run grows by a line
 

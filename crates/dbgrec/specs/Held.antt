@@ -1,5 +1,5 @@
 -- A port that is held while the lines of a script are run on it.
-use Rattle.std.specs.Prelude.{◌≡◌, ◌⊎◌, ℕ, Option, Some, None, List, [], ◌∷◌, ◌++◌, Result, Ok, Err}
+use Rattle.std.specs.Prelude.{◌≡◌, ◌⊎◌, ℕ, Option, Some, None, List, [], ◌∷◌, ◌++◌, Result, Ok, Err, IfOk}
 use Rattle.trace_store.specs.Disk.{Image}
 use Rattle.recovery.specs.Items.{Item}
 use Rattle.recovery.specs.Views.{View}
@@ -9,10 +9,11 @@ use Rattle.trace_port.specs.Port.{Told, Fits, Ends, covered_to}
 use Rattle.dbgrec.specs.declared.line.Line.{Line}
 use Rattle.dbgrec.specs.declared.answer.Answer.{Answer}
 use Rattle.dbgrec.specs.declared.reply.Leave.{Leave}
+use Rattle.dbgrec.specs.declared.reply.Origin.{Origin}
 use Rattle.dbgrec.specs.declared.reply.Reply.{Reply}
 use Rattle.dbgrec.specs.declared.reply.Reply.TheVariants.{Told as Answered, Left}
 use Rattle.dbgrec.specs.declared.fault.SimFault.{SimFault}
-use Rattle.dbgrec.specs.Texts.{line_of}
+use Rattle.dbgrec.specs.Texts.{line_of, greeting}
 use Rattle.dbgrec.specs.Asked.{IsAsked, items_by, has_covered}
 
 -- a line that was read, and what came of it
@@ -77,3 +78,9 @@ pub record IsHeld {P : Type 0} (told : P → Told) (opened : Told) (asked : List
   pub over : Ends (told end) last
   pub whole : last.honest → (v0 : View) (c : ℕ) → Fits opened v0 [] c → Leaves opened.device last (Sound opened.spec v0 (accepted asked) c)
   pub lines : last.honest → (v0 : View) (c : ℕ) → Fits opened v0 [] c → IsSoundThroughout told first asked leave end last v0 c
+
+-- lines were run on a port over an opening, which then was dropped; and, unless a fault ended that, what was written is how it was opened and what it answered
+pub record WasHeld {P : Type 0} (told : P → Told) (opened : Told) (origin : Origin) (left : Result (Option Leave) SimFault) (last : Device) (Writes : List ℕ → Type 0) : Type 0 where
+  pub done : List Exchange
+  pub held : IsHeld told opened done (left_by left) last
+  pub text : IfOk left (λ _. Writes (line_of (greeting origin (told held.first).total) ++ written done))

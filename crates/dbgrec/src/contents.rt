@@ -36,7 +36,7 @@ fn contents_of<S: Store>(alloc: Global, store: &mut S) -> Result<Vec<Vec<u8>>, R
 }
 
 /// What a read gives of a file.
-fn bytes_of<S: Store>(alloc: Global, store: &mut S, file: u32) -> Result<Vec<u8>, Refusal>
+pub fn bytes_of<S: Store>(alloc: Global, store: &mut S, file: u32) -> Result<Vec<u8>, Refusal>
     requires { file < length (S.reads store.old) }
     ensures same { length (S.reads store.new) ≡ length (S.reads store.old) }
     ensures was_honest { S.honest store.new → S.honest store.old }

@@ -24,6 +24,11 @@ pub enum Line {
     FailOnce(u64),
     CreateFile(u64),
     ResumeFile(u64),
+    /// A wrap by size, in bytes, that keeps so many runs.
+    CreateWrap { size: u32, count: u16 },
+    /// A wrap by time that keeps so many runs.
+    CreateTime { millis: u32, count: u16 },
+    ResumeWrap,
     Put(Entry),
     Flush,
     Seal,
@@ -59,6 +64,13 @@ fn within(word: &str, least: u32, most: u32) -> Option<u32>
         return None;
     }
     Some(found)
+}
+
+/// The size or time of a wrap, and how many runs it keeps, of any that their types have.
+fn wrap_numbers(most: &str, count: &str) -> Option<(u32, u16)> {
+    let most = u32::try_from(number(most)?).ok()?;
+    let count = u16::try_from(number(count)?).ok()?;
+    Some((most, count))
 }
 
 fn digit(letter: u8) -> Option<u8>
@@ -146,6 +158,15 @@ fn store_line(words: &[&str]) -> Option<Line>
         ["failonce", calls] => number(calls).map(Line::FailOnce),
         ["create", "file", limit] => number(limit).map(Line::CreateFile),
         ["resume", "file", limit] => number(limit).map(Line::ResumeFile),
+        ["create", "wrap", size, count] => {
+            let (size, count) = wrap_numbers(size, count)?;
+            Some(Line::CreateWrap { size, count })
+        }
+        ["create", "time", millis, count] => {
+            let (millis, count) = wrap_numbers(millis, count)?;
+            Some(Line::CreateTime { millis, count })
+        }
+        ["resume", "wrap"] => Some(Line::ResumeWrap),
         ["files"] => Some(Line::Files),
         ["list"] => Some(Line::List),
         ["wipe"] => Some(Line::Wipe),

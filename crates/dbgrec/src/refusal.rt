@@ -41,18 +41,6 @@ impl<T: Drop> From<AllocFailed<T>> for Refusal {
     }
 }
 
-impl From<CreateFault> for Refusal {
-    fn from(fault: CreateFault) -> Refusal {
-        Refusal::Create(fault)
-    }
-}
-
-impl From<ResumeFault> for Refusal {
-    fn from(fault: ResumeFault) -> Refusal {
-        Refusal::Resume(fault)
-    }
-}
-
 impl fmt::Display for Refusal {
     ghost use Rattle.std.specs.Prelude.{Some};
     ghost use Rattle.dbgrec.specs.Texts.{refusal_text};

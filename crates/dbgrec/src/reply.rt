@@ -1,7 +1,11 @@
 // How a port comes to be held, and what comes of a line then.
 
 use crate::answer::Answer;
+use crate::fault::SimFault;
+use crate::refusal::Refusal;
+use trace_port::{CreateFault, ResumeFault};
 use trace_store::Pick;
+use wrap_port::BadSpec;
 
 /// How a port came to be held.
 #[derive(Clone, Copy, Debug, PartialEq, Eq)]
@@ -24,4 +28,36 @@ pub enum Reply {
     Told(Answer),
     /// The port is given up, and answered of once it has been dropped.
     Left(Leave),
+}
+
+/// Why a line's port isn't held until it is given up.
+#[derive(Drop)]
+pub enum Stop {
+    /// There is none.
+    Refused(Refusal),
+    Failed(SimFault),
+}
+
+impl From<CreateFault> for Stop {
+    fn from(fault: CreateFault) -> Stop {
+        Stop::Refused(Refusal::Create(fault))
+    }
+}
+
+impl From<ResumeFault> for Stop {
+    fn from(fault: ResumeFault) -> Stop {
+        Stop::Refused(Refusal::Resume(fault))
+    }
+}
+
+impl From<BadSpec> for Stop {
+    fn from(_fault: BadSpec) -> Stop {
+        Stop::Refused(Refusal::Create(CreateFault::BadSpec))
+    }
+}
+
+impl From<SimFault> for Stop {
+    fn from(fault: SimFault) -> Stop {
+        Stop::Failed(fault)
+    }
 }

@@ -1,6 +1,5 @@
 // A script over a store in memory.
-ghost use Rattle.std.specs.Prelude.{◌<◌, ◌≤◌, IfOk, OnOk, length};
-ghost use Rattle.trace_store.specs.Disk.{file_of};
+ghost use Rattle.std.specs.Prelude.{◌<◌, ◌≤◌, length};
 ghost use Rattle.trace_store.specs.MemStore.{reads_of};
 ghost use Rattle.dbgrec.specs.Line.{IsWithinLimits, HasFile};
 
@@ -8,17 +7,18 @@ use crate::answer::Answer;
 use crate::answers::Answers;
 use crate::contents::with_bytes;
 use crate::fault::SimFault;
-use crate::held::hold;
+use crate::held::{hold_file, hold_wrap};
 use crate::line::Line;
 use crate::refusal::Refusal;
-use crate::reply::{Leave, Origin};
+use crate::reply::{Leave, Origin, Stop};
 use crate::script::Script;
 use crate::stored::{list, list_files};
 use recovery::wipe;
 use std::alloc::Global;
 use std::io::{BufRead, Write};
-use trace_port::{Opening, Pending, begin_create, begin_resume};
+use trace_port::{begin_create, begin_resume};
 use trace_store::{MemStore, Pick, Store};
+use wrap_port::WrapSpec;
 
 /// Runs a script over a store in memory, at first a blank one of one file. What was answered before a fault has been
 /// written. A run that fails of several causes answers the first.
@@ -27,41 +27,91 @@ pub fn run_sim<R: BufRead, W: Write>(
     reader: &mut R,
     writer: &mut W,
 ) -> Result<(), SimFault> {
+    let mut store = MemStore::blank(alloc, 1)?;
     let mut script = Script::new(alloc, reader)?;
     let mut answers = Answers::new(writer);
-    let done = run_lines(alloc, &mut script, &mut answers);
+    let done = run_lines(alloc, &mut store, &mut script, &mut answers);
     let flushed = answers.finish();
     done?;
     flushed
 }
 
 /// Runs lines while no port is held.
-fn run_lines<R: BufRead, W: Write>(
+pub fn run_lines<R: BufRead, W: Write>(
     alloc: Global,
+    store: &mut MemStore,
     script: &mut Script<'_, R>,
     answers: &mut Answers<'_, W>,
 ) -> Result<(), SimFault> {
-    let mut store = MemStore::blank(alloc, 1)?;
     for _line in 0..u64::MAX {
-        let Some(line) = script.next_line()? else {
-            return Ok(());
-        };
-        match line {
-            Line::Bytes(file, _) if file >= store.files() => return Err(script.bad_command()),
-            Line::CreateFile(limit) => {
-                run_file_port(alloc, &mut store, Origin::Created, limit, script, answers)?;
+        match script.next_line()? {
+            None => return Ok(()),
+            Some(Line::Bytes(file, _)) if file >= store.files() => {
+                return Err(script.bad_command());
             }
-            Line::ResumeFile(limit) => {
-                run_file_port(alloc, &mut store, Origin::Resumed, limit, script, answers)?;
+            Some(line) => {
+                let left = run_line(alloc, store, line, script, answers);
+                finish(store, left, answers)?;
             }
-            other => run_line(alloc, &mut store, other, answers)?,
         }
     }
     Ok(())
 }
 
-/// Runs a line that holds no port.
-fn run_line<W: Write>(
+/// Runs a line and, where it makes a port, the lines behind it until that is given up.
+fn run_line<R: BufRead, W: Write>(
+    alloc: Global,
+    store: &mut MemStore,
+    line: Line,
+    script: &mut Script<'_, R>,
+    answers: &mut Answers<'_, W>,
+) -> Result<Option<Leave>, Stop>
+    requires sound { IsWithinLimits line }
+    requires file { HasFile (reads_of store.old) line }
+{
+    let left = match line {
+        Line::CreateFile(limit) => {
+            let opening = begin_create(alloc, &mut *store, limit)?;
+            hold_file(store, opening, Origin::Created, script, answers)?
+        }
+        Line::ResumeFile(limit) => {
+            let opening = begin_resume(alloc, &mut *store, limit)?;
+            hold_file(store, opening, Origin::Resumed, script, answers)?
+        }
+        Line::CreateWrap { size, count } => {
+            let spec = WrapSpec::new(size, count)?;
+            create_wrap(alloc, store, spec, script, answers)?
+        }
+        Line::CreateTime { millis, count } => {
+            let spec = WrapSpec::timed(millis, count)?;
+            create_wrap(alloc, store, spec, script, answers)?
+        }
+        Line::ResumeWrap => {
+            let opening = wrap_port::begin_resume(alloc, &mut *store)?;
+            hold_wrap(store, opening, Origin::Resumed, script, answers)?
+        }
+        other => {
+            run_store_line(alloc, store, other, answers)?;
+            None
+        }
+    };
+    Ok(left)
+}
+
+/// Makes a wrap port over a blank store, and runs lines until it is given up.
+fn create_wrap<R: BufRead, W: Write>(
+    alloc: Global,
+    store: &mut MemStore,
+    spec: WrapSpec,
+    script: &mut Script<'_, R>,
+    answers: &mut Answers<'_, W>,
+) -> Result<Option<Leave>, Stop> {
+    let opening = wrap_port::begin_create(alloc, &mut *store, spec)?;
+    Ok(hold_wrap(store, opening, Origin::Created, script, answers)?)
+}
+
+/// Runs a line that makes no port.
+fn run_store_line<W: Write>(
     alloc: Global,
     store: &mut MemStore,
     line: Line,
@@ -134,51 +184,19 @@ fn set_bytes<W: Write>(
     }
 }
 
-/// Makes a port over a blank store, or one that goes on in a store, and runs lines until it is given up.
-fn run_file_port<R: BufRead, W: Write>(
-    alloc: Global,
+/// Answers how a line's port was left, which has been dropped, or why there is none.
+fn finish<W: Write>(
     store: &mut MemStore,
-    origin: Origin,
-    limit: u64,
-    script: &mut Script<'_, R>,
+    left: Result<Option<Leave>, Stop>,
     answers: &mut Answers<'_, W>,
 ) -> Result<(), SimFault> {
-    let opening = match open(alloc, &mut *store, origin, limit) {
-        Ok(opening) => opening,
-        Err(refusal) => return answers.tell(Answer::Refused(refusal)),
-    };
-    match hold(&mut *store, opening, origin, script, answers)? {
-        Some(leave) => give_up(store, leave, answers),
-        None => Ok(()),
-    }
-}
-
-/// Finds what a file port is made of.
-fn open(
-    alloc: Global,
-    store: &mut MemStore,
-    origin: Origin,
-    limit: u64,
-) -> Result<Opening<Pending>, Refusal>
-    ensures some { OnOk result (0 < length (reads_of store.new)) }
-    ensures within { IfOk result (λ o. o.gate < length (file_of (reads_of store.new) 0)) }
-{
-    match origin {
-        Origin::Created => Ok(begin_create(alloc, store, limit)?),
-        Origin::Resumed => Ok(begin_resume(alloc, store, limit)?),
-    }
-}
-
-/// Answers how a port was left, which has been dropped.
-fn give_up<W: Write>(
-    store: &mut MemStore,
-    leave: Leave,
-    answers: &mut Answers<'_, W>,
-) -> Result<(), SimFault> {
-    match leave {
-        Leave::Abandoned => answers.tell(Answer::Done),
-        Leave::Closed => answers.tell(Answer::Closed),
-        Leave::Crashed(pick) => crash(store, pick, answers),
+    match left {
+        Ok(Some(Leave::Abandoned)) => answers.tell(Answer::Done),
+        Ok(Some(Leave::Closed)) => answers.tell(Answer::Closed),
+        Ok(Some(Leave::Crashed(pick))) => crash(store, pick, answers),
+        Ok(None) => Ok(()),
+        Err(Stop::Refused(refusal)) => answers.tell(Answer::Refused(refusal)),
+        Err(Stop::Failed(fault)) => Err(fault),
     }
 }
 

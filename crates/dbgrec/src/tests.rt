@@ -1,12 +1,16 @@
+use crate::answers::Answers;
 use crate::command::{Request, asked_for};
+use crate::contents::bytes_of;
 use crate::fault::SimFault;
 use crate::line::bytes;
-use crate::sim::run_sim;
+use crate::script::Script;
+use crate::sim::{run_lines, run_sim};
 use crate::stream::run_stream;
 use std::alloc::Global;
 use std::io;
 use std::io::{BufReader, Read, Write};
 use std::test::Fail;
+use trace_store::{MemStore, Store};
 
 /// The spelling of `{trace,<nonode@nohost.80.0.0>,'receive',ok}`.
 const MESSAGE: &str = "8368047705747261636558770d6e6f6e6f6465406e6f686f7374\
@@ -16,27 +20,31 @@ const MESSAGE: &str = "8368047705747261636558770d6e6f6e6f6465406e6f686f7374\
 /// What stands behind the message's number in a listing.
 const LISTED: &str = " receive {trace,<nonode@nohost.80.0.0>,'receive',ok}";
 
-/// What the lines of a script or, behind the word `stream`, an entry stream gives, and what its fault displays with its
-/// status.
-///
-/// In a script `put E` puts the message, `<e>` is its entry, `_` parts the fields of a file, and `L` is the greatest
-/// limit. In a stream `E` is the entry.
-fn found(alloc: Global, script: &str) -> Result<(String, String), Fail> {
+/// The text of a script, whose lines `; ` separates. There `put E` puts the message, `<e>` is its entry, `_` parts the
+/// fields of a file, and `L` is the greatest limit.
+fn script(alloc: Global, lines: &str) -> Result<String, Fail> {
+    let put = format!(in alloc; "put {MESSAGE}")?;
     let entry = format!(in alloc; "0000000033{MESSAGE}")?;
+    let text = lines.replace(alloc, "put E", put.as_str())?;
+    let text = text.replace(alloc, "<e>", entry.as_str())?;
+    let text = text.replace(alloc, "_", "")?;
+    let text = text.replace(alloc, " L", " 1099511627776")?;
+    Ok(text.replace(alloc, "; ", "\n")?)
+}
+
+/// What the lines of a script or, behind the word `stream`, an entry stream gives, and what its fault displays with its
+/// status. In a stream `E` is the message's entry.
+fn found(alloc: Global, lines: &str) -> Result<(String, String), Fail> {
     let mut written: Vec<u8> = Vec::new(alloc);
-    let done = if let Some(hex) = script.strip_prefix("stream ") {
+    let done = if let Some(hex) = lines.strip_prefix("stream ") {
+        let entry = format!(in alloc; "0000000033{MESSAGE}")?;
         let hex = hex.replace(alloc, "E", entry.as_str())?;
         let Some(bytes) = bytes(alloc, hex.as_str())? else {
             return Err("no digits".into());
         };
         run_stream(alloc, &mut bytes.as_slice(), &mut written)
     } else {
-        let script = script.replace(alloc, "put E", format!(in alloc; "put {MESSAGE}")?.as_str())?;
-        let script = script.replace(alloc, "<e>", entry.as_str())?;
-        let script = script.replace(alloc, "_", "")?;
-        let script = script.replace(alloc, " L", " 1099511627776")?;
-        let script = script.replace(alloc, "; ", "\n")?;
-        run_sim(alloc, &mut script.as_bytes(), &mut written)
+        run_sim(alloc, &mut script(alloc, lines)?.as_bytes(), &mut written)
     };
     let fault = match done {
         Ok(()) => String::new(alloc),
@@ -45,28 +53,62 @@ fn found(alloc: Global, script: &str) -> Result<(String, String), Fail> {
     Ok((String::from_utf8_lossy(alloc, &written)?, fault))
 }
 
-/// Whether the script, or the stream, gives these lines, separated by `;`, and ends with this fault. There `N R` is
+/// Whether these are the lines or, behind `.. `, the last of them; or one of several that `|` separates are.
+fn is_one_of(all: &str, wanted: &str) -> bool {
+    wanted.split(" | ").any(|one| match one.strip_prefix(".. ") {
+        Some(last) => all.ends_with(last),
+        None => all == one,
+    })
+}
+
+/// Whether the script, or the stream, gives such lines, separated by `;`, and ends with this fault. There `N R` is
 /// the listed line of the message.
-fn gives(alloc: Global, script: &str, lines: &str, fault: &str) -> Result<bool, Fail> {
+fn gives(alloc: Global, script: &str, wanted: &str, fault: &str) -> Result<bool, Fail> {
     let (written, told) = found(alloc, script)?;
     let written = written.replace(alloc, LISTED, " R")?;
     let written = written.replace(alloc, "\n", "; ")?;
     let all = written.as_str();
-    Ok(all.strip_suffix("; ").unwrap_or(all) == lines && told.as_str() == fault)
+    Ok(is_one_of(all.strip_suffix("; ").unwrap_or(all), wanted) && told.as_str() == fault)
 }
 
-/// The number of the first line of the table that doesn't hold: `SCRIPT => LINES` or `SCRIPT => LINES => FAULT`.
-/// Empty lines and those that begin with `#` tell nothing.
+/// Whether this holds: `SCRIPT => LINES` or `SCRIPT => LINES => FAULT`.
+fn holds(alloc: Global, row: &str) -> Result<bool, Fail> {
+    let Some((script, rest)) = row.split_once(" =>") else {
+        return Ok(false);
+    };
+    let (lines, fault) = rest.split_once(" => ").unwrap_or((rest, ""));
+    gives(alloc, script, lines.trim_start(), fault)
+}
+
+/// Whether the row holds; behind `K FIRST LAST: `, with each number from FIRST to LAST in the place of K.
+fn row_holds(alloc: Global, row: &str) -> Result<bool, Fail> {
+    let Some(row) = row.strip_prefix("K ") else {
+        return holds(alloc, row);
+    };
+    let Some((range, row)) = row.split_once(": ") else {
+        return Ok(false);
+    };
+    let (first, last) = range.split_once(' ').unwrap_or((range, range));
+    let (Ok(first), Ok(last)) = (first.parse::<u32>(), last.parse::<u32>()) else {
+        return Ok(false);
+    };
+    for number in first..=last {
+        let row = row.replace(alloc, "K", format!(in alloc; "{number}")?.as_str())?;
+        if !holds(alloc, row.as_str())? {
+            return Ok(false);
+        }
+    }
+    Ok(true)
+}
+
+/// The number of the first line of the table that doesn't hold. Empty lines and those that begin with `#` tell
+/// nothing.
 fn first_wrong(alloc: Global, table: &str) -> Result<Option<usize>, Fail> {
     for (number, row) in table.lines().enumerate() {
         if row.is_empty() || row.starts_with('#') {
             continue;
         }
-        let Some((script, rest)) = row.split_once(" =>") else {
-            return Ok(Some(number));
-        };
-        let (lines, fault) = rest.split_once(" => ").unwrap_or((rest, ""));
-        if !gives(alloc, script, lines.trim_start(), fault)? {
+        if !row_holds(alloc, row)? {
             return Ok(Some(number));
         }
     }
@@ -243,6 +285,151 @@ store 3; bytes 0 01_44425432_02_0002_0000000a_0000000000000000_0000000000000000_
 }
 
 #[test]
+fn a_wrap_keeps_its_last_runs(rt: HostRuntime) -> Result<(), Fail> {
+    let rows = "
+# The first file is closed once the third is open, and a wipe closes them all.
+store 3; create wrap 100 2; put E; put E; put E; put E; put E; flush; abandon; files; list; wipe; files; create wrap 100 2 => ok; ok; entry 0; entry 1; entry 2; entry 3; entry 4; covered 5; ok; file 0 length 1 gate 00; file 1 length 154 gate 01; file 2 length 98 gate 01; before entries 2 dropped 0; 2 R; 3 R; 4 R; end_of_trace; ok; file 0 length 1 gate 00; file 1 length 1 gate 00; file 2 length 1 gate 00; ok
+# The entry that ends a run is kept without a flush.
+store 3; create wrap 100 2; put E; put E; put E; put E; abandon; files; list => ok; ok; entry 0; entry 1; entry 2; entry 3; ok; file 0 length 1 gate 00; file 1 length 154 gate 01; file 2 length 37 gate 01; before entries 2 dropped 0; 2 R; 3 R; end_of_trace
+# A run goes on that has as many bytes as the size.
+store 3; create wrap 112 2; put E; put E; put E; put E; put E; put E; abandon; files; list => ok; ok; entry 0; entry 1; entry 2; entry 3; entry 4; entry 5; ok; file 0 length 1 gate 00; file 1 length 210 gate 01; file 2 length 37 gate 01; before entries 3 dropped 0; 3 R; 4 R; 5 R; end_of_trace
+# Each entry is a run where the size is 0.
+store 2; create wrap 0 1; put E; put E; abandon; files; list => ok; ok; entry 0; entry 1; ok; file 0 length 37 gate 01; file 1 length 1 gate 00; before entries 2 dropped 0; end_of_trace
+# The greatest count has no next value.
+store 2; bytes 1 01_44425432_01_0001_00000064_0000000000000001_ffffffffffffffff_0000000000000000_00; resume wrap; put E; flush => ok; ok; resumed 18446744073709551615; refused 4 CountFull; covered 18446744073709551615
+# A trace that was begun in the first version goes on in the second.
+store 3; bytes 0 00; bytes 1 01_44425431_01_0002_00000064_0000000000000001_0000000000000002_0000000000000000_01_00000070_<e><e>_00; bytes 2 01_44425431_01_0002_00000064_0000000000000002_0000000000000004_0000000000000000_00; resume wrap; put E; put E; close; files; list => ok; ok; ok; ok; resumed 4; entry 4; entry 5; closed; file 0 length 41 gate 01; file 1 length 1 gate 00; file 2 length 154 gate 01; before entries 4 dropped 0; 4 R; 5 R; end_of_trace
+";
+    assert_eq!(rt; first_wrong(rt.alloc(), rows)?, None);
+    Ok(())
+}
+
+#[test]
+fn a_wrap_is_refused_where_it_cannot_be(rt: HostRuntime) -> Result<(), Fail> {
+    let rows = "
+store 2; create wrap 100 2 => ok; refused 2 BadSpec
+# A count or a time is refused before the store is asked.
+store 3; fuse 0; create wrap 0 0; create wrap 0 1001; create time 0 2; create time 1 0; create time 1 1001; create wrap 0 2 => ok; ok; refused 2 BadSpec; refused 2 BadSpec; refused 2 BadSpec; refused 2 BadSpec; refused 2 BadSpec; refused 3 Device
+store 3; create wrap 4294967295 2; abandon; create wrap 100 2; create file L; resume file L => ok; ok; ok; refused 1 NotBlank; refused 1 NotBlank; refused 3 WrongKind
+create file L; abandon; resume wrap => ok; ok; refused 3 WrongKind
+store 3; resume wrap; create time 1 2; close; resume wrap => ok; refused 2 Blank; ok; closed; refused 1 Sealed
+store 2; bytes 0 01_44425432_01_0002_00000064_0000000000000000_0000000000000000_0000000000000000_00; resume wrap => ok; ok; refused 4 BadSpec
+store 1; bytes 0 01_44425432_01_0002_00000064_0000000000000000_0000000000000000_0000000000000000_01_0000ffff; resume wrap => ok; ok; refused 5 Recover 1 Damaged file 0 at 36
+store 3; create wrap 1 2; create wrap 1 2; create time 1 2; resume wrap => ok; ok; out of order; out of order; out of order
+";
+    assert_eq!(rt; first_wrong(rt.alloc(), rows)?, None);
+    Ok(())
+}
+
+#[test]
+fn a_wrap_by_time_cuts_at_ticks(rt: HostRuntime) -> Result<(), Fail> {
+    let rows = "
+store 3; create time 1000 2; tick 5000; put E; tick 6000; tick 6001; tick 7002; put E; abandon; files; list => ok; ok; open; entry 0; open; cut; cut; entry 1; ok; file 0 length 1 gate 00; file 1 length 37 gate 01; file 2 length 37 gate 01; before entries 1 dropped 0; end_of_trace
+# A time before the first is no time.
+store 3; create time 1000 2; tick 5000; tick 10; tick 6001; seal; tick 9000 => ok; ok; open; open; cut; sealed; refused 3 Sealed
+# The greatest generation has no next one.
+store 2; bytes 1 01_44425432_02_0001_0000000a_ffffffffffffffff_0000000000000000_0000000000000000_00; resume wrap; tick 0; tick 11 => ok; ok; resumed 0; open; refused 4 CountFull
+";
+    assert_eq!(rt; first_wrong(rt.alloc(), rows)?, None);
+    Ok(())
+}
+
+/// `STATE` is one of the states of a wrap that is half done.
+#[test]
+fn a_half_done_wrap_is_finished_by_a_resumption(rt: HostRuntime) -> Result<(), Fail> {
+    let states = [
+        // The newest file exceeds the size.
+        "store 3; bytes 0 01_44425432_01_0002_00000064_0000000000000000_0000000000000000_0000000000000000_01_00000070_<e><e>_00; bytes 1 01_44425432_01_0002_00000064_0000000000000001_0000000000000002_0000000000000000_01_00000070_<e><e>_00; bytes 2 -",
+        // The next file is open too.
+        "store 3; bytes 0 01_44425432_01_0002_00000064_0000000000000000_0000000000000000_0000000000000000_01_00000070_<e><e>_00; bytes 1 01_44425432_01_0002_00000064_0000000000000001_0000000000000002_0000000000000000_01_00000070_<e><e>_00; bytes 2 01_44425432_01_0002_00000064_0000000000000002_0000000000000004_0000000000000000_00",
+        // And the oldest is closed.
+        "store 3; bytes 0 00; bytes 1 01_44425432_01_0002_00000064_0000000000000001_0000000000000002_0000000000000000_01_00000070_<e><e>_00; bytes 2 01_44425432_01_0002_00000064_0000000000000002_0000000000000004_0000000000000000_00",
+    ];
+    let rows = "
+STATE; resume wrap; abandon; files; list => .. ok; resumed 4; ok; file 0 length 1 gate 00; file 1 length 154 gate 01; file 2 length 37 gate 01; before entries 2 dropped 0; 2 R; 3 R; end_of_trace
+# It is finished by the next where the device fails.
+K 0 99: STATE; fuse K; resume wrap; crash kept; resume wrap => .. refused 5 Recover 4 Device; ok; resumed 4 | .. resumed 4; ok; resumed 4
+STATE; fuse 0; resume wrap; crash kept; resume wrap => .. refused 5 Recover 4 Device; ok; resumed 4
+STATE; fuse 99; resume wrap; crash kept; resume wrap => .. resumed 4; ok; resumed 4
+";
+    for state in states {
+        let rows = rows.replace(rt.alloc(), "STATE", state)?;
+        assert_eq!(rt; first_wrong(rt.alloc(), rows.as_str())?, None);
+    }
+    Ok(())
+}
+
+/// Calls 0 to 13 are those of a creation, 14 to 25 those of the first wrap, 26 to 41 those of the second.
+#[test]
+fn a_wrap_whose_device_fails_keeps_a_prefix(rt: HostRuntime) -> Result<(), Fail> {
+    let rows = "
+K 0 12: store 3; fuse K; create wrap 100 2; put E; put E; put E; put E; crash kept; list; resume wrap => ok; ok; refused 3 Device; out of order; out of order; out of order; out of order; ok; end_of_trace; refused 2 Blank
+K 13: store 3; fuse K; create wrap 100 2; put E; put E; put E; put E; crash kept; list; resume wrap => ok; ok; refused 3 Device; out of order; out of order; out of order; out of order; ok; end_of_trace; resumed 0
+K 14 16: store 3; fuse K; create wrap 100 2; put E; put E; put E; put E; crash kept; list; resume wrap => ok; ok; ok; entry 0; refused 1 Device; refused 2 Broken; refused 2 Broken; ok; end_of_trace; resumed 0
+K 17 25: store 3; fuse K; create wrap 100 2; put E; put E; put E; put E; crash kept; list; resume wrap => ok; ok; ok; entry 0; refused 1 Device; refused 2 Broken; refused 2 Broken; ok; 0 R; 1 R; end_of_trace; resumed 2
+K 26 28: store 3; fuse K; create wrap 100 2; put E; put E; put E; put E; crash kept; list; resume wrap => ok; ok; ok; entry 0; entry 1; entry 2; refused 1 Device; ok; 0 R; 1 R; end_of_trace; resumed 2
+K 29 41: store 3; fuse K; create wrap 100 2; put E; put E; put E; put E; crash kept; list; resume wrap => ok; ok; ok; entry 0; entry 1; entry 2; refused 1 Device; ok; before entries 2 dropped 0; 2 R; 3 R; end_of_trace; resumed 4
+store 3; fuse 42; create wrap 100 2; put E; put E; put E; put E; crash kept; list; resume wrap => ok; ok; ok; entry 0; entry 1; entry 2; entry 3; ok; before entries 2 dropped 0; 2 R; 3 R; end_of_trace; resumed 4
+# Once a call has failed, the port takes nothing more.
+K 14 16: store 3; failonce K; create wrap 100 2; put E; put E; put E; put E; put E; flush; abandon; resume wrap => ok; ok; ok; entry 0; refused 1 Device; refused 2 Broken; refused 2 Broken; refused 2 Broken; refused 2 Broken; ok; resumed 0
+K 17 25: store 3; failonce K; create wrap 100 2; put E; put E; put E; put E; put E; flush; abandon; resume wrap => ok; ok; ok; entry 0; refused 1 Device; refused 2 Broken; refused 2 Broken; refused 2 Broken; refused 2 Broken; ok; resumed 2
+K 26 28: store 3; failonce K; create wrap 100 2; put E; put E; put E; put E; put E; flush; abandon; resume wrap => ok; ok; ok; entry 0; entry 1; entry 2; refused 1 Device; refused 2 Broken; refused 2 Broken; ok; resumed 2
+K 29 41: store 3; failonce K; create wrap 100 2; put E; put E; put E; put E; put E; flush; abandon; resume wrap => ok; ok; ok; entry 0; entry 1; entry 2; refused 1 Device; refused 2 Broken; refused 2 Broken; ok; resumed 4
+K 42 44: store 3; failonce K; create wrap 100 2; put E; put E; put E; put E; put E; flush; abandon; resume wrap => ok; ok; ok; entry 0; entry 1; entry 2; entry 3; entry 4; refused 1 Device; ok; resumed 4
+store 3; failonce 45; create wrap 100 2; put E; put E; put E; put E; put E; flush; abandon; resume wrap => ok; ok; ok; entry 0; entry 1; entry 2; entry 3; entry 4; refused 1 Device; ok; resumed 5
+";
+    assert_eq!(rt; first_wrong(rt.alloc(), rows)?, None);
+    Ok(())
+}
+
+/// `PICK` is what a crash leaves of the bytes that weren't synced.
+#[test]
+fn a_wrap_that_a_crash_ends_keeps_a_prefix(rt: HostRuntime) -> Result<(), Fail> {
+    let rows = "
+K 0 17: store 3; fuse K; create wrap 100 2; put E; put E; put E; put E; crash PICK; list; resume wrap => .. ok; end_of_trace; refused 2 Blank | .. ok; end_of_trace; resumed 0 | .. ok; 0 R; 1 R; end_of_trace; resumed 2
+K 18 29: store 3; fuse K; create wrap 100 2; put E; put E; put E; put E; crash PICK; list; resume wrap => .. ok; 0 R; 1 R; end_of_trace; resumed 2 | .. ok; before entries 2 dropped 0; 2 R; 3 R; end_of_trace; resumed 4
+K 30 42: store 3; fuse K; create wrap 100 2; put E; put E; put E; put E; crash PICK; list; resume wrap => .. ok; before entries 2 dropped 0; 2 R; 3 R; end_of_trace; resumed 4
+# By time: calls 14 to 17 commit the entry, the first cut ends with call 25, and the second opens a file by call 33.
+K 0 17: store 3; fuse K; create time 1000 2; tick 5000; put E; tick 6000; tick 6001; tick 7002; put E; crash PICK; list => .. ok; end_of_trace | .. ok; 0 R; end_of_trace
+K 18 25: store 3; fuse K; create time 1000 2; tick 5000; put E; tick 6000; tick 6001; tick 7002; put E; crash PICK; list => .. ok; 0 R; end_of_trace
+K 26 33: store 3; fuse K; create time 1000 2; tick 5000; put E; tick 6000; tick 6001; tick 7002; put E; crash PICK; list => .. ok; 0 R; end_of_trace | .. ok; before entries 1 dropped 0; end_of_trace
+K 34 38: store 3; fuse K; create time 1000 2; tick 5000; put E; tick 6000; tick 6001; tick 7002; put E; crash PICK; list => .. ok; before entries 1 dropped 0; end_of_trace
+";
+    for pick in ["kept", "low 00", "low 01", "high 00", "high 01"] {
+        let rows = rows.replace(rt.alloc(), "PICK", pick)?;
+        assert_eq!(rt; first_wrong(rt.alloc(), rows.as_str())?, None);
+    }
+    Ok(())
+}
+
+#[test]
+fn only_new_files_of_a_resumed_wrap_are_of_the_second_version(rt: HostRuntime) -> Result<(), Fail> {
+    let alloc = rt.alloc();
+    let mut store = MemStore::blank(alloc, 3)?;
+    let mut written: Vec<u8> = Vec::new(alloc);
+    let text = script(
+        alloc,
+        "bytes 0 00; bytes 1 01_44425431_01_0002_00000064_0000000000000001_0000000000000002_0000000000000000_01_00000070_<e><e>_00; bytes 2 01_44425431_01_0002_00000064_0000000000000002_0000000000000004_0000000000000000_00; resume wrap; put E; put E; close",
+    )?;
+    let mut reader = text.as_bytes();
+    let done = run_lines(
+        alloc,
+        &mut store,
+        &mut Script::new(alloc, &mut reader)?,
+        &mut Answers::new(&mut written),
+    );
+    assert!(rt; done.is_ok());
+    assert_eq!(rt; store.files(), 3);
+    assert!(rt;
+        matches!(bytes_of(alloc, &mut store, 0), Ok(bytes) if bytes.starts_with(b"\x01DBT2"))
+    );
+    assert!(rt;
+        matches!(bytes_of(alloc, &mut store, 2), Ok(bytes) if bytes.starts_with(b"\x01DBT1"))
+    );
+    Ok(())
+}
+
+#[test]
 fn terms_are_listed(rt: HostRuntime) -> Result<(), Fail> {
     let rows = "
 create file L; put 8377026f6b; flush; abandon; list => ok; entry 0; covered 1; ok; 0 other ok; end_of_trace
@@ -289,6 +476,15 @@ desk => => line 1: bad command, 2
 tick => => line 1: bad command, 2
 tick 01 => => line 1: bad command, 2
 create file 99; tick 18446744073709551615; tick 18446744073709551616 => ok; open => line 3: bad command, 2
+create wrap 4294967296 2 => => line 1: bad command, 2
+create wrap 100 65536 => => line 1: bad command, 2
+create wrap 0100 2 => => line 1: bad command, 2
+create wrap 100 => => line 1: bad command, 2
+create time 4294967296 2 => => line 1: bad command, 2
+create time 1 65536 => => line 1: bad command, 2
+create time 1 2 3 => => line 1: bad command, 2
+resume wrap 2 => => line 1: bad command, 2
+resume time => => line 1: bad command, 2
 ";
     assert_eq!(rt; first_wrong(rt.alloc(), rows)?, None);
     Ok(())
