@@ -12,13 +12,13 @@ use Rattle.trace_message.specs.declared.word.Word.{Word}
 use Rattle.trace_message.specs.declared.word.Word.TheVariants.{Trace, TraceTs, Call, ReturnFrom, ExceptionFrom, Send, SendToNonExistingProcess, Receive}
 use Rattle.trace_message.specs.Events as events
 use Rattle.trace_message.specs.Events.{EventData}
-use Rattle.trace_message.specs.Kinds.{IsRow, IsMessage, plain, stamped, calls, calls_with_arity, returns, raises, sends, sends_lost, receives, seen_of}
+use Rattle.trace_message.specs.Kinds.{IsRow, moment, monotonic, IsMessage, plain, stamped, calls, calls_with_arity, returns, raises, sends, sends_lost, receives, seen_of}
 use Rattle.trace_message.specs.Messages.{called_with, row_of, told_by, is_asked, message_of}
 use Rattle.trace_message.specs.Shapes.{list_of, is_atom, is_int, is_list, is_function, is_reason, is_call, is_return, is_exception, is_one, is_two, only_if, kind_behind, row_kind, ends_with_stamp, front_of, stamped_row_kind, kind_under, parts_kind, kind_of}
 use Rattle.trace_message.specs.Texts.{text_trace, text_trace_ts, text_call, text_return_from, text_exception_from, text_send, text_send_to_non_existing_process, text_receive}
 use Rattle.trace_message.specs.Tuples.{tuple_of, pair_of, triple_of, function_of}
 use Rattle.trace_message.specs.Words.{text_of, word_named}
-use Rattle.trace_message.proofs.ShapeLemmas.{list_of-members_of, members_of-list_of, both, atom_is, int_is, ends_is, stamped_row_kind-snoc}
+use Rattle.trace_message.proofs.ShapeLemmas.{list_of-members_of, members_of-list_of, both, atom_is, int_is, is_stamp_of, ends_is, stamped_row_kind-snoc}
 
 -- ---- words
 
@@ -176,7 +176,7 @@ row_sound (binary bytes ∷ row) seen e = absurd cc
 stamped_if : (p : Pid) (row : List Data) (seen : Seen) (b : Bool) → ends_with_stamp row ≡ b → cond b (row_kind (front_of row)) None ≡ Some seen → IsMessage seen (tuple_of (atom text_trace_ts ∷ pid p ∷ row))
 stamped_if p row seen true is e =
     let h = ends_is row is in
-    rw h.1.1.1 (stamped seen p (front_of row) h.0 h.1.0 h.1.1.0 (row_sound (front_of row) seen e))
+    rw h.1.1 (stamped seen p (front_of row) h.0 (row_sound (front_of row) seen e) h.1.0)
 stamped_if p row seen false is e = absurd cc
 
 under : (head : List ℕ) (w : Option Word) (p : Pid) (row : List Data) (seen : Seen) → word_named head ≡ w → kind_under w row ≡ Some seen → IsMessage seen (tuple_of (atom head ∷ pid p ∷ row))
@@ -236,9 +236,8 @@ stamped_complete row = refl
 complete : (seen : Seen) (t : Data) → IsMessage seen t → kind_of t ≡ Some seen
 complete _ _ (plain seen p row h) =
     rw (list_of-members_of row) (plain_complete row ∙ row_complete seen row h)
-complete _ _ (stamped seen p row mega sec micro h) =
-    let stamp = triple_of (int mega) (int sec) (int micro) in
-    rw (list_of-members_of (row ++ stamp ∷ [])) (stamped_complete (row ++ stamp ∷ []) ∙ stamped_row_kind-snoc row stamp ∙ row_complete seen row h)
+complete _ _ (stamped seen p row stamp h is) =
+    rw (list_of-members_of (row ++ stamp ∷ [])) (stamped_complete (row ++ stamp ∷ []) ∙ stamped_row_kind-snoc row stamp ∙ ap (λ b. cond b (row_kind row) None) (is_stamp_of stamp is) ∙ row_complete seen row h)
 
 pub kind_is : (t : Data) (seen : Seen) → (kind_of t ≡ Some seen) ↔ IsMessage seen t
 kind_is t seen = (sound t seen, complete seen t)
@@ -282,9 +281,10 @@ row_is flags (events.send msg target) = sends msg target
 row_is flags (events.send_lost msg target) = sends_lost msg target
 row_is flags (events.receive msg) = receives msg
 
-told_is : (seen : Seen) (flags : Flags) (p : Pid) (stamp : Stamp) (row : List Data) (b : Bool) → flags.timestamp ≡ b → IsRow seen row → IsMessage seen (told_by flags p stamp row)
-told_is seen flags p stamp row true is h = rw is (stamped seen p row _ _ _ h)
-told_is seen flags p stamp row false is h = rw is (plain seen p row h)
+told_is : (seen : Seen) (flags : Flags) (p : Pid) (stamp : Stamp) (row : List Data) (a b : Bool) → flags.timestamp ≡ a → flags.monotonic ≡ b → IsRow seen row → IsMessage seen (told_by flags p stamp row)
+told_is seen flags p stamp row true b first second h = rw first (stamped seen p row _ h (moment _ _ _))
+told_is seen flags p stamp row false true first second h = rw (first, second) (stamped seen p row _ h (monotonic _))
+told_is seen flags p stamp row false false first second h = rw (first, second) (plain seen p row h)
 
 asked : (b : Bool) (t u : Data) → cond b (Some t) None ≡ Some u → t ≡ u
 asked true t u e = cc
@@ -295,4 +295,4 @@ pub message_kind : (event : EventData) (p : Pid) (flags : Flags) (stamp : Stamp)
 message_kind event p flags stamp t e =
     let row = row_of flags event in
     let same = asked (is_asked flags event) (told_by flags p stamp row) t e in
-    rw (← same) (told_is (seen_of event) flags p stamp row flags.timestamp refl (row_is flags event))
+    rw (← same) (told_is (seen_of event) flags p stamp row flags.timestamp flags.monotonic refl refl (row_is flags event))

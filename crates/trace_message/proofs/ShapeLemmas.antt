@@ -5,6 +5,7 @@ use Rattle.trace_terms.specs.Data.{Data, int, atom, pid, tuple, list, binary, Me
 use Rattle.std.specs.List.{IsLastAndRest}
 use Rattle.trace_terms.specs.declared.term.Term.{Term}
 use Rattle.trace_terms.specs.View.{view, members_of}
+use Rattle.trace_message.specs.Kinds.{IsStamp, moment, monotonic}
 use Rattle.trace_message.specs.Shapes.{list_of, is_atom, is_int, is_stamp, ends_with_stamp, front_of, row_kind, stamped_row_kind}
 use Rattle.trace_message.specs.Tuples.{triple_of}
 
@@ -40,25 +41,30 @@ int_is (tuple ts) e = absurd cc
 int_is (list ts) e = absurd cc
 int_is (binary bytes) e = absurd cc
 
--- ---- the moment at the end
+-- ---- the time stamp at the end
 
-pub stamp_is : (t : Data) → is_stamp t ≡ true → (mega : ℤ) × ((sec : ℤ) × ((micro : ℤ) × (t ≡ triple_of (int mega) (int sec) (int micro))))
+pub stamp_is : (t : Data) → is_stamp t ≡ true → IsStamp t
 stamp_is (tuple (member a (member b (member c no_members)))) e =
     let h = both (is_int a) (is_int b && is_int c) e in
     let k = both (is_int b) (is_int c) h.1 in
     let x = int_is a h.0 in
     let y = int_is b k.0 in
     let z = int_is c k.1 in
-    (x.0, (y.0, (z.0, cc (x.1, y.1, z.1))))
+    let q : tuple (member a (member b (member c no_members))) ≡ triple_of (int x.0) (int y.0) (int z.0) = cc (x.1, y.1, z.1) in
+    rw q (moment x.0 y.0 z.0)
+stamp_is (int n) e = monotonic n
 stamp_is (tuple no_members) e = absurd cc
 stamp_is (tuple (member a no_members)) e = absurd cc
 stamp_is (tuple (member a (member b no_members))) e = absurd cc
 stamp_is (tuple (member a (member b (member c (member d ts))))) e = absurd cc
-stamp_is (int n) e = absurd cc
 stamp_is (atom text) e = absurd cc
 stamp_is (pid p) e = absurd cc
 stamp_is (list ts) e = absurd cc
 stamp_is (binary bytes) e = absurd cc
+
+pub is_stamp_of : (t : Data) → IsStamp t → is_stamp t ≡ true
+is_stamp_of _ (moment mega sec micro) = refl
+is_stamp_of _ (monotonic nanoseconds) = refl
 
 pub ends_with_stamp-snoc : (ts : List Data) (t : Data) → ends_with_stamp (ts ++ t ∷ []) ≡ is_stamp t
 ends_with_stamp-snoc [] t = refl
@@ -73,14 +79,12 @@ front_of-snoc (u ∷ v ∷ ts) t = ap (λ us. u ∷ us) (front_of-snoc (v ∷ ts
 pub stamped_row_kind-snoc : (ts : List Data) (t : Data) → stamped_row_kind (ts ++ t ∷ []) ≡ cond (is_stamp t) (row_kind ts) None
 stamped_row_kind-snoc ts t = rw (ends_with_stamp-snoc ts t, front_of-snoc ts t) refl
 
-pub ends_is : (ts : List Data) → ends_with_stamp ts ≡ true → (mega : ℤ) × ((sec : ℤ) × ((micro : ℤ) × (ts ≡ front_of ts ++ triple_of (int mega) (int sec) (int micro) ∷ [])))
+pub ends_is : (ts : List Data) → ends_with_stamp ts ≡ true → (stamp : Data) × (IsStamp stamp × (ts ≡ front_of ts ++ stamp ∷ []))
 ends_is [] e = absurd cc
-ends_is (t ∷ []) e =
-    let h = stamp_is t e in
-    (h.0, (h.1.0, (h.1.1.0, ap (λ u. u ∷ []) h.1.1.1)))
+ends_is (t ∷ []) e = (t, (stamp_is t e, refl))
 ends_is (t ∷ u ∷ ts) e =
     let h = ends_is (u ∷ ts) e in
-    (h.0, (h.1.0, (h.1.1.0, ap (λ us. t ∷ us) h.1.1.1)))
+    (h.0, (h.1.0, ap (λ us. t ∷ us) h.1.1))
 
 -- ---- terms that are cut before the last
 

@@ -9,7 +9,7 @@ use Rattle.trace_message.specs.Events.{EventData}
 use Rattle.trace_message.specs.Texts.{text_trace, text_trace_ts, text_call, text_return_from, text_exception_from, text_send, text_send_to_non_existing_process, text_receive}
 use Rattle.trace_message.specs.Tuples.{tuple_of, triple_of, function_of, reason_of}
 
--- What stands behind the pid, without a moment: a row of the table each.
+-- What stands behind the pid, without a time stamp: a row of the table each.
 pub data IsRow : Seen → List Data → Type 0 where
   calls : (mod_name fun_name : List ℕ) (args : Members) → IsRow Call (atom text_call ∷ function_of mod_name fun_name (list args) ∷ [])
   calls_with_arity : (mod_name fun_name : List ℕ) (arity : ℤ) → IsRow Call (atom text_call ∷ function_of mod_name fun_name (int arity) ∷ [])
@@ -19,10 +19,15 @@ pub data IsRow : Seen → List Data → Type 0 where
   sends_lost : (message target : Data) → IsRow SendLost (atom text_send_to_non_existing_process ∷ message ∷ target ∷ [])
   receives : (message : Data) → IsRow Receive (atom text_receive ∷ message ∷ [])
 
--- The term is {trace,P,..}, or {trace_ts,P,..,{Mega,Sec,Micro}}, with a row of the kind.
+-- A time stamp: {Mega,Sec,Micro}, or the monotonic time in nanoseconds.
+pub data IsStamp : Data → Type 0 where
+  moment : (mega sec micro : ℤ) → IsStamp (triple_of (int mega) (int sec) (int micro))
+  monotonic : (nanoseconds : ℤ) → IsStamp (int nanoseconds)
+
+-- The term is {trace,P,..}, or {trace_ts,P,..,Stamp}, with a row of the kind.
 pub data IsMessage : Seen → Data → Type 0 where
   plain : (seen : Seen) (p : Pid) (row : List Data) → IsRow seen row → IsMessage seen (tuple_of (atom text_trace ∷ pid p ∷ row))
-  stamped : (seen : Seen) (p : Pid) (row : List Data) (mega sec micro : ℤ) → IsRow seen row → IsMessage seen (tuple_of (atom text_trace_ts ∷ pid p ∷ (row ++ triple_of (int mega) (int sec) (int micro) ∷ [])))
+  stamped : (seen : Seen) (p : Pid) (row : List Data) (stamp : Data) → IsRow seen row → IsStamp stamp → IsMessage seen (tuple_of (atom text_trace_ts ∷ pid p ∷ (row ++ stamp ∷ [])))
 
 -- the kind of an event
 abbrev pub seen_of : EventData → Seen

@@ -1,7 +1,7 @@
 -- The message of an event: ERTS, erlang:trace/3.
 use Rattle.std.specs.Prelude.{List, [], ◌∷◌, ◌++◌, length, Bool, Option, Some, None, if◌then◌else◌}
 use Rattle.trace_terms.specs.declared.term.Pid.{Pid}
-use Rattle.trace_terms.specs.Data.{Data, atom, pid, list}
+use Rattle.trace_terms.specs.Data.{Data, int, atom, pid, list}
 use Rattle.trace_terms.specs.View.{members_of}
 use Rattle.trace_message.specs.declared.event.Flags.{Flags}
 use Rattle.trace_message.specs.declared.event.Stamp.{Stamp}
@@ -32,12 +32,21 @@ row_of flags (send_lost msg target) = atom text_send_to_non_existing_process ∷
 row_of flags (receive msg) = atom text_receive ∷ msg ∷ []
 
 -- {Mega,Sec,Micro}
-abbrev pub stamp_of : Stamp → Data
-stamp_of stamp = triple_of (number stamp.mega) (number stamp.sec) (number stamp.micro)
+abbrev pub moment_of : Stamp → Data
+moment_of stamp = triple_of (number stamp.mega) (number stamp.sec) (number stamp.micro)
 
--- {trace,P,..}, or {trace_ts,P,..,{Mega,Sec,Micro}}
+-- the time stamp that the flags ask for: {Mega,Sec,Micro}, or else the monotonic time
+abbrev pub stamp_of : Flags → Stamp → Option Data
+stamp_of flags stamp = if flags.timestamp then Some (moment_of stamp) else if flags.monotonic then Some (int stamp.mono) else None
+
+-- {trace,P,..}, or {trace_ts,P,..,Stamp}
+abbrev pub told_with : Option Data → Pid → List Data → Data
+told_with None p row = tuple_of (atom text_trace ∷ pid p ∷ row)
+told_with (Some stamp) p row = tuple_of (atom text_trace_ts ∷ pid p ∷ (row ++ stamp ∷ []))
+
+-- what is told of a row, as the flags ask
 abbrev pub told_by : Flags → Pid → Stamp → List Data → Data
-told_by flags p stamp row = if flags.timestamp then tuple_of (atom text_trace_ts ∷ pid p ∷ (row ++ stamp_of stamp ∷ [])) else tuple_of (atom text_trace ∷ pid p ∷ row)
+told_by flags p stamp row = told_with (stamp_of flags stamp) p row
 
 -- the message of an event, where the flags ask for it
 abbrev pub message_of : EventData → Pid → Flags → Stamp → Option Data

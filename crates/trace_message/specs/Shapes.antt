@@ -97,18 +97,19 @@ front_of [] = []
 front_of (t ∷ []) = []
 front_of (t ∷ u ∷ ts) = t ∷ front_of (u ∷ ts)
 
--- {Mega,Sec,Micro}
+-- {Mega,Sec,Micro}, or an integer
 abbrev pub is_stamp : Data → Bool
 is_stamp (tuple parts) = are_integers (list_of parts)
+is_stamp (int n) = true
 is_stamp other = false
 
--- whether the last is {Mega,Sec,Micro}
+-- whether the last is a time stamp
 abbrev pub ends_with_stamp : List Data → Bool
 ends_with_stamp [] = false
 ends_with_stamp (t ∷ []) = is_stamp t
 ends_with_stamp (t ∷ u ∷ ts) = ends_with_stamp (u ∷ ts)
 
--- the kind of a row behind which a moment stands
+-- the kind of a row behind which a time stamp stands
 abbrev pub stamped_row_kind : List Data → Option Seen
 stamped_row_kind row = if ends_with_stamp row then row_kind (front_of row) else None
 

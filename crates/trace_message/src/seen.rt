@@ -44,7 +44,7 @@ fn parts_kind(parts: &[Term]) -> Option<Seen>
     }
 }
 
-/// The kind of a row behind which a moment stands.
+/// The kind of a row behind which a time stamp stands.
 fn stamped_row_kind(row: &[Term]) -> Option<Seen>
     ensures { result ≡ shapes.stamped_row_kind (map view row.now) }
 {
@@ -52,12 +52,13 @@ fn stamped_row_kind(row: &[Term]) -> Option<Seen>
     if is_stamp(last) { row_kind(row) } else { None }
 }
 
-/// `{Mega,Sec,Micro}`.
+/// `{Mega,Sec,Micro}`, or the monotonic time.
 fn is_stamp(term: &Term) -> bool
     ensures { result ≡ shapes.is_stamp (view term.now) }
 {
     match term {
         Term::Tuple(parts) => are_integers(parts),
+        Term::Int(_) => true,
         _ => false,
     }
 }
