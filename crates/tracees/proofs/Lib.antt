@@ -1,0 +1,15 @@
+pub mod Acting
+pub mod Agreements
+pub mod Answered
+pub mod Audits
+pub mod Carried
+pub mod Composed
+pub mod Counted
+pub mod Eithers
+pub mod Kept
+pub mod Lenders
+pub mod Moved
+pub mod Places
+pub mod Recovering
+pub mod Runs
+pub mod StepByStep

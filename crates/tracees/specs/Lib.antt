@@ -1,0 +1,14 @@
+pub mod Agreement
+pub mod Books
+pub mod Desks
+pub mod Effects
+pub mod Either
+pub mod Emits
+pub mod Hands
+pub mod Lent
+pub mod Moments
+pub mod Moving
+pub mod PortCalls
+pub mod Prefixes
+pub mod States
+pub mod Steps

@@ -1,0 +1,24 @@
+-- The desks and tracees in memory, as the state of a run.
+use Rattle.std.specs.Prelude.{List, map}
+use Rattle.trace_port.specs.declared.port.TracePort.{Ghosts as PortGhosts}
+use Rattle.tracees.specs.Desks.{Place, Seat}
+use Rattle.tracees.specs.Steps.{State}
+use Rattle.tracees.specs.declared.book.Bookkeeping.{Ghosts as BookGhosts}
+use Rattle.tracees.specs.declared.desk.Desk.{Desk}
+use Rattle.tracees.specs.declared.traced.Traced.{Traced}
+
+-- a desk in memory
+abbrev pub place_of : {P K S : Type 0} (port : PortGhosts P) (keep : BookGhosts K S) → Desk P K S port keep → Place P
+place_of port keep d = record { number = d.number; port = d.port.now; counted = keep.totals_of d.book; attached = keep.attached_of d.book }
+
+-- a tracee in memory
+abbrev pub seat_of : {K S : Type 0} (keep : BookGhosts K S) → Traced K S keep → Seat
+seat_of keep t = record { desk = t.desk; tracee = t.tracee; sums = keep.sums_of t.account.slip }
+
+-- desks in memory, beside any tracees
+abbrev pub places_with : {P K S : Type 0} (port : PortGhosts P) (keep : BookGhosts K S) → List (Desk P K S port keep) → List Seat → State P
+places_with port keep desks tracees = record { desks = map (place_of port keep) desks; tracees = tracees }
+
+-- both in memory
+abbrev pub state_of : {P K S : Type 0} (port : PortGhosts P) (keep : BookGhosts K S) → List (Desk P K S port keep) → List (Traced K S keep) → State P
+state_of port keep desks traced = record { desks = map (place_of port keep) desks; tracees = map (seat_of keep) traced }

@@ -1,0 +1,168 @@
+//! Steps in order, over any number of desks and tracees.
+
+ghost use Rattle.std.specs.Prelude.{◌≡◌, IfOk, OnErr, List, map};
+ghost use Rattle.tracees.specs.Moments.{AreGrown, AreCarried, AreReceiptsKept, EachMoment};
+ghost use Rattle.tracees.specs.Desks.{Seat};
+ghost use Rattle.tracees.specs.States.{places_with, state_of};
+ghost use Rattle.tracees.specs.Steps.{AreNumbered, IsStep, Run};
+ghost use Rattle.tracees.specs.declared.step.Step.TheVariants as steps;
+
+use crate::book::Bookkeeping;
+use crate::desk::Desk;
+use crate::step::{Reply, Step};
+use crate::traced::Traced;
+use std::alloc::Global;
+use trace_message::{Event, Stamp};
+use trace_port::TracePort;
+use trace_terms::NoMemory;
+
+/// A hand-over of at most `limit` entries from a tracee into its desk.
+fn hand_over<P: TracePort, K: Bookkeeping>(
+    alloc: Global,
+    desks: &mut [Desk<'_, P, K>],
+    traced: &mut [Traced<K>],
+    tracee: u32,
+    limit: u32,
+) -> Reply
+    requires { AreNumbered (state_of P.TracePort K.Bookkeeping desks.old traced.old) }
+    ensures step { IsStep P.told (state_of P.TracePort K.Bookkeeping desks.old traced.old) (state_of P.TracePort K.Bookkeeping desks.new traced.new) (steps.HandOver tracee limit) result }
+    ensures loans { map (λ d. d.port.ghost_name) desks.new ≡ map (λ d. d.port.ghost_name) desks.old }
+    ensures lenders { map (λ d. P.lender d.port.now) desks.new ≡ map (λ d. P.lender d.port.now) desks.old }
+{
+    let place = tracee as usize;
+    if place >= traced.len() {
+        return Reply::Unknown;
+    }
+    let desk = traced[place].desk() as usize;
+    if desk >= desks.len() {
+        return Reply::Unknown;
+    }
+    Reply::from(desks[desk].hand_over(alloc, &mut traced[place], limit))
+}
+
+/// A flush for a tracee.
+fn flush_for<P: TracePort, K: Bookkeeping>(
+    alloc: Global,
+    desks: &mut [Desk<'_, P, K>],
+    traced: &mut [Traced<K>],
+    tracee: u32,
+) -> Reply
+    requires { AreNumbered (state_of P.TracePort K.Bookkeeping desks.old traced.old) }
+    ensures step { IsStep P.told (state_of P.TracePort K.Bookkeeping desks.old traced.old) (state_of P.TracePort K.Bookkeeping desks.new traced.new) (steps.FlushFor tracee) result }
+    ensures loans { map (λ d. d.port.ghost_name) desks.new ≡ map (λ d. d.port.ghost_name) desks.old }
+    ensures lenders { map (λ d. P.lender d.port.now) desks.new ≡ map (λ d. P.lender d.port.now) desks.old }
+{
+    let place = tracee as usize;
+    if place >= traced.len() {
+        return Reply::Unknown;
+    }
+    let desk = traced[place].desk() as usize;
+    if desk >= desks.len() {
+        return Reply::Unknown;
+    }
+    Reply::from(desks[desk].flush_for(alloc, &mut traced[place]))
+}
+
+/// A flush of a desk.
+fn flush<P: TracePort, K: Bookkeeping>(desks: &mut [Desk<'_, P, K>], desk: u32) -> Reply
+    ensures step { (tracees : List Seat) → IsStep P.told (places_with P.TracePort K.Bookkeeping desks.old tracees) (places_with P.TracePort K.Bookkeeping desks.new tracees) (steps.Flush desk) result }
+    ensures loans { map (λ d. d.port.ghost_name) desks.new ≡ map (λ d. d.port.ghost_name) desks.old }
+    ensures lenders { map (λ d. P.lender d.port.now) desks.new ≡ map (λ d. P.lender d.port.now) desks.old }
+{
+    let place = desk as usize;
+    if place >= desks.len() {
+        return Reply::Unknown;
+    }
+    Reply::from(desks[place].flush())
+}
+
+/// The end of a desk's trace.
+fn seal<P: TracePort, K: Bookkeeping>(desks: &mut [Desk<'_, P, K>], desk: u32) -> Reply
+    ensures step { (tracees : List Seat) → IsStep P.told (places_with P.TracePort K.Bookkeeping desks.old tracees) (places_with P.TracePort K.Bookkeeping desks.new tracees) (steps.Seal desk) result }
+    ensures loans { map (λ d. d.port.ghost_name) desks.new ≡ map (λ d. d.port.ghost_name) desks.old }
+    ensures lenders { map (λ d. P.lender d.port.now) desks.new ≡ map (λ d. P.lender d.port.now) desks.old }
+{
+    let place = desk as usize;
+    if place >= desks.len() {
+        return Reply::Unknown;
+    }
+    Reply::from(desks[place].seal())
+}
+
+/// A desk's port is told the time.
+fn tick<P: TracePort, K: Bookkeeping>(desks: &mut [Desk<'_, P, K>], desk: u32, now: u64) -> Reply
+    ensures step { (tracees : List Seat) → IsStep P.told (places_with P.TracePort K.Bookkeeping desks.old tracees) (places_with P.TracePort K.Bookkeeping desks.new tracees) (steps.Tick desk now) result }
+    ensures loans { map (λ d. d.port.ghost_name) desks.new ≡ map (λ d. d.port.ghost_name) desks.old }
+    ensures lenders { map (λ d. P.lender d.port.now) desks.new ≡ map (λ d. P.lender d.port.now) desks.old }
+{
+    let place = desk as usize;
+    if place >= desks.len() {
+        return Reply::Unknown;
+    }
+    Reply::from(desks[place].tick(now))
+}
+
+/// One step.
+fn act<P: TracePort, K: Bookkeeping>(
+    alloc: Global,
+    desks: &mut [Desk<'_, P, K>],
+    traced: &mut [Traced<K>],
+    step: &Step,
+) -> Reply
+    requires { AreNumbered (state_of P.TracePort K.Bookkeeping desks.old traced.old) }
+    ensures step { IsStep P.told (state_of P.TracePort K.Bookkeeping desks.old traced.old) (state_of P.TracePort K.Bookkeeping desks.new traced.new) step.now result }
+    ensures loans { map (λ d. d.port.ghost_name) desks.new ≡ map (λ d. d.port.ghost_name) desks.old }
+    ensures lenders { map (λ d. P.lender d.port.now) desks.new ≡ map (λ d. P.lender d.port.now) desks.old }
+{
+    match step {
+        Step::Emit {
+            tracee,
+            event,
+            stamp,
+        } => {
+            let place = *tracee as usize;
+            if place >= traced.len() {
+                return Reply::Unknown;
+            }
+            Reply::from(traced[place].emit(alloc, event, *stamp))
+        }
+        Step::HandOver { tracee, limit } => hand_over(alloc, desks, traced, *tracee, *limit),
+        Step::FlushFor { tracee } => flush_for(alloc, desks, traced, *tracee),
+        Step::Flush { desk } => flush(desks, *desk),
+        Step::Seal { desk } => seal(desks, *desk),
+        Step::Tick { desk, now } => tick(desks, *desk, *now),
+    }
+}
+
+/// Takes steps in order. The replies are a run from the desks and tracees handed in, which stand afterwards in its last
+/// state; and at each moment of it the desks' stores have what was covered.
+///
+/// The desk at place `i` has the number `i`. Without room for the replies nothing is done.
+pub fn drive<P: TracePort, K: Bookkeeping>(
+    alloc: Global,
+    desks: &mut [Desk<'_, P, K>],
+    traced: &mut [Traced<K>],
+    steps: &[Step],
+) -> Result<Vec<Reply>, NoMemory>
+    requires numbered { AreNumbered (state_of P.TracePort K.Bookkeeping desks.old traced.old) }
+    ensures run { IfOk result (λ replies. Run P.told (state_of P.TracePort K.Bookkeeping desks.old traced.old) steps.now replies.items
+        (state_of P.TracePort K.Bookkeeping desks.new traced.new)) }
+    ensures grown { IfOk result (λ replies. AreGrown P.told (state_of P.TracePort K.Bookkeeping desks.old traced.old) steps.now replies.items
+        (state_of P.TracePort K.Bookkeeping desks.new traced.new)) }
+    ensures carried { IfOk result (λ replies. AreCarried (state_of P.TracePort K.Bookkeeping desks.old traced.old) steps.now replies.items
+        (state_of P.TracePort K.Bookkeeping desks.new traced.new)) }
+    ensures moments { IfOk result (λ replies. EachMoment P.told (state_of P.TracePort K.Bookkeeping desks.old traced.old) steps.now replies.items
+        (state_of P.TracePort K.Bookkeeping desks.new traced.new)) }
+    ensures receipts { IfOk result (λ replies. AreReceiptsKept P.told (state_of P.TracePort K.Bookkeeping desks.old traced.old) replies.items
+        (state_of P.TracePort K.Bookkeeping desks.new traced.new)) }
+    ensures err { OnErr result (state_of P.TracePort K.Bookkeeping desks.new traced.new ≡ state_of P.TracePort K.Bookkeeping desks.old traced.old) }
+    ensures loans { map (λ d. d.port.ghost_name) desks.new ≡ map (λ d. d.port.ghost_name) desks.old }
+    ensures lenders { map (λ d. P.lender d.port.now) desks.new ≡ map (λ d. P.lender d.port.now) desks.old }
+{
+    let mut replies = Vec::with_capacity(alloc, steps.len())?;
+    for step in steps {
+        let reply = act(alloc, desks, traced, step);
+        replies.push_reserved(reply);
+    }
+    Ok(replies)
+}

@@ -1,0 +1,67 @@
+//! What a lender knows of a port, or of a store, that went through a desk.
+
+ghost use Rattle.std.specs.Prelude.{◌≡◌, ◌<◌, ◌++◌, ℕ, [], length};
+ghost use Rattle.trace_store.specs.Disk.{file_of};
+ghost use Rattle.segment.specs.Specification.{File};
+ghost use Rattle.recovery.specs.Views.{View, total};
+ghost use Rattle.intake.specs.Tracees.{waiting_of};
+ghost use Rattle.trace_port.specs.Device.{device_of, Leaves};
+ghost use Rattle.trace_port.specs.Sound.{Sound};
+ghost use Rattle.trace_port.specs.Port.{Fits, IsSaved};
+ghost use Rattle.trace_port.specs.Opened.{opened_told};
+ghost use Rattle.tracees.specs.Books.{no_totals};
+ghost use Rattle.tracees.specs.Hands.{moved_by, items_moved};
+ghost use Rattle.tracees.specs.Lent.{HandsOne};
+
+use crate::book::{Bookkeeping, PlainBook};
+use crate::desk::Desk;
+use crate::receipt::{HandFault, Receipt};
+use intake::Tracee;
+use std::alloc::Global;
+use trace_port::{FilePort, Opening, Room, TracePort};
+use trace_store::Store;
+
+/// A desk over a lent port hands over at most `limit` entries of one tracee, and its drop ends the trace.
+pub fn hand_one<P: TracePort, K: Bookkeeping>(
+    alloc: Global,
+    port: &mut P,
+    number: u32,
+    book: K,
+    tracee: Tracee,
+    limit: u32,
+) -> (Tracee, Result<Receipt, HandFault>)
+    requires totals { K.totals_of book ≡ no_totals }
+    requires attached { K.attached_of book < 4294967295 }
+    ensures same { P.lender port.new ≡ P.lender port.old }
+    ensures hands { HandsOne P.told number port.old port.new limit tracee result.0 result.1 }
+{
+    let mut desk = Desk::new(number, port, book);
+    let mut traced = desk.attach(tracee);
+    let answer = desk.hand_over(alloc, &mut traced, limit);
+    drop(desk);
+    let (tracee, _) = traced.detach();
+    (tracee, answer)
+}
+
+/// A desk over a file port hands over at most `limit` entries of one tracee, and its drop ends the file. At each
+/// moment the store was sound; and then all that moved is there, sealed, or the store has failed.
+pub fn record_one<S: Store + Send, R: Room + Send>(
+    alloc: Global,
+    store: &mut S,
+    opening: Opening<R>,
+    tracee: Tracee,
+    limit: u32,
+) -> (Tracee, Result<Receipt, HandFault>)
+    requires some { 0 < length (S.reads store.old) }
+    requires within { S.honest store.old → opening.gate < length (file_of (S.reads store.old) 0) }
+    ensures rest { waiting_of tracee ≡ moved_by result.1 ++ waiting_of result.0 }
+    ensures moments { S.honest store.new → (v0 : View) → Fits (opened_told R.Room opening (device_of S.Store store.old)) v0 [] (total v0)
+        → Leaves (device_of S.Store store.old) (device_of S.Store store.new) (Sound File v0 (items_moved result.1) (total v0)) }
+    ensures saved { S.honest store.new → (v0 : View) → Fits (opened_told R.Room opening (device_of S.Store store.old)) v0 [] (total v0)
+        → (gate : ℕ) × IsSaved (opened_told R.Room opening (device_of S.Store store.old)) (device_of S.Store store.new) v0 (items_moved result.1) gate }
+{
+    let mut port = FilePort::over(store, opening);
+    let done = hand_one(alloc, &mut port, 0, PlainBook::new(), tracee, limit);
+    drop(port);
+    done
+}

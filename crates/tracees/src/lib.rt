@@ -1,0 +1,36 @@
+//! Desks: many traced processes hand over what waits of their messages into one port, and know by receipts what it
+//! took. A run of steps over any number of desks and tracees answers what one step after another may answer, and at
+//! each moment of it the desks' stores keep what was covered.
+#![tactic(auto)]
+
+mod accepting;
+mod account;
+mod auditing;
+mod book;
+mod desk;
+mod driving;
+mod either;
+mod laws;
+mod lender;
+mod receipt;
+mod step;
+mod traced;
+
+pub use account::Account;
+pub use auditing::{Mismatch, audit};
+pub use book::{Bookkeeping, PlainAccount, PlainBook, Totals};
+pub use desk::Desk;
+pub use driving::drive;
+pub use either::{EitherPort, put_as_file, put_as_wrap};
+pub use laws::recovered_is_a_prefix;
+pub use lender::{hand_one, record_one};
+pub use receipt::{HandFault, Receipt};
+pub use step::{Reply, Step};
+pub use traced::Traced;
+
+#[cfg(test)]
+mod tests;
+#[cfg(test)]
+mod tests_auditing;
+#[cfg(test)]
+mod tests_either;
