@@ -33,4 +33,6 @@ mod tests;
 #[cfg(test)]
 mod tests_auditing;
 #[cfg(test)]
+mod tests_driving;
+#[cfg(test)]
 mod tests_either;

@@ -1,5 +1,6 @@
 use crate::either::{EitherPort, put_as_file, put_as_wrap};
 use entry_codec::Entry;
+use std::alloc::Global;
 use std::test::Fail;
 use trace_port::{FilePort, Pending, PortFault, TracePort};
 use trace_store::MemStore;
@@ -8,23 +9,43 @@ const GREATEST: u64 = 1_099_511_627_776;
 
 type Port<'s> = FilePort<'s, MemStore, Pending>;
 
-/// Puts messages that were lost into a port of any kind, and flushes it.
-fn put_and_flush<P: TracePort>(port: &mut P) -> (Result<u64, PortFault>, Result<u64, PortFault>) {
-    let accepted = port.accept(&Entry::Drop(7));
-    (accepted, port.flush())
+type Answers = Vec<(Result<u64, PortFault>, Result<u64, PortFault>)>;
+
+/// Puts messages that were lost into one port after the other, and flushes each.
+fn put_into_each<P: TracePort>(alloc: Global, ports: &mut [P]) -> Result<Answers, Fail> {
+    let mut answers = Vec::new(alloc);
+    for port in ports {
+        let accepted = port.accept(&Entry::Drop(7));
+        answers.push((accepted, port.flush()))?;
+    }
+    Ok(answers)
+}
+
+fn put_into_both<F: TracePort, W: TracePort>(
+    alloc: Global,
+    file: &mut F,
+    wrap: &mut W,
+) -> Result<Answers, Fail> {
+    let mut ports = Vec::new(alloc);
+    ports.push(EitherPort::file(file))?;
+    ports.push(EitherPort::wrap(wrap))?;
+    put_into_each(alloc, ports.as_mut_slice())
 }
 
 #[test]
-fn each_kind_takes_entries(rt: HostRuntime) -> Result<(), Fail> {
-    let mut store = MemStore::blank(rt.alloc(), 1)?;
-    let mut port = FilePort::create(rt.alloc(), &mut store, GREATEST)?;
-    let mut file: EitherPort<'_, _, Port> = EitherPort::file(&mut port);
-    assert_eq!(rt; put_and_flush(&mut file), (Ok(0), Ok(1)));
-    drop(file);
-    let mut wrap: EitherPort<'_, Port, _> = EitherPort::wrap(&mut port);
-    assert_eq!(rt; put_and_flush(&mut wrap), (Ok(1), Ok(2)));
-    drop(wrap);
-    assert_eq!(rt; port.status().covered, 2);
+fn ports_of_either_kind_lie_in_one_slice(rt: HostRuntime) -> Result<(), Fail> {
+    let mut one_store = MemStore::blank(rt.alloc(), 1)?;
+    let mut other_store = MemStore::blank(rt.alloc(), 1)?;
+    let mut one = FilePort::create(rt.alloc(), &mut one_store, GREATEST)?;
+    let mut other = FilePort::create(rt.alloc(), &mut other_store, GREATEST)?;
+    assert_eq!(rt; other.accept(&Entry::Drop(7)), Ok(0));
+    let answers = put_into_both(rt.alloc(), &mut one, &mut other)?;
+    assert_eq!(rt;
+        answers.as_slice(),
+        [(Ok(0), Ok(1)), (Ok(1), Ok(2))].as_slice()
+    );
+    assert_eq!(rt; one.status().covered, 1);
+    assert_eq!(rt; other.status().covered, 2);
     Ok(())
 }
 

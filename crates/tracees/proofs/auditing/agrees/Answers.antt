@@ -1,4 +1,4 @@
-use Rattle.std.proofs.Common.{◌≡◌, ◌+◌, ◌-◌, ◌<◌, ◌≤◌, length, get_or, arith, ap, sym, refl, ◌∙◌, subst}
+use Rattle.std.proofs.Common.{◌≡◌, ◌+◌, ◌-◌, ◌≤◌, length, get_or, arith, ap, sym, refl, ◌∙◌, subst}
 use Rattle.std.specs.Bool.{Decides}
 use Rattle.std.specs.Option.{option_map}
 use Rattle.std.proofs.lemmas.List.{length-map}
@@ -6,7 +6,6 @@ use Rattle.std.proofs.lemmas.Bool.{le-leb, leb-true}
 use Rattle.std.specs.Prelude.{slice_get, Some}
 use Rattle.std.proofs.lemmas.Option.{slice_get-map, slice_get_read}
 use Rattle.entry_codec.specs.Seen.{view, views}
-use Rattle.entry_codec.specs.contracts.model.EntryPartialEq.TheImpl as of_entries
 use Rattle.tracees.specs.Agreement.{newer}
 use Rattle.tracees.proofs.Audits.{same_entries, agrees_inside, agrees_past}
 use Rattle.tracees.proofs.auditing.agrees.Goals as goal

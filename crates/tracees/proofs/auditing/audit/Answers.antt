@@ -1,4 +1,4 @@
-use Rattle.std.proofs.Common.{◌≡◌, suc, ◌<◌, ◌∷◌, ◌++◌, length, get_or, take, drop, arith, ap, sym, ◌∙◌, take-append-drop}
+use Rattle.std.proofs.Common.{suc, ◌∷◌, ◌++◌, take, drop, ap, sym, ◌∙◌, take-append-drop}
 use Rattle.std.proofs.Math.Seq.{drop-cons}
 use Rattle.tracees.specs.declared.receipt.Receipt.{Receipt}
 use Rattle.tracees.proofs.auditing.audit.Goals as goal

@@ -1,4 +1,4 @@
-use Rattle.std.proofs.Common.{◌≡◌, suc, ◌+◌, ◌<◌, ◌≤◌, List, ◌∷◌, [], ◌++◌, length, get_or, take, drop, arith, ap, sym, ◌∙◌, subst, take-append-drop}
+use Rattle.std.proofs.Common.{◌≡◌, suc, ◌+◌, ◌<◌, ◌≤◌, List, ◌∷◌, [], length, get_or, take, drop, arith, ap, sym, ◌∙◌, subst, take-append-drop}
 use Rattle.std.proofs.lemmas.List.{length-map, length-take-le}
 use Rattle.entry_codec.specs.Entries.{Entry}
 use Rattle.entry_codec.specs.Seen.{view, views}

@@ -41,7 +41,8 @@ returns-clause-saved g c h v0 fits =
     let result = c.hand_one-done.result.1 in
     let opened = opened_told g.R.Room c.args.opening in
     let saved = one_saved told (λ p honest image left. laws.only_now p.store.now image honest left) 0 port new (device c.drop.new.self.0) c.args.limit c.args.tracee c.hand_one-done.result.0 result over.live c.hand_one-done.ensures.hands c.drop.ensures
-    (subst g.S.Store.honest back h) v0 (total v0) (over.fits v0 [] (total v0) fits) in
-    (saved.0,
-    subst (λ s. IsSaved (opened (device c.args.store.now)) (device s) v0 (items_moved result) saved.0) (sym back)
-    (subst (λ s. IsSaved (opened (device s)) (device c.drop.new.self.0) v0 (items_moved result) saved.0) over.now saved.1))
+    (subst g.S.Store.honest back h) v0 (total v0) (over.fits v0 [] (total v0) fits) in (
+      saved.0,
+      subst (λ s. IsSaved (opened (device c.args.store.now)) (device s) v0 (items_moved result) saved.0) (sym back)
+          (subst (λ s. IsSaved (opened (device s)) (device c.drop.new.self.0) v0 (items_moved result) saved.0) over.now saved.1),
+    )
