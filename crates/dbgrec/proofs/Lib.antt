@@ -1,3 +1,5 @@
 pub mod Asking
+pub mod Misplaced
+pub mod Placing
 pub mod Running
 pub mod Written

@@ -1,131 +1,68 @@
--- What a line of a script asks of a port, and what may come of it.
-use Rattle.std.specs.Prelude.{◌≡◌, ◌↔◌, ℕ, Bool, true, false, if◌then◌else◌, List, [], ◌∷◌, Result, Ok, Err, IfOk, IfErr, OnOk, IsErrOf}
-use Rattle.entry_codec.specs.Entries.{Entry}
+-- What a line of a script asks of what is held, and what may come of it.
+use Rattle.std.specs.Prelude.{◌≡◌, ℕ, Bool, false, List, [], ◌∷◌, Result}
 use Rattle.entry_codec.specs.Seen.{view}
 use Rattle.entry_codec.specs.declared.model.Entry.{Entry as Stored}
 use Rattle.trace_store.specs.declared.pick.Pick.{Pick}
-use Rattle.recovery.specs.Items.{Item, Kept, Cut}
-use Rattle.recovery.specs.Views.{View}
-use Rattle.trace_port.specs.Port.{Told, Fits, Grows}
-use Rattle.trace_port.specs.Ticks.{due, ticked, opened_by, IsOfTick}
-use Rattle.trace_port.specs.Full.{AnswersFull, AnswersLast}
-use Rattle.trace_port.specs.Calls.{taken, went, IsRefused, IsOfAll, Counts, IsSame, IsUnchanged, HasFailed, IsCovered, abandoned}
-use Rattle.trace_port.specs.declared.kinds.PortState.TheVariants.{Live, Broken, Sealed}
+use Rattle.trace_port.specs.Port.{Told}
+use Rattle.trace_port.specs.Ticks.{due, ticked}
+use Rattle.trace_port.specs.Calls.{taken, went}
+use Rattle.trace_port.specs.Accepts.{Accepts}
 use Rattle.trace_port.specs.declared.kinds.PortFault.{PortFault}
-use Rattle.trace_port.specs.declared.kinds.PortFault.TheVariants as faults
+use Rattle.tracees.specs.Effects.{Effect, effect, no_effect}
+use Rattle.tracees.specs.PortCalls.{Flushes, Seals, Ticks, Abandons}
 use Rattle.dbgrec.specs.declared.line.Line.{Line}
 use Rattle.dbgrec.specs.declared.line.Line.TheVariants as lines
-use Rattle.dbgrec.specs.declared.refusal.Refusal.TheVariants.{Port}
+use Rattle.dbgrec.specs.declared.desk_line.DeskLine.{DeskLine}
+use Rattle.dbgrec.specs.declared.answer.Answer.{Answer}
 use Rattle.dbgrec.specs.declared.answer.Answer.TheVariants as answers
 use Rattle.dbgrec.specs.declared.reply.Leave.TheVariants.{Abandoned, Closed, Crashed}
 use Rattle.dbgrec.specs.declared.reply.Reply.{Reply}
 use Rattle.dbgrec.specs.declared.reply.Reply.TheVariants.{Told as Answered, Left}
+use Rattle.dbgrec.specs.Answers.{put_answer, flush_answer, seal_answer, tick_answer}
+use Rattle.dbgrec.specs.Sides.{DeskSide, Held, Alone, AtDesk, port_of, with_port, new_side}
+use Rattle.dbgrec.specs.DeskLines.{IsAskedAtDesk}
 
--- an accept
-pub record IsPut (old new : Told) (e : Entry) (result : Result ℕ PortFault) : Type 0 where
-  pub grows : Grows old new (taken e result) false
-  pub counts : Counts old new (taken e result)
-  pub number : IfOk result (λ n. n ≡ old.total)
-  pub live : OnOk result (new.state ≡ Live)
-  pub covered : new.covered ≡ old.covered
-  pub broken : (result ≡ Err faults.Broken) ↔ (old.state ≡ Broken)
-  pub sealed : (result ≡ Err faults.Sealed) ↔ (old.state ≡ Sealed)
-  pub full : new.device.honest → (v0 : View) (ys : List Item) (c : ℕ) → Fits old v0 ys c → AnswersFull old v0 ys e result
-  pub refused : IsRefused result → IsUnchanged old new
-  pub failed : IsErrOf result faults.Device → HasFailed old new
+-- a line that is for a port, in a desk or not
+abbrev pub IsOfPort : Line → Type 0
+IsOfPort lines.Flush = Unit {0}
+IsOfPort lines.Seal = Unit {0}
+IsOfPort (lines.Tick now) = Unit {0}
+IsOfPort lines.Abandon = Unit {0}
+IsOfPort lines.Close = Unit {0}
+IsOfPort (lines.Crash pick) = Unit {0}
+IsOfPort _ = ⊥
 
--- a flush
-pub record IsFlush (old new : Told) (result : Result ℕ PortFault) : Type 0 where
-  pub grows : Grows old new [] (went result)
-  pub counts : Counts old new []
-  pub number : IfOk result (λ n. n ≡ old.total)
-  pub covered : OnOk result (IsCovered old new Live)
-  pub broken : (result ≡ Err faults.Broken) ↔ (old.state ≡ Broken)
-  pub sealed : (result ≡ Err faults.Sealed) ↔ (old.state ≡ Sealed)
-  pub others : IfErr result IsOfAll
-  pub refused : IsRefused result → IsUnchanged old new
-  pub failed : IsErrOf result faults.Device → HasFailed old new
+-- a line for a port that isn't in a desk
+abbrev pub IsOfPortAlone : Line → Type 0
+IsOfPortAlone (lines.Put entry) = Unit {0}
+IsOfPortAlone lines.Desk = Unit {0}
+IsOfPortAlone line = IsOfPort line
 
--- a seal
-pub record IsSeal (old new : Told) (result : Result Unit PortFault) : Type 0 where
-  pub grows : Grows old new [] (went result)
-  pub counts : Counts old new []
-  pub covered : OnOk result (IsCovered old new Sealed)
-  pub broken : (result ≡ Err faults.Broken) ↔ (old.state ≡ Broken)
-  pub sealed : (result ≡ Err faults.Sealed) ↔ (old.state ≡ Sealed)
-  pub others : IfErr result IsOfAll
-  pub refused : IsRefused result → IsUnchanged old new
-  pub failed : IsErrOf result faults.Device → HasFailed old new
+-- a line for a port in a desk
+abbrev pub IsOfDesk : Line → Type 0
+IsOfDesk (lines.AtDesk line) = Unit {0}
+IsOfDesk line = IsOfPort line
 
--- a tick
-pub record IsTick (old new : Told) (now : ℕ) (result : Result Bool PortFault) : Type 0 where
-  pub grows : Grows old new (ticked (due old now) result) false
-  pub counts : Counts old new (ticked (due old now) result)
-  pub answer : IfOk result (λ cut. cut ≡ due old now)
-  pub live : OnOk result (new.state ≡ Live)
-  pub covered : new.covered ≡ old.covered
-  pub opened : new.opened ≡ opened_by old now result
-  pub broken : (result ≡ Err faults.Broken) ↔ (old.state ≡ Broken)
-  pub sealed : (result ≡ Err faults.Sealed) ↔ (old.state ≡ Sealed)
-  pub full : new.device.honest → (v0 : View) (ys : List Item) (c : ℕ) → Fits old v0 ys c → AnswersLast old now result
-  pub others : IfErr result IsOfTick
-  pub not_due : old.state ≡ Live → due old now ≡ false → result ≡ Ok false
-  pub refused : IsRefused result → IsUnchanged old new
-  pub failed : IsErrOf result faults.Device → HasFailed old new
+-- a line that isn't for what is held
+abbrev pub IsOutOfOrder : {P : Type 0} → Held P → Line → Type 0
+IsOutOfOrder (Alone p) line = IsOfPortAlone line → ⊥
+IsOutOfOrder (AtDesk side) line = IsOfDesk line → ⊥
 
--- an abandon
-pub record IsAbandon (old new : Told) : Type 0 where
-  pub grows : Grows old new [] false
-  pub idle : IsSame old new
-  pub state : new.state ≡ abandoned old.state
-
--- a line that isn't for a port
-abbrev pub IsOutOfOrder : Line → Type 0
-IsOutOfOrder (lines.Put entry) = ⊥
-IsOutOfOrder lines.Flush = ⊥
-IsOutOfOrder lines.Seal = ⊥
-IsOutOfOrder (lines.Tick now) = ⊥
-IsOutOfOrder lines.Abandon = ⊥
-IsOutOfOrder lines.Close = ⊥
-IsOutOfOrder (lines.Crash pick) = ⊥
-IsOutOfOrder _ = Unit {0}
-
--- the port is asked what the line says, and nothing else, and the reply tells what it answered
-pub data IsAsked {P : Type 0} (told : P → Told) (old new : P) : Line → Reply → Type 0 where
-  puts : {entry : Stored} {number : ℕ} → IsPut (told old) (told new) (view entry) (Ok number) → IsAsked told old new (lines.Put entry) (Answered (answers.Entry number))
-  put_refused : {entry : Stored} {fault : PortFault} → IsPut (told old) (told new) (view entry) (Err fault) → IsAsked told old new (lines.Put entry) (Answered (answers.Refused (Port fault)))
-  flushes : {count : ℕ} → IsFlush (told old) (told new) (Ok count) → IsAsked told old new lines.Flush (Answered (answers.Covered count))
-  flush_refused : {fault : PortFault} → IsFlush (told old) (told new) (Err fault) → IsAsked told old new lines.Flush (Answered (answers.Refused (Port fault)))
-  seals : IsSeal (told old) (told new) (Ok tt) → IsAsked told old new lines.Seal (Answered answers.Sealed)
-  seal_refused : {fault : PortFault} → IsSeal (told old) (told new) (Err fault) → IsAsked told old new lines.Seal (Answered (answers.Refused (Port fault)))
-  cuts : {now : ℕ} → IsTick (told old) (told new) now (Ok true) → IsAsked told old new (lines.Tick now) (Answered answers.Cut)
-  stays_open : {now : ℕ} → IsTick (told old) (told new) now (Ok false) → IsAsked told old new (lines.Tick now) (Answered answers.Open)
-  tick_refused : {now : ℕ} {fault : PortFault} → IsTick (told old) (told new) now (Err fault) → IsAsked told old new (lines.Tick now) (Answered (answers.Refused (Port fault)))
-  out_of_order : {line : Line} → IsOutOfOrder line → new ≡ old → IsAsked told old new line (Answered answers.OutOfOrder)
-  abandons : IsAbandon (told old) (told new) → IsAsked told old new lines.Abandon (Left Abandoned)
-  crashes : {pick : Pick} → IsAbandon (told old) (told new) → IsAsked told old new (lines.Crash pick) (Left (Crashed pick))
+-- what is held is asked what the line says, and nothing else: how it replies, and what its port accepted and covered then
+pub data IsAsked {P : Type 0} (told : P → Told) : Held P → Held P → Line → Reply → Effect → Type 0 where
+  puts : {p q : P} {entry : Stored} (result : Result ℕ PortFault) → Accepts (told p) (told q) (view entry) result
+      → IsAsked told (Alone p) (Alone q) (lines.Put entry) (Answered (put_answer result)) (effect (taken (view entry) result) false)
+  flushes : {old : Held P} {q : P} (result : Result ℕ PortFault) → Flushes (told (port_of old)) (told q) result
+      → IsAsked told old (with_port old q) lines.Flush (Answered (flush_answer result)) (effect [] (went result))
+  seals : {old : Held P} {q : P} (result : Result Unit PortFault) → Seals (told (port_of old)) (told q) result
+      → IsAsked told old (with_port old q) lines.Seal (Answered (seal_answer result)) (effect [] (went result))
+  ticks : {old : Held P} {q : P} {now : ℕ} (result : Result Bool PortFault) → Ticks (told (port_of old)) (told q) now result
+      → IsAsked told old (with_port old q) (lines.Tick now) (Answered (tick_answer result)) (effect (ticked (due (told (port_of old)) now) result) false)
+  abandons : {old : Held P} {q : P} → Abandons (told (port_of old)) (told q) → IsAsked told old (with_port old q) lines.Abandon (Left Abandoned) no_effect
+  crashes : {old : Held P} {q : P} {pick : Pick} → Abandons (told (port_of old)) (told q) → IsAsked told old (with_port old q) (lines.Crash pick) (Left (Crashed pick)) no_effect
   -- its drop is yet to come
-  closes : new ≡ old → IsAsked told old new lines.Close (Left Closed)
-
--- what a port may accept of a line
-abbrev pub offered : Line → List Item
-offered (lines.Put entry) = Kept (view entry) ∷ []
-offered (lines.Tick now) = Cut ∷ []
-offered _ = []
-
--- the reply says that the port accepted what it was offered: also where the device couldn't keep it
-abbrev pub has_taken : Reply → Bool
-has_taken (Answered (answers.Entry number)) = true
-has_taken (Answered answers.Cut) = true
-has_taken (Answered (answers.Refused (Port faults.Device))) = true
-has_taken _ = false
-
--- the items that a line with its reply added
-abbrev pub items_by : Line → Reply → List Item
-items_by line reply = if has_taken reply then offered line else []
-
--- the reply acknowledges that all is covered
-abbrev pub has_covered : Reply → Bool
-has_covered (Answered (answers.Covered count)) = true
-has_covered (Answered answers.Sealed) = true
-has_covered _ = false
+  closes : {old : Held P} → IsAsked told old old lines.Close (Left Closed) no_effect
+  comes_to_desk : {p : P} → IsAsked told (Alone p) (AtDesk (new_side p)) lines.Desk (Answered answers.Done) no_effect
+  acts_there : {old new : DeskSide P} {line : DeskLine} {answer : Answer} {did : Effect} → IsAskedAtDesk told old new line answer did
+      → IsAsked told (AtDesk old) (AtDesk new) (lines.AtDesk line) (Answered answer) did
+  out_of_order : {old : Held P} {line : Line} → IsOutOfOrder old line → IsAsked told old old line (Answered answers.OutOfOrder) no_effect

@@ -1,11 +1,14 @@
--- A port that is held while the lines of a script are run on it.
+-- What is held while the lines of a script are run on it.
 use Rattle.std.specs.Prelude.{◌≡◌, ◌⊎◌, ℕ, Option, Some, None, List, [], ◌∷◌, ◌++◌, Result, Ok, Err, IfOk}
 use Rattle.trace_store.specs.Disk.{Image}
 use Rattle.recovery.specs.Items.{Item}
 use Rattle.recovery.specs.Views.{View}
 use Rattle.trace_port.specs.Device.{Device, Leaves, IsIdle}
 use Rattle.trace_port.specs.Sound.{Sound}
-use Rattle.trace_port.specs.Port.{Told, Fits, Ends, covered_to}
+use Rattle.trace_port.specs.Port.{Told, Fits, Ends}
+use Rattle.tracees.specs.Desks.{Place}
+use Rattle.tracees.specs.Effects.{Effect, items_in, covered_by}
+use Rattle.tracees.specs.PortCalls.{Finishes}
 use Rattle.dbgrec.specs.declared.line.Line.{Line}
 use Rattle.dbgrec.specs.declared.answer.Answer.{Answer}
 use Rattle.dbgrec.specs.declared.reply.Leave.{Leave}
@@ -14,34 +17,38 @@ use Rattle.dbgrec.specs.declared.reply.Reply.{Reply}
 use Rattle.dbgrec.specs.declared.reply.Reply.TheVariants.{Told as Answered, Left}
 use Rattle.dbgrec.specs.declared.fault.SimFault.{SimFault}
 use Rattle.dbgrec.specs.Texts.{line_of, greeting}
-use Rattle.dbgrec.specs.Asked.{IsAsked, items_by, has_covered}
+use Rattle.dbgrec.specs.Sides.{Held, Alone, AtDesk, port_of}
+use Rattle.dbgrec.specs.Asked.{IsAsked}
 
 -- a line that was read, and what came of it
 pub record Exchange : Type 0 where
   pub line : Line
   pub reply : Reply
+  -- what the port accepted and covered
+  pub effect : Effect
 
--- a port is asked one line after another, until one leaves it or no more is read
-pub data AreAsked {P : Type 0} (told : P → Told) : P → List Exchange → Option Leave → P → Type 0 where
-  ends : {p : P} → AreAsked told p [] None p
-  leaves : {p q : P} {line : Line} {leave : Leave} → IsAsked told p q line (Left leave) → AreAsked told p (record { line = line; reply = Left leave } ∷ []) (Some leave) q
-  asks : {p q r : P} {line : Line} {answer : Answer} {more : List Exchange} {leave : Option Leave}
-      → IsAsked told p q line (Answered answer) → AreAsked told q more leave r → AreAsked told p (record { line = line; reply = Answered answer } ∷ more) leave r
+-- what is held is asked one line after another, until one leaves it or no more is read
+pub data AreAsked {P : Type 0} (told : P → Told) : Held P → List Exchange → Option Leave → Held P → Type 0 where
+  ends : {now : Held P} → AreAsked told now [] None now
+  leaves : {now after : Held P} {line : Line} {leave : Leave} {effect : Effect} → IsAsked told now after line (Left leave) effect
+      → AreAsked told now (record { line = line; reply = Left leave; effect = effect } ∷ []) (Some leave) after
+  asks : {now after end : Held P} {line : Line} {answer : Answer} {effect : Effect} {more : List Exchange} {leave : Option Leave}
+      → IsAsked told now after line (Answered answer) effect → AreAsked told after more leave end
+      → AreAsked told now (record { line = line; reply = Answered answer; effect = effect } ∷ more) leave end
 
 -- how a port was left; a fault only ends the reading of lines
 abbrev pub left_by : Result (Option Leave) SimFault → Option Leave
 left_by (Ok leave) = leave
 left_by (Err fault) = None
 
+-- what the port did in these lines, one after another
+abbrev pub effects : List Exchange → List Effect
+effects [] = []
+effects (one ∷ more) = one.effect ∷ effects more
+
 -- the items that the port accepted, in their order
 abbrev pub accepted : List Exchange → List Item
-accepted [] = []
-accepted (one ∷ more) = items_by one.line one.reply ++ accepted more
-
--- how much is covered after these lines: all that was accepted up to the last flush or seal that answered so, else c; ys was accepted before them
-abbrev pub covered_by : View → List Item → ℕ → List Exchange → ℕ
-covered_by v0 ys c [] = c
-covered_by v0 ys c (one ∷ more) = covered_by v0 (ys ++ items_by one.line one.reply) (covered_to v0 (ys ++ items_by one.line one.reply) c (has_covered one.reply)) more
+accepted asked = items_in (effects asked)
 
 -- what is written at once for a reply
 abbrev pub reply_text : Reply → List ℕ
@@ -58,26 +65,48 @@ pub record IsSoundSince (now : Told) (last : Device) (v0 : View) (ys zs : List I
   pub fits : Fits now v0 ys c
   pub since : Leaves now.device last (Sound now.spec v0 zs c)
 
--- the moments of a port that is asked these lines, and of its end
-pub record IsSoundThroughout {P : Type 0} (told : P → Told) (first : P) (asked : List Exchange) (leave : Option Leave) (end : P) (last : Device) (v0 : View) (c : ℕ) : Type 0 where
+-- the moments of what is asked these lines, and of its end
+pub record IsSoundThroughout {P : Type 0} (told : P → Told) (first : Held P) (asked : List Exchange) (leave : Option Leave) (end : Held P) (last : Device) (v0 : View) (c : ℕ) : Type 0 where
   -- since each line
-  pub each : (before after : List Exchange) (now : P) → asked ≡ before ++ after → AreAsked told first before None now → AreAsked told now after leave end
-      → IsSoundSince (told now) last v0 (accepted before) (accepted asked) (covered_by v0 [] c before)
+  pub each : (before after : List Exchange) (now : Held P) → asked ≡ before ++ after → AreAsked told first before None now → AreAsked told now after leave end
+      → IsSoundSince (told (port_of now)) last v0 (accepted before) (accepted asked) (covered_by v0 [] c (effects before))
   -- an image that arose in a line is sound for what was accepted up to that line
-  pub inside : (before after : List Exchange) (one : Exchange) (now next : P) → asked ≡ before ++ one ∷ after → AreAsked told first before None now → IsAsked told now next one.line one.reply → AreAsked told next after leave end
-      → (image : Image) → last.moments (told now).device.clock image
-      → last.moments (told next).device.clock image ⊎ Sound (told now).spec v0 (accepted (before ++ one ∷ [])) (covered_by v0 [] c before) image
+  pub inside : (before after : List Exchange) (one : Exchange) (now next : Held P) → asked ≡ before ++ one ∷ after → AreAsked told first before None now → IsAsked told now next one.line one.reply one.effect → AreAsked told next after leave end
+      → (image : Image) → last.moments (told (port_of now)).device.clock image
+      → last.moments (told (port_of next)).device.clock image ⊎ Sound (told (port_of now)).spec v0 (accepted (before ++ one ∷ [])) (covered_by v0 [] c (effects before)) image
 
--- a port over an opening was asked these lines and then dropped, and every moment since the opening was sound
+-- what was held is let go: a port alone stays as it is, and a desk finishes its port
+abbrev pub IsLetGo : {P : Type 0} → (P → Told) → Held P → P → Type 0
+IsLetGo told (Alone p) q = q ≡ p
+IsLetGo told (AtDesk side) q = Finishes (told side.desk.port) (told q)
+
+-- lines were run on what was held at first, and what is held then stands so; and, unless a fault ended that, what was written is what was answered
+pub record Ran {P : Type 0} (told : P → Told) (first : Held P) (left : Result (Option Leave) SimFault) (Stands : Held P → Type 0) (Writes : List ℕ → Type 0) : Type 0 where
+  pub done : List Exchange
+  pub end : Held P
+  pub asks : AreAsked told first done (left_by left) end
+  pub stands : Stands end
+  pub text : IfOk left (λ _. Writes (written done))
+
+-- a port in this desk is held
+abbrev pub IsAtDesk : {P : Type 0} → Place P → Held P → Type 0
+IsAtDesk desk (Alone p) = ⊥
+IsAtDesk desk (AtDesk side) = side.desk ≡ desk
+
+-- a port over an opening was asked these lines, alone or in a desk, and then let go and dropped, and every moment since the opening was sound
 pub record IsHeld {P : Type 0} (told : P → Told) (opened : Told) (asked : List Exchange) (leave : Option Leave) (last : Device) : Type 0 where
   pub first : P
-  pub end : P
+  pub end : Held P
+  pub let_go : P
   pub at_first : IsIdle opened.device (told first).device
   pub fits : (v0 : View) (ys : List Item) (c : ℕ) → Fits opened v0 ys c → Fits (told first) v0 ys c
-  pub asks : AreAsked told first asked leave end
-  pub over : Ends (told end) last
+  pub asks : AreAsked told (Alone first) asked leave end
+  pub lets_go : IsLetGo told end let_go
+  pub drops : Ends (told let_go) last
+  -- the end of the desk and the drop of its port are the end of what was held
+  pub over : Ends (told (port_of end)) last
   pub whole : last.honest → (v0 : View) (c : ℕ) → Fits opened v0 [] c → Leaves opened.device last (Sound opened.spec v0 (accepted asked) c)
-  pub lines : last.honest → (v0 : View) (c : ℕ) → Fits opened v0 [] c → IsSoundThroughout told first asked leave end last v0 c
+  pub lines : last.honest → (v0 : View) (c : ℕ) → Fits opened v0 [] c → IsSoundThroughout told (Alone first) asked leave end last v0 c
 
 -- lines were run on a port over an opening, which then was dropped; and, unless a fault ended that, what was written is how it was opened and what it answered
 pub record WasHeld {P : Type 0} (told : P → Told) (opened : Told) (origin : Origin) (left : Result (Option Leave) SimFault) (last : Device) (Writes : List ℕ → Type 0) : Type 0 where

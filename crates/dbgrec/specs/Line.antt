@@ -5,11 +5,20 @@ use Rattle.entry_codec.specs.Entries.{IsLawful}
 use Rattle.entry_codec.specs.Seen.{view}
 use Rattle.dbgrec.specs.declared.line.Line.{Line}
 use Rattle.dbgrec.specs.declared.line.Line.TheVariants as lines
+use Rattle.dbgrec.specs.declared.desk_line.DeskLine.{DeskLine}
+use Rattle.dbgrec.specs.declared.desk_line.DeskLine.TheVariants as desk_lines
+
+-- a tracee's number is at most 999
+abbrev pub IsNumbered : DeskLine → Type 0
+IsNumbered (desk_lines.Tracee number capacity drop_limit flags) = number ≤ 999
+IsNumbered (desk_lines.OfTracee number line) = number ≤ 999
+IsNumbered _ = ⊤
 
 -- a store can have so many files, and what is put may be stored
 abbrev pub IsWithinLimits : Line → Type 0
 IsWithinLimits (lines.Store files) = (1 ≤ files) × (files ≤ 1001)
 IsWithinLimits (lines.Put entry) = IsLawful (view entry)
+IsWithinLimits (lines.AtDesk line) = IsNumbered line
 IsWithinLimits _ = ⊤
 
 -- the file that the line names is one of these

@@ -11,6 +11,15 @@ use Rattle.trace_port.specs.declared.resume.ResumeFault.{ResumeFault}
 use Rattle.trace_port.specs.declared.resume.ResumeFault.TheVariants as resuming
 use Rattle.trace_port.specs.declared.kinds.PortFault.{PortFault}
 use Rattle.trace_port.specs.declared.kinds.PortFault.TheVariants as porting
+use Rattle.intake.specs.declared.fault.EmitFault.{EmitFault}
+use Rattle.intake.specs.declared.fault.EmitFault.TheVariants as emitting
+use Rattle.intake.specs.declared.fault.TraceeFault.{TraceeFault}
+use Rattle.intake.specs.declared.fault.TraceeFault.TheVariants as making
+use Rattle.intake.specs.declared.offer.Counts.{Counts}
+use Rattle.intake.specs.declared.offer.Offer.{Offer}
+use Rattle.intake.specs.declared.offer.Offer.TheVariants as offers
+use Rattle.dbgrec.specs.declared.refusal.HandRefusal.{HandRefusal}
+use Rattle.dbgrec.specs.declared.refusal.HandRefusal.TheVariants as handing
 use Rattle.dbgrec.specs.declared.refusal.Refusal.{Refusal}
 use Rattle.dbgrec.specs.declared.refusal.Refusal.TheVariants as refusals
 use Rattle.dbgrec.specs.declared.answer.Answer.{Answer}
@@ -49,6 +58,21 @@ port_text porting.Sealed = codes "3 Sealed"
 port_text porting.CountFull = codes "4 CountFull"
 port_text porting.FileFull = codes "5 FileFull"
 
+abbrev pub tracee_text : TraceeFault → List ℕ
+tracee_text making.BadSpec = codes "1 BadSpec"
+tracee_text making.NoMemory = codes "2 NoMemory"
+
+abbrev pub emit_text : EmitFault → List ℕ
+emit_text emitting.TooLong = codes "1 TooLong"
+emit_text emitting.TooDeep = codes "2 TooDeep"
+emit_text emitting.CountFull = codes "3 CountFull"
+emit_text emitting.NoMemory = codes "4 NoMemory"
+
+abbrev pub hand_text : HandRefusal → List ℕ
+hand_text (handing.Port fault moved) = codes "1 Port " ++ port_text fault ++ codes " moved " ++ decimal moved
+hand_text handing.NoMemory = codes "2 NoMemory"
+hand_text handing.Stranger = codes "3 Stranger"
+
 -- the number and the name of what was refused
 abbrev pub refusal_text : Refusal → List ℕ
 refusal_text refusals.Device = codes "1 Device"
@@ -58,6 +82,19 @@ refusal_text (refusals.Recover fault) = recover_text fault
 refusal_text (refusals.Create fault) = create_text fault
 refusal_text (refusals.Resume fault) = resume_text fault
 refusal_text (refusals.Port fault) = port_text fault
+refusal_text (refusals.Tracee fault) = tracee_text fault
+refusal_text (refusals.Emit fault) = emit_text fault
+refusal_text (refusals.Hand refusal) = hand_text refusal
+
+abbrev pub offer_text : Offer → List ℕ
+offer_text offers.Kept = codes "kept"
+offer_text offers.Dropped = codes "dropped"
+offer_text offers.Unasked = codes "unasked"
+
+abbrev pub counts_text : Counts → List ℕ
+counts_text counts =
+    codes "offered " ++ decimal counts.offered ++ codes " waiting " ++ decimal counts.waiting ++ codes " unsent " ++ decimal counts.unsent
+    ++ codes " handed " ++ decimal counts.handed ++ codes " lost " ++ decimal counts.lost
 
 abbrev pub answer_text : Answer → List ℕ
 answer_text answers.Done = codes "ok"
@@ -69,6 +106,10 @@ answer_text answers.Sealed = codes "sealed"
 answer_text answers.Cut = codes "cut"
 answer_text answers.Open = codes "open"
 answer_text answers.Closed = codes "closed"
+answer_text (answers.Offer offer) = offer_text offer
+answer_text (answers.Receipt first count) = codes "receipt " ++ decimal first ++ codes " " ++ decimal count
+answer_text (answers.CoveredReceipt first count covered) = codes "receipt " ++ decimal first ++ codes " " ++ decimal count ++ codes " covered " ++ decimal covered
+answer_text (answers.Counts counts) = counts_text counts
 answer_text (answers.Refused refusal) = codes "refused " ++ refusal_text refusal
 
 -- an answer and a line feed

@@ -1,9 +1,11 @@
 // What a line of a script says.
-ghost use Rattle.std.specs.Prelude.{◌<◌, ◌≤◌, IfOk, IfSome};
+ghost use Rattle.std.specs.Prelude.{IfOk, IfSome};
 ghost use Rattle.entry_codec.specs.Entries.{IsLawful};
 ghost use Rattle.entry_codec.specs.Seen.{view};
 ghost use Rattle.dbgrec.specs.Line.{IsWithinLimits};
 
+use crate::desk_line::{DeskLine, desk_line, emit_line};
+use crate::spelling::{byte, bytes, number, within};
 use entry_codec::Entry;
 use std::alloc::{AllocError, Global};
 use trace_store::Pick;
@@ -37,33 +39,12 @@ pub enum Line {
     Abandon,
     Close,
     Crash(Pick),
+    /// The port goes into a desk.
+    Desk,
+    AtDesk(DeskLine),
     Files,
     List,
     Wipe,
-}
-
-/// A decimal number without a sign and leading zeros.
-fn number(word: &str) -> Option<u64> {
-    let digits = word.as_bytes();
-    match digits {
-        [b'0', _, ..] => return None,
-        _ => {}
-    }
-    if !digits.iter().all(|digit| digit.is_ascii_digit()) {
-        return None;
-    }
-    word.parse::<u64>().ok()
-}
-
-/// A number from `least` to `most`.
-fn within(word: &str, least: u32, most: u32) -> Option<u32>
-    ensures { IfSome result (λ found. (least ≤ found) × (found ≤ most)) }
-{
-    let found = u32::try_from(number(word)?).ok()?;
-    if found < least || found > most {
-        return None;
-    }
-    Some(found)
 }
 
 /// The size or time of a wrap, and how many runs it keeps, of any that their types have.
@@ -71,43 +52,6 @@ fn wrap_numbers(most: &str, count: &str) -> Option<(u32, u16)> {
     let most = u32::try_from(number(most)?).ok()?;
     let count = u16::try_from(number(count)?).ok()?;
     Some((most, count))
-}
-
-fn digit(letter: u8) -> Option<u8>
-    ensures { IfSome result (λ d. d < 16) }
-{
-    match letter {
-        b'0'..=b'9' => Some(letter - b'0'),
-        b'a'..=b'f' => Some(letter - b'a' + 10),
-        b'A'..=b'F' => Some(letter - b'A' + 10),
-        _ => None,
-    }
-}
-
-fn byte(pair: &[u8]) -> Option<u8> {
-    match pair {
-        [high, low] => Some(digit(*high)? * 16 + digit(*low)?),
-        _ => None,
-    }
-}
-
-/// The bytes that hexadecimal digits spell, `-` for none.
-pub fn bytes(alloc: Global, word: &str) -> Result<Option<Vec<u8>>, AllocError> {
-    if word == "-" {
-        return Ok(Some(Vec::new(alloc)));
-    }
-    let digits = word.as_bytes();
-    if digits.is_empty() || digits.len() % 2 != 0 {
-        return Ok(None);
-    }
-    let mut found = Vec::with_capacity(alloc, digits.len() / 2)?;
-    for pair in digits.chunks(2) {
-        match byte(pair) {
-            Some(one) => found.push(one)?,
-            None => return Ok(None),
-        }
-    }
-    Ok(Some(found))
 }
 
 /// The message of these digits, if an entry may hold it.
@@ -185,6 +129,7 @@ fn port_line(words: &[&str]) -> Option<Line>
         ["tick", now] => number(now).map(Line::Tick),
         ["abandon"] => Some(Line::Abandon),
         ["close"] => Some(Line::Close),
+        ["desk"] => Some(Line::Desk),
         ["crash", "kept"] => Some(Line::Crash(Pick::Kept)),
         ["crash", "low", byte] => filled(byte, false).map(Line::Crash),
         ["crash", "high", byte] => filled(byte, true).map(Line::Crash),
@@ -200,6 +145,11 @@ pub fn parse(alloc: Global, text: &str) -> Result<Option<Line>, AllocError>
     match words.as_slice() {
         ["bytes", file, hex] => file_bytes(alloc, file, hex),
         ["put", hex] => Ok(message(alloc, hex)?.map(Line::Put)),
-        other => Ok(store_line(other).or_else(|| port_line(other))),
+        ["emit", number, event @ ..] => Ok(emit_line(alloc, number, event)?.map(Line::AtDesk)),
+        other => Ok(
+            store_line(other)
+                .or_else(|| port_line(other))
+                .or_else(|| desk_line(other).map(Line::AtDesk)),
+        ),
     }
 }

@@ -3,8 +3,12 @@
 
 mod answer;
 mod answers;
+mod at_desk;
+mod attached;
 mod command;
 mod contents;
+mod desk_line;
+mod event;
 mod fault;
 mod held;
 mod line;
@@ -12,10 +16,13 @@ mod refusal;
 mod reply;
 mod script;
 mod sim;
+mod spelling;
 mod stored;
 mod stream;
 #[cfg(test)]
 mod tests;
+#[cfg(test)]
+mod tests_desk;
 
 use clap::error::ErrorKind;
 use command::{Request, asked_for};

@@ -1,13 +1,42 @@
 // Refusals, as they are told: a number and a name.
 ghost use Rattle.std.specs.Prelude.{◌≡◌, Some};
 ghost use Rattle.std.specs.Fmt.{DisplaysOnOk};
+ghost use Rattle.dbgrec.specs.Answers as told;
 ghost use Rattle.dbgrec.specs.Texts as texts;
 
+use intake::{EmitFault, TraceeFault};
 use recovery::RecoverFault;
 use std::alloc::{AllocError, AllocFailed};
 use std::fmt;
 use trace_port::{CreateFault, PortFault, ResumeFault};
 use trace_store::{CrashFault, DeviceFault};
+use tracees::HandFault;
+
+/// Why a hand-over or a flush for a tracee was refused.
+#[derive(Clone, Copy, Debug, PartialEq, Eq)]
+pub enum HandRefusal {
+    /// The port refused, after so many entries were moved.
+    Port { fault: PortFault, moved: u64 },
+    NoMemory,
+    /// The tracee is attached at another desk.
+    Stranger,
+}
+
+impl HandRefusal {
+    /// What a fault tells.
+    pub fn of(fault: &HandFault) -> HandRefusal
+        ensures { result ≡ told.hand_refusal fault.now }
+    {
+        match fault {
+            HandFault::Port { fault, receipt } => HandRefusal::Port {
+                fault: *fault,
+                moved: receipt.entries.len() as u64,
+            },
+            HandFault::NoMemory => HandRefusal::NoMemory,
+            HandFault::Stranger => HandRefusal::Stranger,
+        }
+    }
+}
 
 /// What was refused.
 #[derive(Clone, Copy, Debug, PartialEq, Eq)]
@@ -21,6 +50,11 @@ pub enum Refusal {
     Create(CreateFault),
     Resume(ResumeFault),
     Port(PortFault),
+    /// A new tracee.
+    Tracee(TraceeFault),
+    /// An event.
+    Emit(EmitFault),
+    Hand(HandRefusal),
 }
 
 impl From<DeviceFault> for Refusal {
@@ -56,6 +90,9 @@ impl fmt::Display for Refusal {
             Refusal::Create(fault) => f.write_str(create_text(fault)),
             Refusal::Resume(fault) => tell_resume(f, fault),
             Refusal::Port(fault) => f.write_str(port_text(fault)),
+            Refusal::Tracee(fault) => f.write_str(tracee_text(fault)),
+            Refusal::Emit(fault) => f.write_str(emit_text(fault)),
+            Refusal::Hand(refusal) => tell_hand(f, refusal),
         }
     }
 }
@@ -84,6 +121,19 @@ fn tell_resume<W: fmt::Write>(f: &mut fmt::Formatter<W>, fault: ResumeFault) -> 
             f.write_str("5 Recover ")?;
             tell_recover(f, cause)
         }
+    }
+}
+
+fn tell_hand<W: fmt::Write>(f: &mut fmt::Formatter<W>, refusal: HandRefusal) -> fmt::Result
+    ensures { DisplaysOnOk W.write_str_gives f.old result (Some (texts.hand_text refusal)) f.new }
+{
+    match refusal {
+        HandRefusal::Port { fault, moved } => {
+            let fault = port_text(fault);
+            write!(f, "1 Port {fault} moved {moved}")
+        }
+        HandRefusal::NoMemory => f.write_str("2 NoMemory"),
+        HandRefusal::Stranger => f.write_str("3 Stranger"),
     }
 }
 
@@ -116,5 +166,25 @@ fn port_text(fault: PortFault) -> &'static str
         PortFault::Sealed => "3 Sealed",
         PortFault::CountFull => "4 CountFull",
         PortFault::FileFull => "5 FileFull",
+    }
+}
+
+fn tracee_text(fault: TraceeFault) -> &'static str
+    ensures { result.now ≡ texts.tracee_text fault }
+{
+    match fault {
+        TraceeFault::BadSpec => "1 BadSpec",
+        TraceeFault::NoMemory => "2 NoMemory",
+    }
+}
+
+fn emit_text(fault: EmitFault) -> &'static str
+    ensures { result.now ≡ texts.emit_text fault }
+{
+    match fault {
+        EmitFault::TooLong => "1 TooLong",
+        EmitFault::TooDeep => "2 TooDeep",
+        EmitFault::CountFull => "3 CountFull",
+        EmitFault::NoMemory => "4 NoMemory",
     }
 }

@@ -72,11 +72,11 @@ fn run_line<R: BufRead, W: Write>(
     let left = match line {
         Line::CreateFile(limit) => {
             let opening = begin_create(alloc, &mut *store, limit)?;
-            hold_file(store, opening, Origin::Created, script, answers)?
+            hold_file(alloc, store, opening, Origin::Created, script, answers)?
         }
         Line::ResumeFile(limit) => {
             let opening = begin_resume(alloc, &mut *store, limit)?;
-            hold_file(store, opening, Origin::Resumed, script, answers)?
+            hold_file(alloc, store, opening, Origin::Resumed, script, answers)?
         }
         Line::CreateWrap { size, count } => {
             let spec = WrapSpec::new(size, count)?;
@@ -88,7 +88,7 @@ fn run_line<R: BufRead, W: Write>(
         }
         Line::ResumeWrap => {
             let opening = wrap_port::begin_resume(alloc, &mut *store)?;
-            hold_wrap(store, opening, Origin::Resumed, script, answers)?
+            hold_wrap(alloc, store, opening, Origin::Resumed, script, answers)?
         }
         other => {
             run_store_line(alloc, store, other, answers)?;
@@ -107,7 +107,7 @@ fn create_wrap<R: BufRead, W: Write>(
     answers: &mut Answers<'_, W>,
 ) -> Result<Option<Leave>, Stop> {
     let opening = wrap_port::begin_create(alloc, &mut *store, spec)?;
-    Ok(hold_wrap(store, opening, Origin::Created, script, answers)?)
+    Ok(hold_wrap(alloc, store, opening, Origin::Created, script, answers)?)
 }
 
 /// Runs a line that makes no port.

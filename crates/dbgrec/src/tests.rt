@@ -2,9 +2,9 @@ use crate::answers::Answers;
 use crate::command::{Request, asked_for};
 use crate::contents::bytes_of;
 use crate::fault::SimFault;
-use crate::line::bytes;
 use crate::script::Script;
 use crate::sim::{run_lines, run_sim};
+use crate::spelling::bytes;
 use crate::stream::run_stream;
 use std::alloc::Global;
 use std::io;
@@ -34,7 +34,7 @@ fn script(alloc: Global, lines: &str) -> Result<String, Fail> {
 
 /// What the lines of a script or, behind the word `stream`, an entry stream gives, and what its fault displays with its
 /// status. In a stream `E` is the message's entry.
-fn found(alloc: Global, lines: &str) -> Result<(String, String), Fail> {
+pub fn found(alloc: Global, lines: &str) -> Result<(String, String), Fail> {
     let mut written: Vec<u8> = Vec::new(alloc);
     let done = if let Some(hex) = lines.strip_prefix("stream ") {
         let entry = format!(in alloc; "0000000033{MESSAGE}")?;
@@ -103,7 +103,7 @@ fn row_holds(alloc: Global, row: &str) -> Result<bool, Fail> {
 
 /// The number of the first line of the table that doesn't hold. Empty lines and those that begin with `#` tell
 /// nothing.
-fn first_wrong(alloc: Global, table: &str) -> Result<Option<usize>, Fail> {
+pub fn first_wrong(alloc: Global, table: &str) -> Result<Option<usize>, Fail> {
     for (number, row) in table.lines().enumerate() {
         if row.is_empty() || row.starts_with('#') {
             continue;
@@ -472,7 +472,7 @@ lose 4294967296 => => line 1: bad command, 2
 crash low 1 => => line 1: bad command, 2
 crash => => line 1: bad command, 2
 create file 99; bytes 1 00 => ok => line 2: bad command, 2
-desk => => line 1: bad command, 2
+desk 0 => => line 1: bad command, 2
 tick => => line 1: bad command, 2
 tick 01 => => line 1: bad command, 2
 create file 99; tick 18446744073709551615; tick 18446744073709551616 => ok; open => line 3: bad command, 2

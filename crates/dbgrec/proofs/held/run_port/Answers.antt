@@ -1,7 +1,21 @@
-use Rattle.std.proofs.Common.{[]}
-use Rattle.dbgrec.specs.Held.{ends}
-use Rattle.dbgrec.proofs.Written.{has_failed}
+use Rattle.std.proofs.Common.{[], refl, subst}
+use Rattle.std.specs.Io.KnownBytes.{Appends}
+use Rattle.dbgrec.specs.declared.answer.Answer.{Answer}
+use Rattle.dbgrec.specs.Texts.{line_of, greeting}
+use Rattle.dbgrec.specs.Sides.{Alone}
+use Rattle.dbgrec.specs.Held.{ends, IsLetGo}
+use Rattle.dbgrec.proofs.Written.{has_failed, ran_behind}
 use Rattle.dbgrec.proofs.held.run_port.Goals as goal
 
 pub returns-in_err-tell-clause-run : goal.returns-in_err-tell-clause-run
-returns-in_err-tell-clause-run g c = has_failed g.P.TracePort.told c.args.port.now c.args.port.now _ c.from_residual.result c.from_residual.ensures.0 ([], ends)
+returns-in_err-tell-clause-run g c =
+    let told = g.P.TracePort.told in
+    has_failed told (Alone c.args.port.now) (Alone c.args.port.now) (λ end. IsLetGo told end c.args.port.now) _ c.from_residual.result c.from_residual.ensures.0 [] ends refl
+
+pub returns-clause-run : goal.returns-clause-run
+returns-clause-run g c =
+    let told = g.P.TracePort.told in
+    let start = g.W.Write.contents c.args.answers.now.writer.now in
+    let before = g.W.Write.contents c.tell.new.self.writer.now in
+    ran_behind told (Alone c.args.port.now) c.take_lines.result (λ end. IsLetGo told end c.take_lines.new.port) start before _ (line_of (greeting c.args.origin (told c.args.port.now).total))
+    (subst (λ (a : Answer). Appends start before (line_of a)) c.greet.ensures c.in_ok-tell.ensures) c.take_lines.ensures.run
