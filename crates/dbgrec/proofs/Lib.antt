@@ -3,3 +3,4 @@ pub mod Misplaced
 pub mod Placing
 pub mod Running
 pub mod Written
+pub mod Storing

@@ -5,3 +5,4 @@ pub mod Sides
 pub mod DeskLines
 pub mod Asked
 pub mod Held
+pub mod Stored
