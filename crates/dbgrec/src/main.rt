@@ -23,6 +23,8 @@ mod stream;
 mod tests;
 #[cfg(test)]
 mod tests_desk;
+#[cfg(test)]
+mod tests_driving;
 
 use clap::error::ErrorKind;
 use command::{Request, asked_for};
