@@ -95,6 +95,12 @@ moved_by (Err hands.Stranger) = []
 abbrev pub items_moved : Result Receipt HandFault → List Item
 items_moved result = map Kept (moved_by result)
 
+-- the number that stands before the name where a refusal is printed
+abbrev pub fault_number : HandFault → ℕ
+fault_number (hands.Port fault receipt) = 1
+fault_number hands.NoMemory = 2
+fault_number hands.Stranger = 3
+
 -- whether it answered Ok
 abbrev pub has_gone : Result Receipt HandFault → Bool
 has_gone (Ok receipt) = true

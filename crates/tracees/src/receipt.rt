@@ -1,5 +1,8 @@
 //! What a hand-over moved, and why one is refused.
 
+ghost use Rattle.std.specs.Prelude.{◌≡◌};
+ghost use Rattle.tracees.specs.Hands.{fault_number};
+
 use entry_codec::Entry;
 use trace_port::PortFault;
 
@@ -31,7 +34,9 @@ pub enum HandFault {
 
 impl HandFault {
     /// The number that stands before the name where a refusal is printed.
-    pub fn number(&self) -> u8 {
+    pub fn number(&self) -> u8
+        ensures { result ≡ fault_number self.now }
+    {
         match self {
             HandFault::Port { .. } => 1,
             HandFault::NoMemory => 2,
