@@ -22,7 +22,7 @@ pub use book::{Bookkeeping, PlainAccount, PlainBook, Totals};
 pub use desk::Desk;
 pub use driving::drive;
 pub use either::{EitherPort, put_as_file, put_as_wrap};
-pub use laws::recovered_is_a_prefix;
+pub use laws::{recovered_is_a_prefix, recovery_refuses_no_sound_image};
 pub use lender::{hand_one, record_one};
 pub use receipt::{HandFault, Receipt};
 pub use step::{Reply, Step};
