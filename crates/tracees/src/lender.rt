@@ -9,9 +9,10 @@ ghost use Rattle.trace_port.specs.Device.{device_of, Leaves};
 ghost use Rattle.trace_port.specs.Sound.{Sound};
 ghost use Rattle.trace_port.specs.Port.{Fits, IsSaved};
 ghost use Rattle.trace_port.specs.Opened.{opened_told};
+ghost use Rattle.trace_port.specs.FilePort.{file_told};
 ghost use Rattle.tracees.specs.Books.{no_totals};
 ghost use Rattle.tracees.specs.Hands.{moved_by, items_moved};
-ghost use Rattle.tracees.specs.Lent.{HandsOne};
+ghost use Rattle.tracees.specs.Lent.{HandsOne, RecordsOne};
 
 use crate::book::{Bookkeeping, PlainBook};
 use crate::desk::Desk;
@@ -54,6 +55,7 @@ pub fn record_one<S: Store + Send, R: Room + Send>(
 ) -> (Tracee, Result<Receipt, HandFault>)
     requires some { 0 < length (S.reads store.old) }
     requires within { S.honest store.old → opening.gate < length (file_of (S.reads store.old) 0) }
+    ensures hands { RecordsOne (file_told S.Store R.Room) (opened_told R.Room opening (device_of S.Store store.old)) (device_of S.Store store.new) limit tracee result.0 result.1 }
     ensures rest { waiting_of tracee ≡ moved_by result.1 ++ waiting_of result.0 }
     ensures moments { S.honest store.new → (v0 : View) → Fits (opened_told R.Room opening (device_of S.Store store.old)) v0 [] (total v0)
         → Leaves (device_of S.Store store.old) (device_of S.Store store.new) (Sound File v0 (items_moved result.1) (total v0)) }

@@ -1,15 +1,32 @@
-use Rattle.std.proofs.Common.{rules, ◌≡◌, [], subst, sym}
+use Rattle.std.proofs.Common.{rules, ◌≡◌, [], refl, subst, sym}
 use Rattle.segment.specs.Specification.{File}
 use Rattle.recovery.specs.Views.{total}
-use Rattle.trace_port.specs.Device.{device_of, Leaves}
+use Rattle.trace_port.specs.Device.{device_of, Leaves, IsIdle}
 use Rattle.trace_port.specs.Sound.{Sound}
-use Rattle.trace_port.specs.Port.{IsSaved, has_sealed}
+use Rattle.trace_port.specs.Port.{IsSaved, Ends, has_sealed}
 use Rattle.trace_port.specs.Opened.{opened_told}
 use Rattle.trace_port.specs.FilePort.{file_told}
+use Rattle.trace_port.proofs.Leaving.{stays_idle}
 use Rattle.trace_port.proofs.Lending.{ends_after}
 use Rattle.tracees.specs.Hands.{items_moved}
 use Rattle.tracees.proofs.Lenders.{one_rest, one_grows, one_saved}
 use Rattle.tracees.proofs.lender.record_one.Goals as goal
+
+pub returns-clause-hands : goal.returns-clause-hands
+returns-clause-hands g c =
+    let told = file_told g.S.Store g.R.Room in
+    let device = device_of g.S.Store in
+    let back : c.store-1.given.0 ≡ c.drop.new.self.0 = search rules in
+    let port = c.over-port.result in
+    let over = c.over-port.ensures in
+    record {
+      port = port;
+      end = c.hand_one-done.new.port;
+      as_opened = record { state = over.live; spec = refl; limit = λ file. over.limit; covered = over.covered; total = over.total; drops = over.drops; gate = over.gate; opened = refl; pending = over.pending };
+      at_first = subst (λ s. IsIdle (device s) (told port).device) over.now (stays_idle (told port).device);
+      hands = c.hand_one-done.ensures.hands;
+      drops = subst (λ s. Ends (told c.hand_one-done.new.port) (device s)) (sym back) c.drop.ensures;
+    }
 
 pub returns-clause-rest : goal.returns-clause-rest
 returns-clause-rest g c = one_rest (file_told g.S.Store g.R.Room) 0 c.over-port.result c.hand_one-done.new.port c.args.limit c.args.tracee c.hand_one-done.result.0 c.hand_one-done.result.1 c.hand_one-done.ensures.hands
