@@ -13,6 +13,7 @@ use Rattle.trace_port.proofs.Leaving.{both, stays_idle}
 use Rattle.trace_port.proofs.Lending.{ends_after}
 use Rattle.tracees.specs.Effects.{Effect, items_in, covered_by, Calls}
 use Rattle.tracees.specs.PortCalls.{Finishes}
+use Rattle.tracees.specs.Lent.{IsAsOpened}
 use Rattle.tracees.proofs.Composed.{IsStill, items_in-append, covered_more, behind, calls_both, no_call}
 use Rattle.dbgrec.specs.declared.line.Line.{Line}
 use Rattle.dbgrec.specs.declared.answer.Answer.{Answer}
@@ -130,9 +131,9 @@ let_go_ends told (AtDesk side) q last finished over = finished_ends (told side.d
 
 -- a port over an opening: what it was asked, and what its end left
 pub was_held : {P : Type 0} (told : P → Told) → ((p : P) → IsStill (told p)) → (opened : Told) (origin : Origin) (first let_go : P) (last : Device) (left : Result (Option Leave) SimFault) (Writes : List ℕ → Type 0)
-    → ((Q : Device → Type 0) → Q (told first).device → Q opened.device) → (told first).spec ≡ opened.spec → ((v0 : View) (ys : List Item) (c : ℕ) → Fits opened v0 ys c → Fits (told first) v0 ys c) → Ends (told let_go) last
+    → ((Q : Device → Type 0) → Q (told first).device → Q opened.device) → IsAsOpened opened (told first) → ((v0 : View) (ys : List Item) (c : ℕ) → Fits opened v0 ys c → Fits (told first) v0 ys c) → Ends (told let_go) last
     → Ran told (Alone first) left (λ end. IsLetGo told end let_go) (λ text. Writes (line_of (greeting origin (told first).total) ++ text)) → WasHeld told opened origin left last Writes
-was_held told still opened origin first let_go last left Writes moved same fits drops ran =
+was_held told still opened origin first let_go last left Writes moved as_opened fits drops ran =
     let over = let_go_ends told ran.end let_go last ran.stands drops in
     record {
       done = ran.done;
@@ -140,6 +141,7 @@ was_held told still opened origin first let_go last left Writes moved same fits 
         first = first;
         end = ran.end;
         let_go = let_go;
+        as_opened = as_opened;
         at_first = moved (λ d. IsIdle d (told first).device) (stays_idle (told first).device);
         fits = fits;
         asks = ran.asks;
@@ -147,7 +149,7 @@ was_held told still opened origin first let_go last left Writes moved same fits 
         drops = drops;
         over = over;
         whole = λ h v0 c f. moved (λ d. Leaves d last (Sound opened.spec v0 (accepted ran.done) c))
-            (subst (λ (spec : Spec). Leaves (told first).device last (Sound spec v0 (accepted ran.done) c)) same
+            (subst (λ (spec : Spec). Leaves (told first).device last (Sound spec v0 (accepted ran.done) c)) as_opened.spec
             (is_sound_since told still (Alone first) ran.end last ran.done (left_by left) over h v0 c (fits v0 [] c f) [] ran.done (Alone first) refl ends ran.asks).since);
         lines = λ h v0 c f. is_sound_throughout told still (Alone first) ran.end last ran.done (left_by left) over h v0 c (fits v0 [] c f);
       };

@@ -9,6 +9,7 @@ use Rattle.trace_port.specs.Port.{Told, Fits, Ends}
 use Rattle.tracees.specs.Desks.{Place}
 use Rattle.tracees.specs.Effects.{Effect, items_in, covered_by}
 use Rattle.tracees.specs.PortCalls.{Finishes}
+use Rattle.tracees.specs.Lent.{IsAsOpened}
 use Rattle.dbgrec.specs.declared.line.Line.{Line}
 use Rattle.dbgrec.specs.declared.answer.Answer.{Answer}
 use Rattle.dbgrec.specs.declared.reply.Leave.{Leave}
@@ -98,6 +99,7 @@ pub record IsHeld {P : Type 0} (told : P → Told) (opened : Told) (asked : List
   pub first : P
   pub end : Held P
   pub let_go : P
+  pub as_opened : IsAsOpened opened (told first)
   pub at_first : IsIdle opened.device (told first).device
   pub fits : (v0 : View) (ys : List Item) (c : ℕ) → Fits opened v0 ys c → Fits (told first) v0 ys c
   pub asks : AreAsked told (Alone first) asked leave end
