@@ -6,3 +6,4 @@ pub mod DeskLines
 pub mod Asked
 pub mod Held
 pub mod Stored
+pub mod Streamed

@@ -1,5 +1,8 @@
 // What ends a run before its end.
 
+ghost use Rattle.std.specs.Prelude.{◌≡◌};
+ghost use Rattle.dbgrec.specs.Streamed.{run_fault};
+
 use std::alloc::{AllocError, AllocFailed};
 use thiserror::Error;
 use trace_client::{ListFault, StreamFault};
@@ -65,6 +68,8 @@ impl From<ListFault> for SimFault {
 }
 
 impl From<StreamFault> for SimFault {
+    ghost from_gives = { λ from fault. fault ≡ run_fault from };
+
     fn from(fault: StreamFault) -> SimFault {
         match fault {
             StreamFault::Read => SimFault::Read,
