@@ -6,3 +6,8 @@ pub mod DeskLines
 pub mod Asked
 pub mod Held
 pub mod Stored
+pub mod Places
+pub mod Openings
+pub mod Incoming
+pub mod Importing
+pub mod Kept

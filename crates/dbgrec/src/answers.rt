@@ -10,6 +10,8 @@ use trace_client::list;
 #[derive(Drop)]
 pub struct Answers<'w, W: Write> {
     writer: &'w mut W,
+    /// Each answer is written out at once.
+    at_once: bool,
 }
 
 impl<'w, W: Write> Answers<'w, W> {
@@ -20,14 +22,29 @@ impl<'w, W: Write> Answers<'w, W> {
     ghost use Rattle.dbgrec.specs.Texts.{line_of};
 
     pub fn new(writer: &'w mut W) -> Answers<'w, W> {
-        Answers { writer }
+        Answers {
+            writer,
+            at_once: false,
+        }
+    }
+
+    /// Answers for somebody who waits for them.
+    pub fn at_once(writer: &'w mut W) -> Answers<'w, W> {
+        Answers {
+            writer,
+            at_once: true,
+        }
     }
 
     /// A line with the answer.
     pub fn tell(&mut self, answer: Answer) -> Result<(), SimFault>
         ensures { OnOk result (Appends (W.contents self.old.writer.now) (W.contents self.new.writer.now) (line_of answer)) }
     {
-        writeln!(self.writer, "{answer}").map_err(|_| SimFault::Write)
+        writeln!(self.writer, "{answer}").map_err(|_| SimFault::Write)?;
+        if self.at_once {
+            self.finish()?;
+        }
+        Ok(())
     }
 
     /// The listing of what a store holds.

@@ -1,8 +1,12 @@
 // What ends a run before its end.
 
+use crate::refusal::Refusal;
+use recovery::RecoverFault;
 use std::alloc::{AllocError, AllocFailed};
+use std::io;
 use thiserror::Error;
-use trace_client::{ListFault, StreamFault};
+use trace_client::{ListFault, StreamFault, WriteFault};
+use trace_port::PortFault;
 
 /// What ends a run before its end. It displays what is told on standard error.
 #[derive(Debug, Drop, Error)]
@@ -31,6 +35,22 @@ pub enum SimFault {
     /// The allocator refused memory to the run itself.
     #[error("refused 7 NoMemory")]
     NoMemory,
+    /// A call on a stored trace.
+    #[error("refused {0}")]
+    Refused(Refusal),
+    /// A call on a stored trace, for what the system said of a file.
+    #[error("refused {refusal}: {name:?}: {reason}")]
+    OfFile {
+        refusal: Refusal,
+        name: String,
+        reason: io::Error,
+    },
+    /// Another process has the trace.
+    #[error("{name:?} is in use by another process")]
+    InUse { name: String },
+    /// The trace can't be locked.
+    #[error("{name:?} can't be locked: {reason}")]
+    NotLocked { name: String, reason: io::Error },
 }
 
 impl SimFault {
@@ -52,6 +72,24 @@ impl From<AllocError> for SimFault {
 impl<T: Drop> From<AllocFailed<T>> for SimFault {
     fn from(_fault: AllocFailed<T>) -> SimFault {
         SimFault::NoMemory
+    }
+}
+
+impl From<WriteFault> for SimFault {
+    fn from(_fault: WriteFault) -> SimFault {
+        SimFault::Write
+    }
+}
+
+impl From<PortFault> for SimFault {
+    fn from(fault: PortFault) -> SimFault {
+        SimFault::Refused(Refusal::Port(fault))
+    }
+}
+
+impl From<RecoverFault> for SimFault {
+    fn from(fault: RecoverFault) -> SimFault {
+        SimFault::Refused(Refusal::Recover(fault))
     }
 }
 

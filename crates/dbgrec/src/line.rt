@@ -47,6 +47,16 @@ pub enum Line {
     Wipe,
 }
 
+impl Line {
+    /// Whether it stands in a script for a desk alone.
+    pub fn is_of_desk(&self) -> bool {
+        matches!(
+            self,
+            Line::Flush | Line::Seal | Line::Tick(_) | Line::Abandon | Line::AtDesk(_)
+        )
+    }
+}
+
 /// The size or time of a wrap, and how many runs it keeps, of any that their types have.
 fn wrap_numbers(most: &str, count: &str) -> Option<(u32, u16)> {
     let most = u32::try_from(number(most)?).ok()?;

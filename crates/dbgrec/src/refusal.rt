@@ -57,6 +57,20 @@ pub enum Refusal {
     Hand(HandRefusal),
 }
 
+impl Refusal {
+    /// Whether a device call failed.
+    pub fn is_of_device(&self) -> bool {
+        matches!(
+            self,
+            Refusal::Device
+                | Refusal::Recover(RecoverFault::Device)
+                | Refusal::Create(CreateFault::Device)
+                | Refusal::Resume(ResumeFault::Recover(RecoverFault::Device))
+                | Refusal::Port(PortFault::Device)
+        )
+    }
+}
+
 impl From<DeviceFault> for Refusal {
     fn from(_fault: DeviceFault) -> Refusal {
         Refusal::Device

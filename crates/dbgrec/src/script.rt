@@ -21,6 +21,8 @@ pub struct Script<'r, R: BufRead> {
     text: Vec<u8>,
     number: u64,
     left: u64,
+    /// Whether each line that isn't for a port in a desk is a bad command.
+    is_of_desk: bool,
 }
 
 impl<'r, R: BufRead> Script<'r, R> {
@@ -32,6 +34,15 @@ impl<'r, R: BufRead> Script<'r, R> {
             text,
             number: 0,
             left: MOST_BYTES,
+            is_of_desk: false,
+        })
+    }
+
+    /// A script whose every line is for a port in a desk.
+    pub fn of_desk(alloc: Global, reader: &'r mut R) -> Result<Script<'r, R>, AllocError> {
+        Ok(Script {
+            is_of_desk: true,
+            ..Script::new(alloc, reader)?
         })
     }
 
@@ -75,8 +86,8 @@ impl<'r, R: BufRead> Script<'r, R> {
                 continue;
             }
             return match parse(self.alloc, text)? {
-                Some(line) => Ok(Some(line)),
-                None => Err(self.bad_command()),
+                Some(line) if !self.is_of_desk || line.is_of_desk() => Ok(Some(line)),
+                _ => Err(self.bad_command()),
             };
         }
         Ok(None)
