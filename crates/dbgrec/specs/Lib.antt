@@ -8,6 +8,4 @@ pub mod Held
 pub mod Stored
 pub mod Places
 pub mod Openings
-pub mod Incoming
-pub mod Importing
 pub mod Kept

@@ -14,7 +14,6 @@ mod files;
 mod held;
 mod host;
 mod importing;
-mod incoming;
 mod kept;
 mod line;
 mod opening;
