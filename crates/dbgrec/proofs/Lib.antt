@@ -4,3 +4,4 @@ pub mod Placing
 pub mod Running
 pub mod Written
 pub mod Storing
+pub mod Starting

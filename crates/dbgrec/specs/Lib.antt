@@ -1,4 +1,5 @@
 pub mod Line
+pub mod Faults
 pub mod Texts
 pub mod Answers
 pub mod Sides

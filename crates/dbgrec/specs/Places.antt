@@ -3,7 +3,6 @@ use Rattle.std.specs.Prelude.{ℕ, ◌+◌, List, ◌++◌}
 use Rattle.std.specs.Fmt.{decimal}
 use Rattle.dbgrec.specs.declared.place.Kind.{Kind}
 use Rattle.dbgrec.specs.declared.place.Kind.TheVariants as kinds
-use Rattle.dbgrec.specs.declared.place.Place.{Place}
 
 -- one file, or one more than the runs that a wrap keeps
 abbrev pub file_count : Kind → ℕ

@@ -15,8 +15,8 @@ pub struct Answers<'w, W: Write> {
 }
 
 impl<'w, W: Write> Answers<'w, W> {
-    ghost use Rattle.std.specs.Prelude.{ℕ, List, OnOk};
-    ghost use Rattle.std.specs.Io.KnownBytes.{Appends};
+    ghost use Rattle.std.specs.Prelude.{◌≡◌, ℕ, List, OnOk};
+    ghost use Rattle.std.specs.Io.KnownBytes.{Appends, Keeps};
     ghost use Rattle.entry_codec.specs.Seen.{views};
     ghost use Rattle.trace_client.specs.Lines.{IsListing};
     ghost use Rattle.dbgrec.specs.Texts.{line_of};
@@ -29,7 +29,10 @@ impl<'w, W: Write> Answers<'w, W> {
     }
 
     /// Answers for somebody who waits for them.
-    pub fn at_once(writer: &'w mut W) -> Answers<'w, W> {
+    pub fn at_once(writer: &'w mut W) -> Answers<'w, W>
+        ensures name { result.writer.ghost_name ≡ writer.entry.ghost_name }
+        ensures now { result.writer.now ≡ writer.entry.now }
+    {
         Answers {
             writer,
             at_once: true,
@@ -38,7 +41,8 @@ impl<'w, W: Write> Answers<'w, W> {
 
     /// A line with the answer.
     pub fn tell(&mut self, answer: Answer) -> Result<(), SimFault>
-        ensures { OnOk result (Appends (W.contents self.old.writer.now) (W.contents self.new.writer.now) (line_of answer)) }
+        ensures name { self.new.writer.ghost_name ≡ self.old.writer.ghost_name }
+        ensures text { OnOk result (Appends (W.contents self.old.writer.now) (W.contents self.new.writer.now) (line_of answer)) }
     {
         writeln!(self.writer, "{answer}").map_err(|_| SimFault::Write)?;
         if self.at_once {
@@ -65,7 +69,10 @@ impl<'w, W: Write> Answers<'w, W> {
     }
 
     /// Writes out what is still in a buffer.
-    pub fn finish(&mut self) -> Result<(), SimFault> {
+    pub fn finish(&mut self) -> Result<(), SimFault>
+        ensures name { self.new.writer.ghost_name ≡ self.old.writer.ghost_name }
+        ensures bytes { Keeps (W.contents self.old.writer.now) (W.contents self.new.writer.now) }
+    {
         self.writer.flush().map_err(|_| SimFault::Write)
     }
 }

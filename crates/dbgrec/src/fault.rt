@@ -1,4 +1,8 @@
 // What ends a run before its end.
+ghost use Rattle.std.specs.Prelude.{◌≡◌};
+ghost use Rattle.dbgrec.specs.Faults.{fault_of_list};
+ghost use Rattle.dbgrec.specs.declared.fault.SimFault.TheVariants as faults;
+ghost use Rattle.dbgrec.specs.declared.refusal.Refusal.TheVariants as refusals;
 
 use crate::refusal::Refusal;
 use recovery::RecoverFault;
@@ -64,36 +68,48 @@ impl SimFault {
 }
 
 impl From<AllocError> for SimFault {
+    ghost from_gives = { λ _ e. e ≡ faults.NoMemory };
+
     fn from(_fault: AllocError) -> SimFault {
         SimFault::NoMemory
     }
 }
 
 impl<T: Drop> From<AllocFailed<T>> for SimFault {
+    ghost from_gives = { λ _ e. e ≡ faults.NoMemory };
+
     fn from(_fault: AllocFailed<T>) -> SimFault {
         SimFault::NoMemory
     }
 }
 
 impl From<WriteFault> for SimFault {
+    ghost from_gives = { λ _ e. e ≡ faults.Write };
+
     fn from(_fault: WriteFault) -> SimFault {
         SimFault::Write
     }
 }
 
 impl From<PortFault> for SimFault {
+    ghost from_gives = { λ fault e. e ≡ faults.Refused (refusals.Port fault) };
+
     fn from(fault: PortFault) -> SimFault {
         SimFault::Refused(Refusal::Port(fault))
     }
 }
 
 impl From<RecoverFault> for SimFault {
+    ghost from_gives = { λ fault e. e ≡ faults.Refused (refusals.Recover fault) };
+
     fn from(fault: RecoverFault) -> SimFault {
         SimFault::Refused(Refusal::Recover(fault))
     }
 }
 
 impl From<ListFault> for SimFault {
+    ghost from_gives = { λ fault e. e ≡ fault_of_list fault };
+
     fn from(fault: ListFault) -> SimFault {
         match fault {
             ListFault::Write => SimFault::Write,

@@ -48,8 +48,13 @@ pub enum Line {
 }
 
 impl Line {
+    ghost use Rattle.std.specs.Prelude.{◌↔◌, IsTrue};
+    ghost use Rattle.dbgrec.specs.Line.{IsOfRecord};
+
     /// Whether it stands in a script for a desk alone.
-    pub fn is_of_desk(&self) -> bool {
+    pub fn is_of_desk(&self) -> bool
+        ensures { IsTrue result ↔ IsOfRecord self.now }
+    {
         matches!(
             self,
             Line::Flush | Line::Seal | Line::Tick(_) | Line::Abandon | Line::AtDesk(_)

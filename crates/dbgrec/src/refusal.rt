@@ -58,8 +58,13 @@ pub enum Refusal {
 }
 
 impl Refusal {
+    ghost use Rattle.std.specs.Prelude.{◌↔◌, IsTrue};
+    ghost use Rattle.dbgrec.specs.Faults.{IsOfDevice};
+
     /// Whether a device call failed.
-    pub fn is_of_device(&self) -> bool {
+    pub fn is_of_device(&self) -> bool
+        ensures { IsTrue result ↔ IsOfDevice self.now }
+    {
         matches!(
             self,
             Refusal::Device
@@ -67,6 +72,10 @@ impl Refusal {
                 | Refusal::Create(CreateFault::Device)
                 | Refusal::Resume(ResumeFault::Recover(RecoverFault::Device))
                 | Refusal::Port(PortFault::Device)
+                | Refusal::Hand(HandRefusal::Port {
+                    fault: PortFault::Device,
+                    moved: _
+                })
         )
     }
 }

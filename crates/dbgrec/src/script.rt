@@ -1,6 +1,6 @@
 // The lines of a script, read one at a time.
 ghost use Rattle.std.specs.Prelude.{IfOk, IfSome};
-ghost use Rattle.dbgrec.specs.Line.{IsWithinLimits};
+ghost use Rattle.dbgrec.specs.Line.{IsWithinLimits, IsOfRecord};
 
 use crate::fault::SimFault;
 use crate::line::{Line, parse};
@@ -26,7 +26,11 @@ pub struct Script<'r, R: BufRead> {
 }
 
 impl<'r, R: BufRead> Script<'r, R> {
-    pub fn new(alloc: Global, reader: &'r mut R) -> Result<Script<'r, R>, AllocError> {
+    ghost use Rattle.std.specs.Prelude.{◌≡◌, false, true};
+
+    pub fn new(alloc: Global, reader: &'r mut R) -> Result<Script<'r, R>, AllocError>
+        ensures { IfOk result (λ script. script.is_of_desk ≡ false) }
+    {
         let text = Vec::with_capacity(alloc, LONGEST + 1)?;
         Ok(Script {
             alloc,
@@ -39,7 +43,9 @@ impl<'r, R: BufRead> Script<'r, R> {
     }
 
     /// A script whose every line is for a port in a desk.
-    pub fn of_desk(alloc: Global, reader: &'r mut R) -> Result<Script<'r, R>, AllocError> {
+    pub fn of_desk(alloc: Global, reader: &'r mut R) -> Result<Script<'r, R>, AllocError>
+        ensures { IfOk result (λ script. script.is_of_desk ≡ true) }
+    {
         Ok(Script {
             is_of_desk: true,
             ..Script::new(alloc, reader)?
@@ -52,7 +58,9 @@ impl<'r, R: BufRead> Script<'r, R> {
     }
 
     /// Whether there is a line more, whose text then is in `text`.
-    fn advance(&mut self) -> Result<bool, SimFault> {
+    fn advance(&mut self) -> Result<bool, SimFault>
+        ensures { self.new.is_of_desk ≡ self.old.is_of_desk }
+    {
         self.text.clear();
         let Ok(count) = read_line(&mut *self.reader, &mut self.text) else {
             return Err(SimFault::Read);
@@ -70,7 +78,9 @@ impl<'r, R: BufRead> Script<'r, R> {
 
     /// The next line that isn't empty or a remark.
     pub fn next_line(&mut self) -> Result<Option<Line>, SimFault>
-        ensures { IfOk result (λ found. IfSome found IsWithinLimits) }
+        ensures sound { IfOk result (λ found. IfSome found IsWithinLimits) }
+        ensures of_desk { self.old.is_of_desk ≡ true → IfOk result (λ found. IfSome found IsOfRecord) }
+        ensures same { self.new.is_of_desk ≡ self.old.is_of_desk }
     {
         for _line in 0..u64::MAX {
             if !self.advance()? {

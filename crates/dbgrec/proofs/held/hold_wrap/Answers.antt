@@ -1,7 +1,9 @@
-use Rattle.std.proofs.Common.{rules, ◌≡◌, sym, subst}
+use Rattle.std.proofs.Common.{rules, ◌≡◌, refl, sym, subst}
 use Rattle.trace_port.specs.Device.{device_of}
 use Rattle.trace_port.specs.Port.{Ends}
 use Rattle.wrap_port.specs.WrapPort.{wrap_told}
+use Rattle.dbgrec.specs.Texts.{greeting}
+use Rattle.dbgrec.specs.Sides.{Alone}
 use Rattle.dbgrec.proofs.Running.{was_held}
 use Rattle.dbgrec.proofs.held.hold_wrap.Goals as goal
 
@@ -11,6 +13,6 @@ returns g c =
     let told = wrap_told g.S.Store Rattle.trace_port.specs.contracts.pending.PendingRoom.TheImpl.ghosts in
     let laws = g.met.S.Store g.world.𝓛 g.world.𝓜 g.world.𝓡 (λ s h. h, λ p. p, λ f. f, λ p. p) in
     let back : c.store-1.given.0 ≡ c.drop.new.self.0 = search rules in
-    was_held told (λ p honest image left. laws.only_now p.store.now image honest left) _ _ c.over-port.result c.run_port-left.new.port (device c.store-1.given.0) c.run_port-left.result _
+    was_held told (λ p honest image left. laws.only_now p.store.now image honest left) Alone (λ p. refl) _ (greeting c.args.origin) c.over-port.result c.run_port-left.new.port (device c.store-1.given.0) c.run_port-left.result _
     (λ Q q. subst (λ s. Q (device s)) c.over-port.ensures.now q) c.over-port.ensures.spec c.over-port.ensures.fits
     (subst (λ s. Ends (told c.run_port-left.new.port) (device s)) (sym back) c.drop.ensures) c.run_port-left.ensures.run
