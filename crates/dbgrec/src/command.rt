@@ -23,7 +23,10 @@ pub enum Request<'a> {
     /// List an entry stream.
     Stream,
     /// Record what a script says.
-    Record { place: Place<'a>, turn: Turn },
+    Record {
+        place: Place<'a>,
+        turn: Turn,
+    },
     /// Record an entry stream.
     Import {
         place: Place<'a>,
@@ -65,14 +68,29 @@ fn of_files<'a>(
     let base = Arg::new(alloc, "BASE")
         .required(true)
         .help("The file, or what the names of the wrap files begin with");
-    let kind = option(alloc, "kind", "KIND", "One file, or wrap files BASE0SUFFIX, BASE1SUFFIX ..")
-        .value_parser(["file", "wrap"].as_slice())
-        .default_value("file");
-    let suffix = option(alloc, "suffix", "SUFFIX", "What the names of wrap files end with")
-        .default_value("");
-    let count = option(alloc, "count", "COUNT", "Runs that a wrap keeps (1 to 1000), in one file more")
-        .value_parser(value_parser!(u16).range(1..=1000))
-        .default_value(COUNT);
+    let kind = option(
+        alloc,
+        "kind",
+        "KIND",
+        "One file, or wrap files BASE0SUFFIX, BASE1SUFFIX ..",
+    )
+    .value_parser(["file", "wrap"].as_slice())
+    .default_value("file");
+    let suffix = option(
+        alloc,
+        "suffix",
+        "SUFFIX",
+        "What the names of wrap files end with",
+    )
+    .default_value("");
+    let count = option(
+        alloc,
+        "count",
+        "COUNT",
+        "Runs that a wrap keeps (1 to 1000), in one file more",
+    )
+    .value_parser(value_parser!(u16).range(1..=1000))
+    .default_value(COUNT);
     Command::new(alloc, name)
         .about(about)
         .after_help(example)
@@ -89,19 +107,34 @@ fn of_new_files<'a>(
     about: &'a str,
     example: &'a str,
 ) -> Result<Command<'a>, AllocError> {
-    let size = option(alloc, "size", "BYTES", "A new wrap goes on to its next file behind more than this")
-        .value_parser(value_parser!(u32))
-        .default_value(SIZE);
-    let time = option(alloc, "time", "MS", "A new wrap goes on to its next file after this time instead")
-        .value_parser(value_parser!(u32).range(1..));
+    let size = option(
+        alloc,
+        "size",
+        "BYTES",
+        "A new wrap goes on to its next file behind more than this",
+    )
+    .value_parser(value_parser!(u32))
+    .default_value(SIZE);
+    let time = option(
+        alloc,
+        "time",
+        "MS",
+        "A new wrap goes on to its next file after this time instead",
+    )
+    .value_parser(value_parser!(u32).range(1..));
     of_files(alloc, name, about, example)?.arg(size)?.arg(time)
 }
 
 /// The command that records an entry stream.
 fn import<'a>(alloc: Global) -> Result<Command<'a>, AllocError> {
-    let flush = option(alloc, "flush", "WHEN", "When what came is synced: behind each entry, when the writer pauses, or at the end")
-        .value_parser(["always", "paused", "never"].as_slice())
-        .default_value("paused");
+    let flush = option(
+        alloc,
+        "flush",
+        "WHEN",
+        "When what came is synced: behind each entry, when the writer pauses, or at the end",
+    )
+    .value_parser(["always", "paused", "never"].as_slice())
+    .default_value("paused");
     of_new_files(
         alloc,
         "import",
@@ -116,7 +149,9 @@ fn dbgrec<'a>(alloc: Global) -> Result<Command<'a>, AllocError> {
         .about("Runs a script from standard input over a store in memory")
         .after_help("Example: dbgrec sim < examples/first.script");
     let stream = Command::new(alloc, "stream")
-        .about("Lists an entry stream from standard input on standard output, each line as it comes")
+        .about(
+            "Lists an entry stream from standard input on standard output, each line as it comes",
+        )
         .after_help("Example: nc HOST 4711 | dbgrec stream");
     let record = of_new_files(
         alloc,

@@ -17,7 +17,9 @@ use trace_port::PortFault;
 pub enum SimFault {
     /// A line, counted from 1, isn't a command.
     #[error("line {line}: bad command")]
-    BadCommand { line: u64 },
+    BadCommand {
+        line: u64,
+    },
     /// The script or the stream couldn't be read, or is longer than 1,099,511,627,776 bytes.
     #[error("refused 1 Read")]
     Read,
@@ -26,16 +28,24 @@ pub enum SimFault {
     Write,
     /// The stream ends inside the entry at this place, in bytes.
     #[error("refused 3 Truncated at {place}")]
-    Truncated { place: u64 },
+    Truncated {
+        place: u64,
+    },
     /// The entry at this place begins with neither 0 nor 1.
     #[error("refused 4 BadOp at {place}")]
-    BadOp { place: u64 },
+    BadOp {
+        place: u64,
+    },
     /// The entry at this place is a Drop of no messages.
     #[error("refused 5 ZeroDrop at {place}")]
-    ZeroDrop { place: u64 },
+    ZeroDrop {
+        place: u64,
+    },
     /// The entry at this place is a message of more than 65,531 bytes.
     #[error("refused 6 TooLong at {place}")]
-    TooLong { place: u64 },
+    TooLong {
+        place: u64,
+    },
     /// The allocator refused memory to the run itself.
     #[error("refused 7 NoMemory")]
     NoMemory,
@@ -51,10 +61,15 @@ pub enum SimFault {
     },
     /// Another process has the trace.
     #[error("{name:?} is in use by another process")]
-    InUse { name: String },
+    InUse {
+        name: String,
+    },
     /// The trace can't be locked.
     #[error("{name:?} can't be locked: {reason}")]
-    NotLocked { name: String, reason: io::Error },
+    NotLocked {
+        name: String,
+        reason: io::Error,
+    },
 }
 
 impl SimFault {

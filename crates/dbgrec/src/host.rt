@@ -23,6 +23,7 @@ pub trait Host {
 
 /// Milliseconds until a run counts as long, and between two of its lines.
 const PATIENCE: u64 = 1_000;
+
 const BETWEEN: u64 = 200;
 
 /// The system's clock, and standard error.

@@ -32,6 +32,8 @@ mod tests;
 mod tests_desk;
 #[cfg(test)]
 mod tests_driving;
+#[cfg(test)]
+mod tests_record;
 mod watched;
 
 use clap::error::ErrorKind;

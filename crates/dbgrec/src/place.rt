@@ -1,6 +1,7 @@
 // Where a trace is stored.
 ghost use Rattle.std.specs.Prelude.{◌≤◌};
 ghost use Rattle.dbgrec.specs.Places.{file_count};
+
 use std::alloc::{AllocError, Global};
 use wrap_port::file_name;
 
