@@ -9,4 +9,6 @@ pub mod Held
 pub mod Stored
 pub mod Places
 pub mod Openings
+pub mod Incoming
+pub mod Importing
 pub mod Kept

@@ -14,6 +14,7 @@ mod files;
 mod held;
 mod host;
 mod importing;
+mod incoming;
 mod kept;
 mod line;
 mod opening;
