@@ -5,3 +5,7 @@ pub mod Running
 pub mod Written
 pub mod Storing
 pub mod Streaming
+pub mod Starting
+pub mod Parts
+pub mod Feeding
+pub mod Turning

@@ -18,14 +18,13 @@ use Rattle.tracees.proofs.Composed.{IsStill, items_in-append, covered_more, behi
 use Rattle.dbgrec.specs.declared.line.Line.{Line}
 use Rattle.dbgrec.specs.declared.answer.Answer.{Answer}
 use Rattle.dbgrec.specs.declared.reply.Leave.{Leave}
-use Rattle.dbgrec.specs.declared.reply.Origin.{Origin}
 use Rattle.dbgrec.specs.declared.reply.Reply.{Reply}
 use Rattle.dbgrec.specs.declared.reply.Reply.TheVariants.{Told as Answered, Left}
 use Rattle.dbgrec.specs.declared.fault.SimFault.{SimFault}
-use Rattle.dbgrec.specs.Texts.{line_of, greeting}
+use Rattle.dbgrec.specs.Texts.{line_of}
 use Rattle.dbgrec.specs.Sides.{Held, Alone, AtDesk, port_of}
 use Rattle.dbgrec.specs.Asked.{IsAsked}
-use Rattle.dbgrec.specs.Held.{Exchange, AreAsked, ends, leaves, asks, left_by, effects, accepted, written, IsSoundSince, IsSoundThroughout, IsLetGo, Ran, WasHeld}
+use Rattle.dbgrec.specs.Held.{Exchange, AreAsked, ends, leaves, asks, left_by, effects, accepted, written, IsSoundSince, IsSoundThroughout, IsLetGo, Ran, IsHeld, WasHeld}
 use Rattle.dbgrec.proofs.Asking.{asked_calls}
 
 -- the calls of a run
@@ -125,36 +124,45 @@ finished_ends old mid last finished dropped =
       idle = λ dead. idle_twice old.device mid.device last (finished.ends.idle dead) idle;
     }
 
-let_go_ends : {P : Type 0} (told : P → Told) (end : Held P) (q : P) (last : Device) → IsLetGo told end q → Ends (told q) last → Ends (told (port_of end)) last
+pub let_go_ends : {P : Type 0} (told : P → Told) (end : Held P) (q : P) (last : Device) → IsLetGo told end q → Ends (told q) last → Ends (told (port_of end)) last
 let_go_ends {P} told (Alone p) q last same over = subst (λ (x : P). Ends (told x) last) same over
 let_go_ends told (AtDesk side) q last finished over = finished_ends (told side.desk.port) (told q) last finished over
 
 -- a port over an opening: what it was asked, and what its end left
-pub was_held : {P : Type 0} (told : P → Told) → ((p : P) → IsStill (told p)) → (opened : Told) (origin : Origin) (first let_go : P) (last : Device) (left : Result (Option Leave) SimFault) (Writes : List ℕ → Type 0)
+unfoldable pub is_held : {P : Type 0} (told : P → Told) → ((p : P) → IsStill (told p)) → (start : P → Held P) → ((p : P) → port_of (start p) ≡ p) → (opened : Told) (first let_go : P) (end : Held P) (last : Device) (done : List Exchange) (leave : Option Leave)
     → ((Q : Device → Type 0) → Q (told first).device → Q opened.device) → IsAsOpened opened (told first) → ((v0 : View) (ys : List Item) (c : ℕ) → Fits opened v0 ys c → Fits (told first) v0 ys c) → Ends (told let_go) last
-    → Ran told (Alone first) left (λ end. IsLetGo told end let_go) (λ text. Writes (line_of (greeting origin (told first).total) ++ text)) → WasHeld told opened origin left last Writes
-was_held told still opened origin first let_go last left Writes moved as_opened fits drops ran =
-    let over = let_go_ends told ran.end let_go last ran.stands drops in
+    → AreAsked told (start first) done leave end → IsLetGo told end let_go → IsHeld told start opened done leave last
+is_held {P} told still start starts opened first let_go end last done leave moved as_opened fits drops run lets_go =
+    let over = let_go_ends told end let_go last lets_go drops in
+    let at_start : (v0 : View) (c : ℕ) → Fits opened v0 [] c → Fits (told (port_of (start first))) v0 [] c = λ v0 c f. subst (λ (p : P). Fits (told p) v0 [] c) (sym (starts first)) (fits v0 [] c f) in
     record {
-      done = ran.done;
-      held = record {
-        first = first;
-        end = ran.end;
-        let_go = let_go;
-        as_opened = as_opened;
-        at_first = moved (λ d. IsIdle d (told first).device) (stays_idle (told first).device);
-        fits = fits;
-        asks = ran.asks;
-        lets_go = ran.stands;
-        drops = drops;
-        over = over;
-        whole = λ h v0 c f. moved (λ d. Leaves d last (Sound opened.spec v0 (accepted ran.done) c))
-            (subst (λ (spec : Spec). Leaves (told first).device last (Sound spec v0 (accepted ran.done) c)) as_opened.spec
-            (is_sound_since told still (Alone first) ran.end last ran.done (left_by left) over h v0 c (fits v0 [] c f) [] ran.done (Alone first) refl ends ran.asks).since);
-        lines = λ h v0 c f. is_sound_throughout told still (Alone first) ran.end last ran.done (left_by left) over h v0 c (fits v0 [] c f);
-      };
-      text = ran.text;
+      first = first;
+      end = end;
+      let_go = let_go;
+      as_opened = as_opened;
+      at_first = moved (λ d. IsIdle d (told first).device) (stays_idle (told first).device);
+      fits = fits;
+      asks = run;
+      lets_go = lets_go;
+      drops = drops;
+      over = over;
+      whole = λ h v0 c f. moved (λ d. Leaves d last (Sound opened.spec v0 (accepted done) c))
+          (subst (λ (spec : Spec). Leaves (told first).device last (Sound spec v0 (accepted done) c)) as_opened.spec
+          (subst (λ (p : P). Leaves (told p).device last (Sound (told p).spec v0 (accepted done) c)) (starts first)
+          (is_sound_since told still (start first) end last done leave over h v0 c (at_start v0 c f) [] done (start first) refl ends run).since));
+      lines = λ h v0 c f. is_sound_throughout told still (start first) end last done leave over h v0 c (at_start v0 c f);
     }
+
+-- the same, with what was written
+pub was_held : {P : Type 0} (told : P → Told) → ((p : P) → IsStill (told p)) → (start : P → Held P) → ((p : P) → port_of (start p) ≡ p) → (opened : Told) (greets : ℕ → Answer) (first let_go : P) (last : Device) (left : Result (Option Leave) SimFault) (Writes : List ℕ → Type 0)
+    → ((Q : Device → Type 0) → Q (told first).device → Q opened.device) → IsAsOpened opened (told first) → ((v0 : View) (ys : List Item) (c : ℕ) → Fits opened v0 ys c → Fits (told first) v0 ys c) → Ends (told let_go) last
+    → Ran told (start first) left (λ end. IsLetGo told end let_go) (λ text. Writes (line_of (greets (told first).total) ++ text)) → WasHeld told start opened greets left last Writes
+unfolding is_held
+was_held told still start starts opened greets first let_go last left Writes moved as_opened fits drops ran = record {
+  done = ran.done;
+  held = is_held told still start starts opened first let_go ran.end last ran.done (left_by left) moved as_opened fits drops ran.asks ran.stands;
+  text = ran.text;
+}
 
 -- ---- a run and then another
 

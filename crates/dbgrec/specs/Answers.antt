@@ -8,9 +8,16 @@ use Rattle.tracees.specs.declared.receipt.HandFault.TheVariants as hands
 use Rattle.tracees.specs.declared.receipt.Receipt.{Receipt}
 use Rattle.dbgrec.specs.declared.answer.Answer.{Answer}
 use Rattle.dbgrec.specs.declared.answer.Answer.TheVariants as answers
+use Rattle.dbgrec.specs.declared.reply.Origin.{Origin}
+use Rattle.dbgrec.specs.declared.reply.Origin.TheVariants.{Created, Resumed}
 use Rattle.dbgrec.specs.declared.refusal.HandRefusal.{HandRefusal}
 use Rattle.dbgrec.specs.declared.refusal.HandRefusal.TheVariants as handing
 use Rattle.dbgrec.specs.declared.refusal.Refusal.TheVariants.{Port, Emit, Hand}
+
+-- an opening of a trace that has so many entries
+abbrev pub opened_answer : Origin → ℕ → Answer
+opened_answer Created accepted = answers.Created
+opened_answer Resumed accepted = answers.Resumed accepted
 
 -- an accept
 abbrev pub put_answer : Result ℕ PortFault → Answer

@@ -13,11 +13,10 @@ use Rattle.tracees.specs.Lent.{IsAsOpened}
 use Rattle.dbgrec.specs.declared.line.Line.{Line}
 use Rattle.dbgrec.specs.declared.answer.Answer.{Answer}
 use Rattle.dbgrec.specs.declared.reply.Leave.{Leave}
-use Rattle.dbgrec.specs.declared.reply.Origin.{Origin}
 use Rattle.dbgrec.specs.declared.reply.Reply.{Reply}
 use Rattle.dbgrec.specs.declared.reply.Reply.TheVariants.{Told as Answered, Left}
 use Rattle.dbgrec.specs.declared.fault.SimFault.{SimFault}
-use Rattle.dbgrec.specs.Texts.{line_of, greeting}
+use Rattle.dbgrec.specs.Texts.{line_of}
 use Rattle.dbgrec.specs.Sides.{Held, Alone, AtDesk, port_of}
 use Rattle.dbgrec.specs.Asked.{IsAsked}
 
@@ -94,24 +93,25 @@ abbrev pub IsAtDesk : {P : Type 0} → Place P → Held P → Type 0
 IsAtDesk desk (Alone p) = ⊥
 IsAtDesk desk (AtDesk side) = side.desk ≡ desk
 
--- a port over an opening was asked these lines, alone or in a desk, and then let go and dropped, and every moment since the opening was sound
-pub record IsHeld {P : Type 0} (told : P → Told) (opened : Told) (asked : List Exchange) (leave : Option Leave) (last : Device) : Type 0 where
+-- a port over an opening was held so at first, asked these lines, alone or in a desk, and then let go and dropped, and every moment since the opening was sound
+pub record IsHeld {P : Type 0} (told : P → Told) (start : P → Held P) (opened : Told) (asked : List Exchange) (leave : Option Leave) (last : Device) : Type 0 where
   pub first : P
   pub end : Held P
   pub let_go : P
   pub as_opened : IsAsOpened opened (told first)
   pub at_first : IsIdle opened.device (told first).device
   pub fits : (v0 : View) (ys : List Item) (c : ℕ) → Fits opened v0 ys c → Fits (told first) v0 ys c
-  pub asks : AreAsked told (Alone first) asked leave end
+  pub asks : AreAsked told (start first) asked leave end
   pub lets_go : IsLetGo told end let_go
   pub drops : Ends (told let_go) last
   -- the end of the desk and the drop of its port are the end of what was held
   pub over : Ends (told (port_of end)) last
   pub whole : last.honest → (v0 : View) (c : ℕ) → Fits opened v0 [] c → Leaves opened.device last (Sound opened.spec v0 (accepted asked) c)
-  pub lines : last.honest → (v0 : View) (c : ℕ) → Fits opened v0 [] c → IsSoundThroughout told (Alone first) asked leave end last v0 c
+  pub lines : last.honest → (v0 : View) (c : ℕ) → Fits opened v0 [] c → IsSoundThroughout told (start first) asked leave end last v0 c
 
 -- lines were run on a port over an opening, which then was dropped; and, unless a fault ended that, what was written is how it was opened and what it answered
-pub record WasHeld {P : Type 0} (told : P → Told) (opened : Told) (origin : Origin) (left : Result (Option Leave) SimFault) (last : Device) (Writes : List ℕ → Type 0) : Type 0 where
+pub record WasHeld {P : Type 0} (told : P → Told) (start : P → Held P) (opened : Told) (greets : ℕ → Answer) (left : Result (Option Leave) SimFault) (last : Device) (Writes : List ℕ → Type 0) : Type 0 where
   pub done : List Exchange
-  pub held : IsHeld told opened done (left_by left) last
-  pub text : IfOk left (λ _. Writes (line_of (greeting origin (told held.first).total) ++ written done))
+  pub held : IsHeld told start opened done (left_by left) last
+  -- it was told how many entries the opening found
+  pub text : IfOk left (λ _. Writes (line_of (greets (told held.first).total) ++ written done))

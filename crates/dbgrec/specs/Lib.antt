@@ -1,4 +1,5 @@
 pub mod Line
+pub mod Faults
 pub mod Texts
 pub mod Answers
 pub mod Sides
@@ -7,3 +8,9 @@ pub mod Asked
 pub mod Held
 pub mod Stored
 pub mod Streamed
+pub mod Places
+pub mod Openings
+pub mod Incoming
+pub mod Parts
+pub mod Importing
+pub mod Kept

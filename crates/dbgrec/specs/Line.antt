@@ -21,6 +21,15 @@ IsWithinLimits (lines.Put entry) = IsLawful (view entry)
 IsWithinLimits (lines.AtDesk line) = IsNumbered line
 IsWithinLimits _ = ⊤
 
+-- a line of a script for a desk alone
+abbrev pub IsOfRecord : Line → Type 0
+IsOfRecord lines.Flush = Unit {0}
+IsOfRecord lines.Seal = Unit {0}
+IsOfRecord (lines.Tick now) = Unit {0}
+IsOfRecord lines.Abandon = Unit {0}
+IsOfRecord (lines.AtDesk line) = Unit {0}
+IsOfRecord _ = ⊥
+
 -- the file that the line names is one of these
 abbrev pub HasFile : Image → Line → Type 0
 HasFile image (lines.Bytes file bytes) = file < length image

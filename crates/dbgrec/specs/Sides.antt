@@ -41,6 +41,10 @@ first_side place = record { desk = place; moment = record { mega = 0; sec = 0; m
 abbrev pub new_side : {P : Type 0} → P → DeskSide P
 new_side p = first_side (record { number = 0; port = p; counted = no_totals; attached = 0 })
 
+-- a port that is in a desk from the start
+abbrev pub in_desk : {P : Type 0} → P → Held P
+in_desk p = AtDesk (new_side p)
+
 -- where the tracee of this number sits
 abbrev pub place_by : ℕ → List Seat → Option ℕ
 place_by n seats = position (λ (seat : Seat). nat_eq seat.tracee.number n) seats

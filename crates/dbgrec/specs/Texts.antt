@@ -100,9 +100,11 @@ abbrev pub answer_text : Answer → List ℕ
 answer_text answers.Done = codes "ok"
 answer_text answers.OutOfOrder = codes "out of order"
 answer_text (answers.Entry number) = codes "entry " ++ decimal number
+answer_text answers.Created = codes "created"
 answer_text (answers.Resumed count) = codes "resumed " ++ decimal count
 answer_text (answers.Covered count) = codes "covered " ++ decimal count
 answer_text answers.Sealed = codes "sealed"
+answer_text (answers.SealedAt count) = codes "sealed " ++ decimal count
 answer_text answers.Cut = codes "cut"
 answer_text answers.Open = codes "open"
 answer_text answers.Closed = codes "closed"

@@ -5,6 +5,7 @@ ghost use Rattle.dbgrec.specs.Answers as told;
 ghost use Rattle.dbgrec.specs.Texts as texts;
 
 use crate::refusal::{HandRefusal, Refusal};
+use crate::reply::Origin;
 use intake::{Counts, EmitFault, Offer};
 use std::fmt;
 use trace_port::PortFault;
@@ -18,11 +19,15 @@ pub enum Answer {
     OutOfOrder,
     /// The number of the entry that was taken.
     Entry(u64),
+    /// A port that was made.
+    Created,
     /// Entries that a resumed port found.
     Resumed(u64),
     /// Entries that are covered.
     Covered(u64),
     Sealed,
+    /// A trace that was sealed with so many entries.
+    SealedAt(u64),
     /// A tick that cut.
     Cut,
     /// A tick that didn't.
@@ -47,6 +52,16 @@ pub enum Answer {
 }
 
 impl Answer {
+    /// How a port was opened whose trace has so many entries.
+    pub fn opened(origin: Origin, accepted: u64) -> Answer
+        ensures { result ≡ told.opened_answer origin accepted }
+    {
+        match origin {
+            Origin::Created => Answer::Created,
+            Origin::Resumed => Answer::Resumed(accepted),
+        }
+    }
+
     /// How an accept is answered.
     pub fn of_put(outcome: Result<u64, PortFault>) -> Answer
         ensures { result ≡ told.put_answer outcome }
@@ -137,9 +152,11 @@ impl fmt::Display for Answer {
             Answer::Done => f.write_str("ok"),
             Answer::OutOfOrder => f.write_str("out of order"),
             Answer::Entry(number) => write!(f, "entry {number}"),
+            Answer::Created => f.write_str("created"),
             Answer::Resumed(count) => write!(f, "resumed {count}"),
             Answer::Covered(count) => write!(f, "covered {count}"),
             Answer::Sealed => f.write_str("sealed"),
+            Answer::SealedAt(count) => write!(f, "sealed {count}"),
             Answer::Cut => f.write_str("cut"),
             Answer::Open => f.write_str("open"),
             Answer::Closed => f.write_str("closed"),

@@ -34,6 +34,7 @@ pub fn run_desk<P: TracePort, R: BufRead, W: Write>(
 ) -> Result<Option<Leave>, SimFault>
     ensures name { desk.new.port.ghost_name ≡ desk.old.port.ghost_name }
     ensures same { P.lender desk.new.port.now ≡ P.lender desk.old.port.now }
+    ensures writer { answers.new.writer.ghost_name ≡ answers.old.writer.ghost_name }
     ensures run { Ran P.told (AtDesk (first_side (desk_seen P.TracePort desk.old))) result (IsAtDesk (desk_seen P.TracePort desk.new))
         (λ text. Appends (W.contents answers.old.writer.now) (W.contents answers.new.writer.now) text) }
 {

@@ -1,18 +1,26 @@
 // What ends a run before its end.
-
 ghost use Rattle.std.specs.Prelude.{◌≡◌};
+ghost use Rattle.dbgrec.specs.Faults.{fault_of_list};
 ghost use Rattle.dbgrec.specs.Streamed.{run_fault};
+ghost use Rattle.dbgrec.specs.declared.fault.SimFault.TheVariants as faults;
+ghost use Rattle.dbgrec.specs.declared.refusal.Refusal.TheVariants as refusals;
 
+use crate::refusal::Refusal;
+use recovery::RecoverFault;
 use std::alloc::{AllocError, AllocFailed};
+use std::io;
 use thiserror::Error;
-use trace_client::{ListFault, StreamFault};
+use trace_client::{ListFault, StreamFault, WriteFault};
+use trace_port::PortFault;
 
 /// What ends a run before its end. It displays what is told on standard error.
 #[derive(Debug, Drop, Error)]
 pub enum SimFault {
     /// A line, counted from 1, isn't a command.
     #[error("line {line}: bad command")]
-    BadCommand { line: u64 },
+    BadCommand {
+        line: u64,
+    },
     /// The script or the stream couldn't be read, or is longer than 1,099,511,627,776 bytes.
     #[error("refused 1 Read")]
     Read,
@@ -21,19 +29,48 @@ pub enum SimFault {
     Write,
     /// The stream ends inside the entry at this place, in bytes.
     #[error("refused 3 Truncated at {place}")]
-    Truncated { place: u64 },
+    Truncated {
+        place: u64,
+    },
     /// The entry at this place begins with neither 0 nor 1.
     #[error("refused 4 BadOp at {place}")]
-    BadOp { place: u64 },
+    BadOp {
+        place: u64,
+    },
     /// The entry at this place is a Drop of no messages.
     #[error("refused 5 ZeroDrop at {place}")]
-    ZeroDrop { place: u64 },
+    ZeroDrop {
+        place: u64,
+    },
     /// The entry at this place is a message of more than 65,531 bytes.
     #[error("refused 6 TooLong at {place}")]
-    TooLong { place: u64 },
+    TooLong {
+        place: u64,
+    },
     /// The allocator refused memory to the run itself.
     #[error("refused 7 NoMemory")]
     NoMemory,
+    /// A call on a stored trace.
+    #[error("refused {0}")]
+    Refused(Refusal),
+    /// A call on a stored trace, for what the system said of a file.
+    #[error("refused {refusal}: {name:?}: {reason}")]
+    OfFile {
+        refusal: Refusal,
+        name: String,
+        reason: io::Error,
+    },
+    /// Another process has the trace.
+    #[error("{name:?} is in use by another process")]
+    InUse {
+        name: String,
+    },
+    /// The trace can't be locked.
+    #[error("{name:?} can't be locked: {reason}")]
+    NotLocked {
+        name: String,
+        reason: io::Error,
+    },
 }
 
 impl SimFault {
@@ -47,18 +84,48 @@ impl SimFault {
 }
 
 impl From<AllocError> for SimFault {
+    ghost from_gives = { λ _ e. e ≡ faults.NoMemory };
+
     fn from(_fault: AllocError) -> SimFault {
         SimFault::NoMemory
     }
 }
 
 impl<T: Drop> From<AllocFailed<T>> for SimFault {
+    ghost from_gives = { λ _ e. e ≡ faults.NoMemory };
+
     fn from(_fault: AllocFailed<T>) -> SimFault {
         SimFault::NoMemory
     }
 }
 
+impl From<WriteFault> for SimFault {
+    ghost from_gives = { λ _ e. e ≡ faults.Write };
+
+    fn from(_fault: WriteFault) -> SimFault {
+        SimFault::Write
+    }
+}
+
+impl From<PortFault> for SimFault {
+    ghost from_gives = { λ fault e. e ≡ faults.Refused (refusals.Port fault) };
+
+    fn from(fault: PortFault) -> SimFault {
+        SimFault::Refused(Refusal::Port(fault))
+    }
+}
+
+impl From<RecoverFault> for SimFault {
+    ghost from_gives = { λ fault e. e ≡ faults.Refused (refusals.Recover fault) };
+
+    fn from(fault: RecoverFault) -> SimFault {
+        SimFault::Refused(Refusal::Recover(fault))
+    }
+}
+
 impl From<ListFault> for SimFault {
+    ghost from_gives = { λ fault e. e ≡ fault_of_list fault };
+
     fn from(fault: ListFault) -> SimFault {
         match fault {
             ListFault::Write => SimFault::Write,

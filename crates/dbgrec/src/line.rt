@@ -47,6 +47,21 @@ pub enum Line {
     Wipe,
 }
 
+impl Line {
+    ghost use Rattle.std.specs.Prelude.{◌↔◌, IsTrue};
+    ghost use Rattle.dbgrec.specs.Line.{IsOfRecord};
+
+    /// Whether it stands in a script for a desk alone.
+    pub fn is_of_desk(&self) -> bool
+        ensures { IsTrue result ↔ IsOfRecord self.now }
+    {
+        matches!(
+            self,
+            Line::Flush | Line::Seal | Line::Tick(_) | Line::Abandon | Line::AtDesk(_)
+        )
+    }
+}
+
 /// The size or time of a wrap, and how many runs it keeps, of any that their types have.
 fn wrap_numbers(most: &str, count: &str) -> Option<(u32, u16)> {
     let most = u32::try_from(number(most)?).ok()?;

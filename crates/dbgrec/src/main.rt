@@ -10,8 +10,16 @@ mod contents;
 mod desk_line;
 mod event;
 mod fault;
+mod files;
 mod held;
+mod host;
+mod importing;
+mod incoming;
+mod kept;
 mod line;
+mod opening;
+mod place;
+mod recording;
 mod refusal;
 mod reply;
 mod script;
@@ -25,12 +33,19 @@ mod tests;
 mod tests_desk;
 #[cfg(test)]
 mod tests_driving;
+#[cfg(test)]
+mod tests_record;
+mod watched;
 
 use clap::error::ErrorKind;
-use command::{Request, asked_for};
+use command::{Request, Turn, asked_for};
 use fault::SimFault;
+use files::Files;
+use host::Console;
+use importing::Flushing;
+use place::Place;
 use sim::run_sim;
-use std::io::{BufReader, BufWriter};
+use std::io::{BufReader, BufWriter, IsTerminal};
 use std::process::ExitCode;
 use std::rt::{Stdin, Stdout};
 use std::{env, io};
@@ -47,11 +62,44 @@ fn output(rt: &HostRuntime) -> Result<BufWriter<Stdout>, SimFault> {
     BufWriter::with_capacity(rt.alloc(), BUFFER, rt.stdout()).map_err(|_| SimFault::NoMemory)
 }
 
-fn serve(rt: &HostRuntime, request: Request) -> Result<(), SimFault> {
+fn serve(rt: &HostRuntime, request: Request<'_>) -> Result<(), SimFault> {
     match request {
         Request::Sim => run_sim(rt.alloc(), &mut input(rt)?, &mut output(rt)?),
         Request::Stream => run_stream(rt.alloc(), &mut input(rt)?, &mut output(rt)?),
+        Request::Record { place, turn } => {
+            Files::locked_at(*rt, place)?.record(turn, &mut input(rt)?, &mut rt.stdout())
+        }
+        Request::Import {
+            place,
+            turn,
+            flushing,
+        } => import(rt, place, turn, flushing),
+        Request::List(place) => list(rt, place),
+        Request::Export(place) => Files::at(*rt, place)?.export(&mut output(rt)?),
+        Request::Wipe(place) => Files::locked_at(*rt, place)?.wipe(&mut rt.stdout()),
     }
+}
+
+fn import(
+    rt: &HostRuntime,
+    place: Place<'_>,
+    turn: Turn,
+    flushing: Flushing,
+) -> Result<(), SimFault> {
+    let mut console = Console::new(*rt, false);
+    let (mut reader, mut writer) = (rt.stdin(), rt.stdout());
+    let mut files = Files::locked_at(*rt, place)?;
+    let done = files.import(turn, flushing, &mut reader, &mut writer, &mut console);
+    console.clear();
+    done
+}
+
+/// Lists a trace. Where the listing itself goes to a terminal, no other line is shown there.
+fn list(rt: &HostRuntime, place: Place<'_>) -> Result<(), SimFault> {
+    let mut console = Console::new(*rt, rt.stdout().is_terminal());
+    let done = Files::at(*rt, place)?.list(&mut output(rt)?, &mut console);
+    console.clear();
+    done
 }
 
 fn words(rt: &HostRuntime) -> io::Result<Vec<String>> {

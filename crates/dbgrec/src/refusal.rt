@@ -57,6 +57,29 @@ pub enum Refusal {
     Hand(HandRefusal),
 }
 
+impl Refusal {
+    ghost use Rattle.std.specs.Prelude.{◌↔◌, IsTrue};
+    ghost use Rattle.dbgrec.specs.Faults.{IsOfDevice};
+
+    /// Whether a device call failed.
+    pub fn is_of_device(&self) -> bool
+        ensures { IsTrue result ↔ IsOfDevice self.now }
+    {
+        matches!(
+            self,
+            Refusal::Device
+                | Refusal::Recover(RecoverFault::Device)
+                | Refusal::Create(CreateFault::Device)
+                | Refusal::Resume(ResumeFault::Recover(RecoverFault::Device))
+                | Refusal::Port(PortFault::Device)
+                | Refusal::Hand(HandRefusal::Port {
+                    fault: PortFault::Device,
+                    moved: _
+                })
+        )
+    }
+}
+
 impl From<DeviceFault> for Refusal {
     fn from(_fault: DeviceFault) -> Refusal {
         Refusal::Device

@@ -1,6 +1,6 @@
 // The lines of a script, read one at a time.
 ghost use Rattle.std.specs.Prelude.{IfOk, IfSome};
-ghost use Rattle.dbgrec.specs.Line.{IsWithinLimits};
+ghost use Rattle.dbgrec.specs.Line.{IsWithinLimits, IsOfRecord};
 
 use crate::fault::SimFault;
 use crate::line::{Line, parse};
@@ -21,10 +21,16 @@ pub struct Script<'r, R: BufRead> {
     text: Vec<u8>,
     number: u64,
     left: u64,
+    /// Whether each line that isn't for a port in a desk is a bad command.
+    is_of_desk: bool,
 }
 
 impl<'r, R: BufRead> Script<'r, R> {
-    pub fn new(alloc: Global, reader: &'r mut R) -> Result<Script<'r, R>, AllocError> {
+    ghost use Rattle.std.specs.Prelude.{◌≡◌, false, true};
+
+    pub fn new(alloc: Global, reader: &'r mut R) -> Result<Script<'r, R>, AllocError>
+        ensures { IfOk result (λ script. script.is_of_desk ≡ false) }
+    {
         let text = Vec::with_capacity(alloc, LONGEST + 1)?;
         Ok(Script {
             alloc,
@@ -32,6 +38,17 @@ impl<'r, R: BufRead> Script<'r, R> {
             text,
             number: 0,
             left: MOST_BYTES,
+            is_of_desk: false,
+        })
+    }
+
+    /// A script whose every line is for a port in a desk.
+    pub fn of_desk(alloc: Global, reader: &'r mut R) -> Result<Script<'r, R>, AllocError>
+        ensures { IfOk result (λ script. script.is_of_desk ≡ true) }
+    {
+        Ok(Script {
+            is_of_desk: true,
+            ..Script::new(alloc, reader)?
         })
     }
 
@@ -41,7 +58,9 @@ impl<'r, R: BufRead> Script<'r, R> {
     }
 
     /// Whether there is a line more, whose text then is in `text`.
-    fn advance(&mut self) -> Result<bool, SimFault> {
+    fn advance(&mut self) -> Result<bool, SimFault>
+        ensures { self.new.is_of_desk ≡ self.old.is_of_desk }
+    {
         self.text.clear();
         let Ok(count) = read_line(&mut *self.reader, &mut self.text) else {
             return Err(SimFault::Read);
@@ -59,7 +78,9 @@ impl<'r, R: BufRead> Script<'r, R> {
 
     /// The next line that isn't empty or a remark.
     pub fn next_line(&mut self) -> Result<Option<Line>, SimFault>
-        ensures { IfOk result (λ found. IfSome found IsWithinLimits) }
+        ensures sound { IfOk result (λ found. IfSome found IsWithinLimits) }
+        ensures of_desk { self.old.is_of_desk ≡ true → IfOk result (λ found. IfSome found IsOfRecord) }
+        ensures same { self.new.is_of_desk ≡ self.old.is_of_desk }
     {
         for _line in 0..u64::MAX {
             if !self.advance()? {
@@ -75,8 +96,8 @@ impl<'r, R: BufRead> Script<'r, R> {
                 continue;
             }
             return match parse(self.alloc, text)? {
-                Some(line) => Ok(Some(line)),
-                None => Err(self.bad_command()),
+                Some(line) if !self.is_of_desk || line.is_of_desk() => Ok(Some(line)),
+                _ => Err(self.bad_command()),
             };
         }
         Ok(None)

@@ -10,6 +10,7 @@ loop-line-init g c =
     record {
       name = refl;
       same = refl;
+      writer = refl;
       run = started g.P.TracePort.told (desk_seen g.P.TracePort c.args.desk.now) attached.moment (map seat_seen attached.traced.items) (g.W.Write.contents c.args.answers.now.writer.now) c.new-attached.ensures.moment (ap (map seat_seen) c.new-attached.ensures.none);
     }
 
@@ -37,6 +38,7 @@ loop-line-preserved g c =
     record {
       name = c.ask.ensures.name ∙ c.loop-line.invariant.name;
       same = c.ask.ensures.same ∙ c.loop-line.invariant.same;
+      writer = c.in_ok-tell-in-Told.ensures.name ∙ c.loop-line.invariant.writer;
       run = has_told g.P.TracePort.told (AtDesk (first_side (desk_seen g.P.TracePort c.args.desk.now))) (AtDesk (side_seen g.P.TracePort c.loop-line.desk c.loop-line.attached)) (AtDesk (side_seen g.P.TracePort c.ask.new.desk c.ask.new.attached))
-          _ c.ask.result c.in-Told.answer _ _ _ c.loop-line.invariant.run c.ask.ensures.step c.in-Told.is c.in_ok-tell-in-Told.ensures;
+          _ c.ask.result c.in-Told.answer _ _ _ c.loop-line.invariant.run c.ask.ensures.step c.in-Told.is c.in_ok-tell-in-Told.ensures.text;
     }

@@ -18,4 +18,4 @@ returns-clause-run g c =
     let start = g.W.Write.contents c.args.answers.now.writer.now in
     let before = g.W.Write.contents c.tell.new.self.writer.now in
     ran_behind told (Alone c.args.port.now) c.take_lines.result (λ end. IsLetGo told end c.take_lines.new.port) start before _ (line_of (greeting c.args.origin (told c.args.port.now).total))
-    (subst (λ (a : Answer). Appends start before (line_of a)) c.greet.ensures c.in_ok-tell.ensures) c.take_lines.ensures.run
+    (subst (λ (a : Answer). Appends start before (line_of a)) c.greet.ensures c.in_ok-tell.ensures.text) c.take_lines.ensures.run

@@ -34,5 +34,5 @@ pub loop-line-preserved : goal.loop-line-preserved
 loop-line-preserved g c =
     record {
       same = c.ask.ensures.same ∙ c.loop-line.invariant.same;
-      run = has_told g.P.TracePort.told (Alone c.args.port.now) (Alone c.loop-line.port) (Alone c.ask.new.port) _ c.ask.result c.in-Told.answer _ _ _ c.loop-line.invariant.run c.ask.ensures.step c.in-Told.is c.in_ok-tell-in-Told.ensures;
+      run = has_told g.P.TracePort.told (Alone c.args.port.now) (Alone c.loop-line.port) (Alone c.ask.new.port) _ c.ask.result c.in-Told.answer _ _ _ c.loop-line.invariant.run c.ask.ensures.step c.in-Told.is c.in_ok-tell-in-Told.ensures.text;
     }

@@ -1,0 +1,94 @@
+// What a run asks of the machine besides its files.
+
+use std::io::{self, IsTerminal};
+use std::time::{Clock, Duration, Instant};
+
+/// How far a run is.
+#[derive(Clone, Copy, Debug, PartialEq, Eq)]
+pub struct Progress {
+    pub entries: u64,
+    pub bytes: u64,
+    /// Messages that were lost.
+    pub drops: u64,
+}
+
+/// The clock, and the place where a long run shows how far it is.
+pub trait Host {
+    /// The milliseconds since the run began. They never go back.
+    fn millis(&mut self) -> u64;
+
+    /// Shows how far the run is, where somebody looks.
+    fn show(&mut self, progress: Progress);
+}
+
+/// Milliseconds until a run counts as long, and between two of its lines.
+const PATIENCE: u64 = 1_000;
+
+const BETWEEN: u64 = 200;
+
+/// The system's clock, and standard error.
+#[derive(Drop)]
+pub struct Console {
+    rt: HostRuntime,
+    began: Option<Instant>,
+    millis: u64,
+    /// Somebody may look.
+    is_seen: bool,
+    /// When the last line was shown.
+    shown: Option<u64>,
+}
+
+impl Console {
+    /// Where nothing is to be shown, `is_quiet`.
+    pub fn new(rt: HostRuntime, is_quiet: bool) -> Console {
+        Console {
+            began: Instant::now(&rt).ok(),
+            millis: 0,
+            is_seen: !is_quiet && rt.stderr().is_terminal(),
+            shown: None,
+            rt,
+        }
+    }
+
+    /// Takes the line away.
+    pub fn clear(&mut self) {
+        if self.shown.is_some() {
+            let _ = eprint!(&self.rt; "\r\x1b[K");
+        }
+    }
+
+    fn is_due(&self) -> bool {
+        match self.shown {
+            None => self.millis >= PATIENCE,
+            Some(last) => self.millis >= last.saturating_add(BETWEEN),
+        }
+    }
+}
+
+impl Host for Console {
+    fn millis(&mut self) -> u64 {
+        if let Some(began) = self.began
+            && let Ok(elapsed) = began.elapsed(&self.rt)
+        {
+            let now = u64::try_from(elapsed.as_millis()).unwrap_or(u64::MAX);
+            self.millis = self.millis.max(now);
+        }
+        self.millis
+    }
+
+    fn show(&mut self, progress: Progress) {
+        if !self.is_seen {
+            return;
+        }
+        self.millis();
+        if self.is_due() {
+            let Progress {
+                entries,
+                bytes,
+                drops,
+            } = progress;
+            let _ = eprint!(&self.rt; "\r{entries} entries, {bytes} bytes, {drops} dropped\x1b[K");
+            self.shown = Some(self.millis);
+        }
+    }
+}
