@@ -67,7 +67,7 @@ fn serve(rt: &HostRuntime, request: Request<'_>) -> Result<(), SimFault> {
         Request::Sim => run_sim(rt.alloc(), &mut input(rt)?, &mut output(rt)?),
         Request::Stream => run_stream(rt.alloc(), &mut input(rt)?, &mut output(rt)?),
         Request::Record { place, turn } => {
-            Files::locked_at(*rt, place)?.record(turn, &mut input(rt)?, &mut rt.stdout())
+            Files::locked_at(*rt, place)?.record(turn, &mut input(rt)?, &mut output(rt)?)
         }
         Request::Import {
             place,
@@ -76,7 +76,7 @@ fn serve(rt: &HostRuntime, request: Request<'_>) -> Result<(), SimFault> {
         } => import(rt, place, turn, flushing),
         Request::List(place) => list(rt, place),
         Request::Export(place) => Files::at(*rt, place)?.export(&mut output(rt)?),
-        Request::Wipe(place) => Files::locked_at(*rt, place)?.wipe(&mut rt.stdout()),
+        Request::Wipe(place) => Files::locked_at(*rt, place)?.wipe(&mut output(rt)?),
     }
 }
 
@@ -87,7 +87,7 @@ fn import(
     flushing: Flushing,
 ) -> Result<(), SimFault> {
     let mut console = Console::new(*rt, false);
-    let (mut reader, mut writer) = (rt.stdin(), rt.stdout());
+    let (mut reader, mut writer) = (rt.stdin(), output(rt)?);
     let mut files = Files::locked_at(*rt, place)?;
     let done = files.import(turn, flushing, &mut reader, &mut writer, &mut console);
     console.clear();
