@@ -1,0 +1,218 @@
+"""Cases of `import`, and of what goes from OTP through the program and back."""
+
+import os
+import subprocess
+import time
+
+from cases import STREAMS, group, stored
+from entries import EXAMPLE, drop, entry_line, example_line, kept, listing, listing_of, lost_in, message, split, window
+from program import same
+
+CASES, case = group()
+
+WRAP = ("--kind", "wrap")
+
+TRACES = ("plain", "stamped", "mono", "wrap", "ip", "node")
+
+
+def stream_of(name):
+    """A stream that OTP wrote. Those of a wrap's files are joined in the order of their writing."""
+    names = ("wrap3", "wrap0", "wrap1") if name == "wrap" else (name,)
+    return b"".join((STREAMS / f"{part}.trc").read_bytes() for part in names)
+
+
+def imports(program, stream, *words):
+    """Imports a stream whole into a new trace."""
+    count = len(split(stream))
+    same(program.good("import", "t", *words, stdin=stream), f"created\nsealed {count}\n".encode())
+
+
+@case
+def an_import_is_sealed_at_the_end_of_its_input(program):
+    imports(program, message(EXAMPLE) + drop(3))
+    same(program.good("list", "t"), listing(0, 0, [example_line(0), "1 drop 3"]))
+    program.refused("import", "t", stdin=message(EXAMPLE), says="dbgrec: refused 1 Sealed")
+    program.refused("record", "t", says="dbgrec: refused 1 Sealed")
+    same(program.good("export", "t"), message(EXAMPLE) + drop(3))
+    same(program.good("wipe", "t"), b"ok\n")
+    imports(program, b"")
+
+
+@case
+def an_import_goes_on_with_a_trace(program):
+    program.good("record", "t", stdin=b"tracee 0 8 10 r\nemit 0 receive 8377026f6b\nflushfor 0\nabandon\n")
+    same(program.good("import", "t", stdin=drop(2)), b"resumed 1\nsealed 2\n")
+    same(program.good("list", "t"), listing(0, 0, [example_line(0), "1 drop 2"]))
+
+
+@case
+def streams_of_otp_come_back_byte_for_byte(program):
+    for name in TRACES:
+        stream = stream_of(name)
+        expected = kept(stream)
+        for kind in ((), WRAP):
+            program.good("wipe", "t", *kind)
+            imports(program, stream, *kind, *(("--size", "4294967295") if kind else ()))
+            same(program.good("export", "t", *kind), b"".join(expected))
+            listed = program.good("list", "t", *kind)
+            same(listed, program.good("stream", stdin=b"".join(expected)))
+            same(listed, listing_of(expected))
+
+
+@case
+def a_message_that_is_too_long_is_a_drop_of_1(program):
+    expected = kept(stream_of("node"))
+    same([number for number, entry in enumerate(expected) if entry == drop(1)], [71, 72, 373, 374])
+    longest, longer = message(bytes(65_531)), message(bytes(65_532))
+    imports(program, longest + longer + longest + drop(7) + longer)
+    same(program.good("export", "t"), longest + drop(1) + longest + drop(7) + drop(1))
+
+
+@case
+def a_stream_in_small_pieces_is_the_same_stream(program):
+    stream = stream_of("node") + stream_of("plain")
+    for kind in ((), (*WRAP, "--size", "4294967295")):
+        with program.start("import", "t", *kind) as importer:
+            sizes, at = (1, 2, 4, 5, 7, 333, 4_097, 65_537, 70_001), 0
+            for turn in range(len(stream)):
+                size = sizes[turn % len(sizes)]
+                importer.write(stream[at : at + size])
+                at += size
+                if at >= len(stream):
+                    break
+            outcome = importer.end()
+        same((outcome.status, outcome.errors), (0, b""))
+        same(outcome.output, f"created\nsealed {len(split(stream))}\n".encode())
+        same(program.good("export", "t", *kind[:2]), b"".join(kept(stream)))
+
+
+@case
+def a_stream_byte_by_byte_is_the_same_stream(program):
+    stream = stream_of("ip") + message(bytes(300)) + drop(4)
+    with program.start("import", "t") as importer:
+        for place in range(len(stream)):
+            importer.write(stream[place : place + 1])
+        same(importer.end().errors, b"")
+    same(program.good("export", "t"), stream)
+
+
+@case
+def each_way_to_flush_keeps_the_same(program):
+    stream = stream_of("plain")
+    for name in ("always", "paused", "never"):
+        imports(program, stream, "--flush", name)
+        same(program.good("export", "t"), stream)
+        program.good("wipe", "t")
+
+
+@case
+def a_wrap_keeps_the_last_runs_of_a_stream(program):
+    stream = stream_of("node") + drop(9) + stream_of("stamped")
+    entries = kept(stream)
+    for size, count in ((0, 1), (100, 3), (2_000, 4), (65_536, 2), (131_072, 8)):
+        program.good("wipe", "t", *WRAP)
+        imports(program, stream, *WRAP, "--size", str(size), "--count", str(count))
+        first, left = window(entries, size, count)
+        same(program.good("export", "t", *WRAP, "--count", str(count)), b"".join(left))
+        listed = program.good("list", "t", *WRAP, "--count", str(count))
+        same(listed, listing_of(left, first, lost_in(entries[:first])))
+        program.good("wipe", "t", *WRAP, "--count", str(count))
+
+
+def broken_streams():
+    """Streams that end in a fault: what comes whole before it, the bytes that fault, and what is told."""
+    good = message(EXAMPLE) + drop(3) + message(bytes(65_532))
+    for bad in (b"\0", b"\0\0\0\0", message(EXAMPLE)[:-1], b"\1\0\0\0", message(bytes(65_532))[:-1], message(bytes(70_000))[:6]):
+        yield good, bad, "3 Truncated"
+    yield good, b"\2", "4 BadOp"
+    yield good, b"\xff" + bytes(10), "4 BadOp"
+    yield good, drop(0), "5 ZeroDrop"
+    yield b"", b"\2", "4 BadOp"
+
+
+@case
+def a_cut_or_broken_stream_is_kept_up_to_its_fault(program):
+    for number, (good, bad, fault) in enumerate(broken_streams()):
+        name = f"t{number}"
+        outcome = program.run("import", name, stdin=good + bad)
+        same((outcome.status, outcome.errors), (1, f"dbgrec: refused {fault} at {len(good)}\n".encode()))
+        same(outcome.output, f"created\nsealed {len(split(good))}\n".encode())
+        same(program.good("export", name), b"".join(kept(good)))
+        program.refused("import", name, says="dbgrec: refused 1 Sealed")
+
+
+@case
+def an_input_that_can_not_be_read_is_told_and_what_came_is_sealed(program):
+    folder = os.open(program.folder, os.O_RDONLY)
+    command = [program.path, "import", "t"]
+    ran = subprocess.run(command, cwd=program.folder, stdin=folder, capture_output=True, timeout=60, check=False)
+    os.close(folder)
+    same((ran.returncode, ran.stdout, ran.stderr), (1, b"created\nsealed 0\n", b"dbgrec: refused 1 Read\n"))
+
+
+def wait_for(what):
+    """Waits until a condition holds."""
+    deadline = time.monotonic() + 30
+    while not what():
+        assert time.monotonic() < deadline, "it doesn't come to hold"
+        time.sleep(0.002)
+
+
+@case
+def what_a_pausing_writer_wrote_is_covered(program):
+    entries = kept(stream_of("node"))
+    for kind in ((), (*WRAP, "--size", "65536", "--count", "20")):
+        name = f"t{len(kind)}"
+        read = kind[:2] + kind[4:]
+        at = 0
+        with program.start("import", name, *kind) as importer:
+            same(importer.line(), "created")
+            for upto in (1, 2, 50, 51, 200, 375):
+                # the writer writes all of its entries, and half of the next one
+                importer.write(b"".join(entries[at:upto]))
+                at = upto
+                expected = b"".join(entries[:upto])
+                wait_for(lambda: program.run("export", name, *read).output == expected)
+            importer.write(message(EXAMPLE)[:20])
+            importer.kill()
+        same(program.good("list", name, *read), listing_of(entries))
+        same(program.good("import", name, *kind), f"resumed {len(entries)}\nsealed {len(entries)}\n".encode())
+
+
+@case
+def an_import_that_never_flushes_keeps_whole_batches(program):
+    entries = [message(bytes([number % 256]) * 1_000) for number in range(200)]
+    with program.start("import", "t", "--flush", "never") as importer:
+        same(importer.line(), "created")
+        importer.write(b"".join(entries))
+        # 65 of these entries are at most 65,536 bytes
+        wait_for(lambda: len(program.good("export", "t")) == 3 * 65 * 1_005)
+        importer.kill()
+    same(program.good("export", "t"), b"".join(entries[:195]))
+
+
+@case
+def an_import_over_a_wrap_by_time_turns_while_the_writer_writes(program):
+    timed = (*WRAP, "--count", "3")
+    with program.start("import", "t", *timed, "--time", "20") as importer:
+        same(importer.line(), "created")
+        for number in range(6):
+            importer.write(message(bytes([131, 97, number])))
+            time.sleep(0.05)
+        same(importer.end().output, b"sealed 6\n")
+    listed = program.good("list", "t", *timed).decode().splitlines()
+    first = int(listed[0].split()[2])
+    same(listed[0], f"before entries {first} dropped 0")
+    assert 0 < first < 6, listed
+    same(listed[1:], [entry_line(n, message(bytes([131, 97, n]))) for n in range(first, 6)] + ["end_of_trace"])
+
+
+@case
+def an_import_reads_a_fifo(program):
+    os.mkfifo(program.folder / "fifo")
+    (program.folder / "in").write_bytes(stream_of("plain"))
+    script = 'cat in > fifo & "$0" import t < fifo'
+    ran = subprocess.run(["sh", "-c", script, program.path], cwd=program.folder, capture_output=True, timeout=60, check=False)
+    same((ran.returncode, ran.stdout, ran.stderr), (0, b"created\nsealed 137\n", b""))
+    same(program.good("export", "t"), stream_of("plain"))
+    same(sorted(stored(program.folder)), ["in", "t"])

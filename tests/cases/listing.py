@@ -1,0 +1,158 @@
+"""Cases of `list`, `export`, `wipe` and `stream`."""
+
+import os
+import pty
+import subprocess
+
+from cases import group
+from entries import EXAMPLE, drop, example_line, listing, listing_of, message
+from program import read_some, same
+
+CASES, case = group()
+
+# the header of a file without its gate, of a file trace
+FILE_HEADER = b"DBT1" + bytes(31)
+
+# a file trace of the example entry
+STORED = b"\1" + FILE_HEADER + b"\1" + bytes.fromhex("00000038") + message(EXAMPLE) + b"\0"
+
+
+def wrap_header(generation, before=0, lost=0, size=100, count=2):
+    """The header of a wrap by size, without its gate."""
+    numbers = [(1, 1), (count, 2), (size, 4), (generation, 8), (before, 8), (lost, 8)]
+    return b"DBT1" + b"".join(value.to_bytes(length, "big") for value, length in numbers)
+
+
+def batch(entries):
+    return b"\1" + len(entries).to_bytes(4, "big") + entries
+
+
+def segment(header, *batches):
+    return b"\1" + header + b"".join(map(batch, batches)) + b"\0"
+
+
+@case
+def a_stored_file_is_listed(program):
+    (program.folder / "t").write_bytes(STORED)
+    same(len(STORED), 98)
+    same(program.good("list", "t"), listing(0, 0, [example_line(0)]))
+
+
+@case
+def a_listing_changes_no_file(program):
+    (program.folder / "t").write_bytes(STORED)
+    program.good("list", "t")
+    program.good("export", "t")
+    same((program.folder / "t").read_bytes(), STORED)
+
+
+@case
+def a_trace_that_is_not_there_lists_as_empty_and_is_not_made(program):
+    same(program.good("list", "t"), b"end_of_trace\n")
+    same(program.good("list", "t", "--kind", "wrap"), b"end_of_trace\n")
+    same(program.good("export", "t"), b"")
+    same(os.listdir(program.folder), [])
+
+
+@case
+def an_export_is_the_entries_of_the_window(program):
+    (program.folder / "t").write_bytes(segment(FILE_HEADER, message(EXAMPLE) + drop(3), message(b"x")))
+    same(program.good("export", "t"), message(EXAMPLE) + drop(3) + message(b"x"))
+    same(program.good("list", "t"), listing(0, 0, [example_line(0), "1 drop 3", "2 opaque 1"]))
+
+
+@case
+def a_wrap_is_listed_from_its_window_on(program):
+    entry = message(EXAMPLE)
+    (program.folder / "t1.bin").write_bytes(segment(wrap_header(1, before=2), entry * 2))
+    (program.folder / "t2.bin").write_bytes(segment(wrap_header(2, before=4), entry))
+    wrap = ("t", "--kind", "wrap", "--suffix", ".bin", "--count", "2")
+    same(program.good("list", *wrap), listing(2, 0, [example_line(2), example_line(3), example_line(4)]))
+    same(program.good("export", *wrap), entry * 3)
+    same(len(entry * 3), 168)
+
+
+@case
+def a_damaged_file_is_told_with_its_place(program):
+    (program.folder / "t").write_bytes(STORED[:36] + bytes.fromhex("010000ffff"))
+    for command in ("list", "export"):
+        program.refused(command, "t", says="dbgrec: refused 1 Damaged file 0 at 36")
+    for command in ("record", "import"):
+        program.refused(command, "t", says="dbgrec: refused 5 Recover 1 Damaged file 0 at 36")
+
+
+@case
+def files_that_are_no_one_store_are_told(program):
+    wrap = ("--kind", "wrap", "--count", "2")
+    (program.folder / "a0").write_bytes(segment(FILE_HEADER))
+    (program.folder / "a1").write_bytes(segment(wrap_header(1)))
+    program.refused("list", "a", *wrap, says="dbgrec: refused 2 Mixed")
+    (program.folder / "b0").write_bytes(segment(wrap_header(6)))
+    (program.folder / "b1").write_bytes(segment(wrap_header(4)))
+    program.refused("list", "b", *wrap, says="dbgrec: refused 3 Sequence")
+
+
+@case
+def a_wipe_leaves_closed_files(program):
+    (program.folder / "t").write_bytes(STORED)
+    same(program.good("wipe", "t"), b"ok\n")
+    same((program.folder / "t").read_bytes(), b"\0")
+    same(program.good("list", "t"), b"end_of_trace\n")
+    same(program.good("wipe", "t"), b"ok\n")
+
+
+@case
+def a_stream_is_listed(program):
+    lines = [example_line(0), "1 drop 3", "2 opaque 1", "3 other [1,2]"]
+    entries = message(EXAMPLE) + drop(3) + message(b"x") + message(bytes.fromhex("836b00020102"))
+    same(program.good("stream", stdin=entries), listing(0, 0, lines))
+    same(listing_of([message(EXAMPLE), drop(3), message(b"x")]), listing(0, 0, lines[:3]))
+
+
+@case
+def the_fault_of_a_stream_is_told_with_its_place(program):
+    entry = message(EXAMPLE)
+    line = f"{example_line(0)}\n".encode()
+    program.refused("stream", stdin=entry + drop(0), says="dbgrec: refused 5 ZeroDrop at 56", output=line)
+    program.refused("stream", stdin=bytes.fromhex("000000003383"), says="dbgrec: refused 3 Truncated at 0")
+    program.refused("stream", stdin=b"\2", says="dbgrec: refused 4 BadOp at 0")
+    program.refused("stream", stdin=bytes.fromhex("000000fffc"), says="dbgrec: refused 6 TooLong at 0")
+
+
+@case
+def a_listing_into_a_closed_pipe_ends_with_status_1(program):
+    entries = message(EXAMPLE) * 20_000
+    program.good("import", "t", stdin=entries)
+    listed = program.start("list", "t")
+    with listed:
+        same(listed.line(), example_line(0))
+        listed.process.stdout.close()
+        same(listed.process.wait(60), 1)
+        same(listed.process.stderr.read(), b"dbgrec: refused 2 Write\n")
+
+
+@case
+def a_listing_onto_a_full_device_is_a_fault(program):
+    (program.folder / "t").write_bytes(STORED)
+    for command in ("list", "export"):
+        with open("/dev/full", "wb") as full:
+            ran = subprocess.run([program.path, command, "t"], cwd=program.folder, stdout=full, stderr=subprocess.PIPE, check=False)
+        same((ran.returncode, ran.stderr), (1, b"dbgrec: refused 2 Write\n"))
+
+
+@case
+def a_stream_on_a_terminal_is_listed_as_it_comes(program):
+    screen, terminal = pty.openpty()
+    with subprocess.Popen([program.path, "stream"], stdin=subprocess.PIPE, stdout=terminal, stderr=terminal) as lister:
+        os.close(terminal)
+        try:
+            for number in range(3):
+                lister.stdin.write(message(EXAMPLE))
+                lister.stdin.flush()
+                same(read_some(screen), f"{example_line(number)}\r\n".encode())
+            lister.stdin.close()
+            same(read_some(screen), b"end_of_trace\r\n")
+            same(lister.wait(60), 0)
+        finally:
+            lister.kill()
+            os.close(screen)
