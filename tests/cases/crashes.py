@@ -1,6 +1,9 @@
 """Cases in which the program is killed: what is left is a prefix, with all that was reported as covered."""
 
+import array
+import fcntl
 import random
+import termios
 import time
 
 from cases import group
@@ -35,13 +38,32 @@ def resumed(line):
     return 0 if words == ["created"] else int(words[1])
 
 
-def give_some(importer, chance, data):
-    """Writes some of the bytes, at once or in pieces, and waits a moment or not."""
-    upto = min(len(data), int(chance.choice((200, 5_000, 70_000, 200_000)) * chance.random()))
+def time_of_an_opening(program, words):
+    """How long an import takes until it says that it is open."""
+    began = time.monotonic()
+    with program.start("import", "other", *words) as importer:
+        same(importer.line(), "created")
+    return time.monotonic() - began
+
+
+def unread(importer):
+    """How many bytes of its input still wait for it."""
+    count = array.array("i", [0])
+    fcntl.ioctl(importer.process.stdin, termios.FIONREAD, count)
+    return count[0]
+
+
+def give_some(importer, chance, data, longest):
+    """Writes some of the bytes, at once or in pieces, waits until some of them are read, and then for a while."""
+    upto = min(len(data), int(chance.choice((800, 5_000, 70_000, 200_000)) * chance.random()))
     step = chance.choice((upto or 1, 7_919, 65_536))
     for at in range(0, upto, step):
         importer.write(data[at : min(at + step, upto)])
-    time.sleep(chance.choice((0, 0, 0.001, 0.005)))
+    left = chance.choice((upto, upto // 2, 0, 0))
+    deadline = time.monotonic() + 10
+    while unread(importer) > left and time.monotonic() < deadline:
+        time.sleep(0.0002)
+    time.sleep(longest * chance.choice((0, 1, 3)) * chance.random())
 
 
 def check_file(program, entries):
@@ -69,6 +91,7 @@ def kill_imports(program, words, check, seed):
     chance = random.Random(seed)
     given = stream(chance, 8_000_000)
     entries = kept(b"".join(given))
+    longest = time_of_an_opening(program, words)
     stored = 0
     seen = set()
     for turn in range(KILLS):
@@ -76,12 +99,12 @@ def kill_imports(program, words, check, seed):
         with program.start("import", "t", *words, "--flush", flush) as importer:
             found = resumed(importer.line())
             same(found, stored)
-            give_some(importer, chance, b"".join(given[found:]))
+            give_some(importer, chance, b"".join(given[found:]), longest)
             same(importer.kill(), "")
         stored = check(program, entries)
         assert stored >= found, f"turn {turn}: {stored} entries, and {found} were covered"
         seen.add(stored)
-    assert len(seen) > KILLS // 4, f"only {len(seen)} places"
+    assert len(seen) > KILLS // 5, f"only {len(seen)} places"
     assert stored < len(entries), "the stream is too short for this many kills"
     told = program.good("import", "t", *words, stdin=b"".join(given[stored:])).decode()
     same(told, f"resumed {stored}\nsealed {len(entries)}\n")
@@ -99,20 +122,12 @@ def a_hundred_killed_imports_into_a_wrap_leave_the_window_of_a_prefix(program):
     kill_imports(program, (*WRAP, "--size", str(size)), lambda program, entries: check_wrap(program, entries, size), 2)
 
 
-def time_of_an_opening(program):
-    """How long an import takes until it says that it is open."""
-    began = time.monotonic()
-    with program.start("import", "other", *WRAP) as importer:
-        same(importer.line(), "created")
-    return time.monotonic() - began
-
-
 @case
 def a_hundred_imports_killed_at_their_opening_leave_what_was_there(program):
     chance = random.Random(3)
     size = 1_000
     entries = kept(b"".join(stream(chance, 60_000)))
-    longest = 2 * time_of_an_opening(program)
+    longest = 2 * time_of_an_opening(program, WRAP)
     total = 0
     for turn in range(KILLS):
         with program.start("import", "t", *WRAP, "--size", str(size)) as importer:

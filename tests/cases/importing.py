@@ -6,7 +6,7 @@ import time
 
 from cases import STREAMS, group, stored
 from entries import EXAMPLE, drop, entry_line, example_line, kept, listing, listing_of, lost_in, message, split, window
-from program import same
+from program import PATIENCE, same
 
 CASES, case = group()
 
@@ -145,7 +145,7 @@ def a_cut_or_broken_stream_is_kept_up_to_its_fault(program):
 def an_input_that_can_not_be_read_is_told_and_what_came_is_sealed(program):
     folder = os.open(program.folder, os.O_RDONLY)
     command = [program.path, "import", "t"]
-    ran = subprocess.run(command, cwd=program.folder, stdin=folder, capture_output=True, timeout=60, check=False)
+    ran = subprocess.run(command, cwd=program.folder, stdin=folder, capture_output=True, timeout=PATIENCE, check=False)
     os.close(folder)
     same((ran.returncode, ran.stdout, ran.stderr), (1, b"created\nsealed 0\n", b"dbgrec: refused 1 Read\n"))
 
@@ -212,7 +212,7 @@ def an_import_reads_a_fifo(program):
     os.mkfifo(program.folder / "fifo")
     (program.folder / "in").write_bytes(stream_of("plain"))
     script = 'cat in > fifo & "$0" import t < fifo'
-    ran = subprocess.run(["sh", "-c", script, program.path], cwd=program.folder, capture_output=True, timeout=60, check=False)
+    ran = subprocess.run(["sh", "-c", script, program.path], cwd=program.folder, capture_output=True, timeout=PATIENCE, check=False)
     same((ran.returncode, ran.stdout, ran.stderr), (0, b"created\nsealed 137\n", b""))
     same(program.good("export", "t"), stream_of("plain"))
     same(sorted(stored(program.folder)), ["in", "t"])

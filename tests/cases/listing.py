@@ -6,7 +6,7 @@ import subprocess
 
 from cases import group
 from entries import EXAMPLE, drop, example_line, listing, listing_of, message
-from program import read_some, same
+from program import PATIENCE, read_some, same
 
 CASES, case = group()
 
@@ -127,7 +127,7 @@ def a_listing_into_a_closed_pipe_ends_with_status_1(program):
     with listed:
         same(listed.line(), example_line(0))
         listed.process.stdout.close()
-        same(listed.process.wait(60), 1)
+        same(listed.process.wait(PATIENCE), 1)
         same(listed.process.stderr.read(), b"dbgrec: refused 2 Write\n")
 
 
@@ -152,7 +152,7 @@ def a_stream_on_a_terminal_is_listed_as_it_comes(program):
                 same(read_some(screen), f"{example_line(number)}\r\n".encode())
             lister.stdin.close()
             same(read_some(screen), b"end_of_trace\r\n")
-            same(lister.wait(60), 0)
+            same(lister.wait(PATIENCE), 0)
         finally:
             lister.kill()
             os.close(screen)

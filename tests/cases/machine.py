@@ -10,7 +10,7 @@ import time
 
 from cases import Skipped, group, is_root, stored
 from entries import EXAMPLE, example_line, listing, message, split
-from program import Outcome, read_some, same
+from program import PATIENCE, Outcome, read_some, same
 
 CASES, case = group()
 
@@ -218,7 +218,7 @@ def a_long_import_shows_on_a_terminal_how_far_it_is(program):
         importer.stdin.write(message(EXAMPLE))
         importer.stdin.flush()
         time.sleep(0.1)
-    output, _ = importer.communicate(timeout=60)
+    output, _ = importer.communicate(timeout=PATIENCE)
     same((importer.returncode, output), (0, b"created\nsealed 16\n"))
     said = read_some(screen)
     os.close(screen)

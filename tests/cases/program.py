@@ -6,7 +6,7 @@ import signal
 import subprocess
 import time
 
-PATIENCE = 60
+PATIENCE = 120
 
 
 class Program:
