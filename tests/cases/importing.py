@@ -5,7 +5,7 @@ import subprocess
 import time
 
 from cases import STREAMS, group, stored
-from entries import EXAMPLE, drop, entry_line, example_line, kept, listing, listing_of, lost_in, message, split, window
+from entries import EXAMPLE, drop, example_line, kept, listing, listing_of, lost_in, message, split, window
 from program import PATIENCE, same
 
 CASES, case = group()
@@ -186,7 +186,7 @@ def an_import_that_never_flushes_keeps_whole_batches(program):
         same(importer.line(), "created")
         importer.write(b"".join(entries))
         # 65 of these entries are at most 65,536 bytes
-        wait_for(lambda: len(program.good("export", "t")) == 3 * 65 * 1_005)
+        wait_for(lambda: len(program.run("export", "t").output) == 3 * 65 * 1_005)
         importer.kill()
     same(program.good("export", "t"), b"".join(entries[:195]))
 
@@ -194,17 +194,16 @@ def an_import_that_never_flushes_keeps_whole_batches(program):
 @case
 def an_import_over_a_wrap_by_time_turns_while_the_writer_writes(program):
     timed = (*WRAP, "--count", "3")
+    entries = [message(bytes([131, 97, number])) for number in range(6)]
     with program.start("import", "t", *timed, "--time", "20") as importer:
         same(importer.line(), "created")
-        for number in range(6):
-            importer.write(message(bytes([131, 97, number])))
+        for entry in entries:
+            importer.write(entry)
+            wait_for(lambda: program.run("export", "t", *timed).output.endswith(entry))
             time.sleep(0.05)
         same(importer.end().output, b"sealed 6\n")
-    listed = program.good("list", "t", *timed).decode().splitlines()
-    first = int(listed[0].split()[2])
-    same(listed[0], f"before entries {first} dropped 0")
-    assert 0 < first < 6, listed
-    same(listed[1:], [entry_line(n, message(bytes([131, 97, n]))) for n in range(first, 6)] + ["end_of_trace"])
+    # each entry but the first came behind a cut
+    same(program.good("list", "t", *timed), listing_of(entries[3:], 3))
 
 
 @case
