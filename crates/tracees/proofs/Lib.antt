@@ -8,6 +8,7 @@ pub mod Counted
 pub mod Eithers
 pub mod Kept
 pub mod Lenders
+pub mod Meant
 pub mod Moved
 pub mod Places
 pub mod Recovering

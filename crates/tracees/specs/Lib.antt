@@ -6,6 +6,7 @@ pub mod Either
 pub mod Emits
 pub mod Hands
 pub mod Lent
+pub mod Meanings
 pub mod Moments
 pub mod Moving
 pub mod PortCalls
