@@ -14,3 +14,4 @@ pub mod Places
 pub mod Recovering
 pub mod Runs
 pub mod StepByStep
+pub mod Summed

@@ -11,5 +11,7 @@ pub mod Moments
 pub mod Moving
 pub mod PortCalls
 pub mod Prefixes
+pub mod Settled
 pub mod States
 pub mod Steps
+pub mod Sums

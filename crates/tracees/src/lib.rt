@@ -5,6 +5,7 @@
 
 mod accepting;
 mod account;
+mod adding;
 mod auditing;
 mod book;
 mod desk;
@@ -14,6 +15,8 @@ mod laws;
 mod ledgers;
 mod lender;
 mod receipt;
+mod settling;
+mod shared;
 mod step;
 mod traced;
 
@@ -27,6 +30,8 @@ pub use laws::recovered_is_a_prefix;
 pub use ledgers::{LedgerAccount, LedgerBook, PARTS};
 pub use lender::{hand_one, record_one};
 pub use receipt::{HandFault, Receipt};
+pub use settling::{SettleFault, settle};
+pub use shared::SharedBook;
 pub use step::{Reply, Step};
 pub use traced::Traced;
 
