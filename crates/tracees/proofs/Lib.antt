@@ -15,3 +15,5 @@ pub mod Recovering
 pub mod Runs
 pub mod StepByStep
 pub mod Summed
+pub mod Worked
+pub mod Writing

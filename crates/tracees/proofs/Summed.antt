@@ -1,5 +1,5 @@
 -- The sums of accounts of a book of ledgers.
-use Rattle.std.proofs.Common.{◌≡◌, ℕ, ◌+◌, ◌≤◌, List, [], ◌∷◌, length, map, refl, ◌∙◌, ap, arith}
+use Rattle.std.proofs.Common.{◌≡◌, ℕ, ◌+◌, ◌≤◌, List, [], ◌∷◌, length, map, refl, sym, ◌∙◌, ap, arith}
 use Rattle.std.specs.List.{sum_by}
 use Rattle.std.proofs.lemmas.List.{length-map}
 use Rattle.std.proofs.lemmas.List.Sums.{sum_by-cons}
@@ -49,3 +49,9 @@ module _ {X : Type 0} (f u d : X → ℕ) where
       flushed = omega (arith, a, ap (λ (t : Totals). t.flushed) (summed_counts xs));
     };
   }
+
+  -- the counts of the ledgers are the sums of the accounts
+  pub sum_is : (xs : List X) (flushed unflushed drops : ℕ) → flushed ≡ sum_by f xs → unflushed ≡ sum_by u xs → drops ≡ sum_by d xs → totals (flushed + unflushed) drops flushed ≡ summed (map counts_of xs)
+  sum_is xs flushed unflushed drops a b c =
+      let first : totals (flushed + unflushed) drops flushed ≡ totals (sum_by f xs + sum_by u xs) (sum_by d xs) (sum_by f xs) = λ i. totals (a i + b i) (c i) (a i) in
+      first ∙ sym (summed_counts xs)

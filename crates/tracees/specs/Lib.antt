@@ -5,6 +5,7 @@ pub mod Effects
 pub mod Either
 pub mod Emits
 pub mod Hands
+pub mod Jobs
 pub mod Lent
 pub mod Meanings
 pub mod Moments

@@ -11,6 +11,7 @@ mod book;
 mod desk;
 mod driving;
 mod either;
+mod job;
 mod laws;
 mod ledgers;
 mod lender;
@@ -18,7 +19,9 @@ mod receipt;
 mod settling;
 mod shared;
 mod step;
+mod threads;
 mod traced;
+mod working;
 
 pub use account::Account;
 pub use auditing::{Mismatch, audit};
@@ -26,6 +29,7 @@ pub use book::{Bookkeeping, PlainAccount, PlainBook, Totals};
 pub use desk::Desk;
 pub use driving::drive;
 pub use either::{EitherPort, put_as_file, put_as_wrap};
+pub use job::{Act, ActFault, Gate, Job, JobState};
 pub use laws::recovered_is_a_prefix;
 pub use ledgers::{LedgerAccount, LedgerBook, PARTS};
 pub use lender::{hand_one, record_one};
@@ -33,6 +37,7 @@ pub use receipt::{HandFault, Receipt};
 pub use settling::{SettleFault, settle};
 pub use shared::SharedBook;
 pub use step::{Reply, Step};
+pub use threads::run_threads;
 pub use traced::Traced;
 
 #[cfg(test)]

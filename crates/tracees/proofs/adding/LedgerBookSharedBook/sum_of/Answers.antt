@@ -1,12 +1,12 @@
-use Rattle.std.proofs.Common.{◌+◌, arith, sym, ◌∙◌}
-use Rattle.tracees.specs.Books.{totals}
-use Rattle.tracees.proofs.Summed.{summed_counts, same_counts, are_shares}
+use Rattle.std.proofs.Common.{arith}
+use Rattle.tracees.proofs.Summed.{sum_is, same_counts, are_shares}
 use Rattle.tracees.proofs.adding.LedgerBookSharedBook.sum_of.Goals as goal
 
 pub returns-clause-sum : goal.returns-clause-sum
 returns-clause-sum g c =
     let s = c.add_up-sum.ensures in
-    (λ i. totals (s.flushed i + s.unflushed i) (s.drops i) (s.flushed i)) ∙ sym (summed_counts (λ a. a.slip.flushed.count) (λ a. a.slip.unflushed.count) (λ a. a.slip.drops.count) c.args.accounts.now.items)
+    let sum = c.add_up-sum.result in
+    sum_is (λ a. a.slip.flushed.count) (λ a. a.slip.unflushed.count) (λ a. a.slip.drops.count) c.args.accounts.now.items sum.flushed sum.unflushed sum.drops s.flushed s.unflushed s.drops
 
 pub returns-clause-shares : goal.returns-clause-shares
 returns-clause-shares g c =
