@@ -48,3 +48,7 @@ mod tests_auditing;
 mod tests_driving;
 #[cfg(test)]
 mod tests_either;
+#[cfg(test)]
+mod tests_settling;
+#[cfg(test)]
+mod tests_threads;

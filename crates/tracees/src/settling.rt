@@ -11,6 +11,7 @@ use crate::shared::SharedBook;
 use trace_port::TracePort;
 
 /// Why accounts don't settle.
+#[derive(Drop)]
 pub enum SettleFault<'p, P: TracePort, K: Bookkeeping> {
     /// An account that was attached isn't there. All is handed back.
     Missing {
