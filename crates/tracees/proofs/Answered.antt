@@ -1,5 +1,6 @@
 -- What a hand-over and a flush for a tracee have done, by their answers.
-use Rattle.std.proofs.Common.{◌≡◌, ℕ, false, List, [], ◌∷◌, map, take, take_all, Option, Some, None, Result, Ok, Err, refl, subst, arith}
+use Rattle.std.proofs.Common.{◌≡◌, ℕ, false, List, [], ◌∷◌, map, take, take_all, Option, Some, None, Result, Ok, Err, refl, sym, subst, arith}
+use Rattle.std.specs.Prelude.{IfSome}
 use Rattle.std.proofs.lemmas.List.{append-nil}
 use Rattle.entry_codec.specs.Entries.{Entry}
 use Rattle.entry_codec.specs.Seen.{views}
@@ -13,7 +14,7 @@ use Rattle.trace_port.specs.declared.kinds.PortFault.{PortFault}
 use Rattle.trace_port.specs.declared.kinds.PortFault.TheVariants as faults
 use Rattle.tracees.specs.Desks.{Place, Seat}
 use Rattle.tracees.specs.Effects.{effect, Calls}
-use Rattle.tracees.specs.Hands.{Takes, Moves, HandsOver, FlushesFor, items_moved, has_gone, moves, is_refused, no_memory, is_stranger, covers, flush_fails}
+use Rattle.tracees.specs.Hands.{Takes, Moves, HandsOver, FlushesFor, items_moved, has_gone, receipt_of, moves, is_refused, no_memory, is_stranger, covers, flush_fails}
 use Rattle.tracees.specs.Moving.{HasNoRoom}
 use Rattle.tracees.specs.PortCalls.{Flushes}
 use Rattle.tracees.specs.declared.receipt.Receipt.{Receipt}
@@ -99,3 +100,15 @@ hands_grow told still old new limit was is result h = grows_of (told old.port) (
 pub flushes_for_grow : {P : Type 0} (told : P → Told) → ((p : P) → IsStill (told p)) → (old new : Place P) (was is : Seat) (result : Result Receipt HandFault) → FlushesFor told old new was is result
     → Grows (told old.port) (told new.port) (items_moved result) (has_gone result)
 flushes_for_grow told still old new was is result f = grows_of (told old.port) (told new.port) (items_moved result) (has_gone result) (flushes_for_calls told still old new was is result f)
+
+-- ---- the receipt of an answer
+
+-- a refusal for want of room has none
+pub no_receipt : (attached number : ℕ) (fault : HandFault) → HasNoRoom attached number fault → receipt_of (Err fault) ≡ None
+no_receipt attached number (hands.Port fault receipt) h = absurd h
+no_receipt attached number hands.NoMemory h = refl
+no_receipt attached number hands.Stranger h = refl
+
+-- what holds of each receipt holds where there is none
+pub of_none : (result : Result Receipt HandFault) (Q : Receipt → Type 0) → receipt_of result ≡ None → IfSome (receipt_of result) Q
+of_none result Q none = subst (λ (o : Option Receipt). IfSome o Q) (sym none) tt

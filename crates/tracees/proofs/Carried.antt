@@ -36,10 +36,10 @@ use Rattle.tracees.proofs.Places.{written, not_written}
 
 -- ---- what a tracee was made with
 
-same_setup : (tracee : Tracee) → SameSetup tracee tracee
+pub same_setup : (tracee : Tracee) → SameSetup tracee tracee
 same_setup tracee = record { number = refl; pid = refl; flags = refl; capacity = refl; drop_limit = refl }
 
-setup_both : (old mid new : Tracee) → SameSetup old mid → SameSetup mid new → SameSetup old new
+pub setup_both : (old mid new : Tracee) → SameSetup old mid → SameSetup mid new → SameSetup old new
 setup_both old mid new one two = record {
   number = two.number ∙ one.number;
   pid = two.pid ∙ one.pid;
@@ -48,11 +48,11 @@ setup_both old mid new one two = record {
   drop_limit = two.drop_limit ∙ one.drop_limit;
 }
 
-setup_of : (old new other : Tracee) → other ≡ new → SameSetup old new → SameSetup old other
+pub setup_of : (old new other : Tracee) → other ≡ new → SameSetup old new → SameSetup old other
 setup_of old new other same setup = subst (λ (t : Tracee). SameSetup old t) (sym same) setup
 
 -- a message is made by that alone
-same_message : (old new : Tracee) → SameSetup old new → (event : Event) (stamp : Stamp) → message_for new event stamp ≡ message_for old event stamp
+pub same_message : (old new : Tracee) → SameSetup old new → (event : Event) (stamp : Stamp) → message_for new event stamp ≡ message_for old event stamp
 same_message old new setup event stamp =
     ap (λ pid. message_of (event_view event) pid new.flags stamp) setup.pid ∙ ap (λ flags. message_of (event_view event) old.pid flags stamp) setup.flags
 
@@ -62,7 +62,7 @@ still_passed : (old new : Tracee) → SameSetup old new → waiting_of new ≡ w
 still_passed old new setup same before h taken passed =
     subst (λ (l : List Entry). Leads (capacity_of new) before h taken l) (sym same) (subst (λ (n : ℕ). Leads n before h taken (waiting_of old)) (sym setup.capacity) passed)
 
-adds_taking : (old new : Tracee) (moved : List Entry) → SameSetup old new → waiting_of old ≡ moved ++ waiting_of new → AddsTaking moved old new
+pub adds_taking : (old new : Tracee) (moved : List Entry) → SameSetup old new → waiting_of old ≡ moved ++ waiting_of new → AddsTaking moved old new
 adds_taking old new moved setup rest before h taken passed =
     subst (λ (n : ℕ). Leads n before (Took h (length moved)) (taken ++ moved) (waiting_of new)) (sym setup.capacity) (takes h taken moved (waiting_of old) (waiting_of new) passed rest)
 
@@ -72,10 +72,10 @@ adds_offer old new None fits adds before h taken passed = absurd fits
 adds_offer old new (Some message) fits adds before h taken passed = adds before h taken passed
 
 -- the history behind an emit
-abbrev after_emit : History → Option Data → Bool → History
+abbrev pub after_emit : History → Option Data → Bool → History
 after_emit h message offered = if offered then offered_too h message else h
 
-emit_passes : (old new : Tracee) (event : Event) (stamp : Stamp) (result : Result Offer EmitFault) → Emits old new event stamp result → (before : List Entry) (h : History) (taken : List Entry) → HasPassed before h taken old
+pub emit_passes : (old new : Tracee) (event : Event) (stamp : Stamp) (result : Result Offer EmitFault) → Emits old new event stamp result → (before : List Entry) (h : History) (taken : List Entry) → HasPassed before h taken old
     → HasPassed before (after_emit h (message_for old event stamp) (is_offered (offer_reply result))) taken new
 emit_passes old new event stamp (Ok offers.Kept) e before h taken passed = adds_offer old new (message_for old event stamp) (e.kept.only refl).0 (e.history refl) before h taken passed
 emit_passes old new event stamp (Ok offers.Dropped) e before h taken passed = adds_offer old new (message_for old event stamp) (e.dropped.only refl).0 (e.history refl) before h taken passed
@@ -84,20 +84,20 @@ emit_passes old new event stamp (Err fault) e before h taken passed = still_pass
 
 -- ---- what a hand-over takes
 
-record Takes (was is : Tracee) (moved : List Entry) : Type 0 where
-  setup : SameSetup was is
-  rest : waiting_of was ≡ moved ++ waiting_of is
+pub record Takes (was is : Tracee) (moved : List Entry) : Type 0 where
+  pub setup : SameSetup was is
+  pub rest : waiting_of was ≡ moved ++ waiting_of is
 
 none_taken : (was is : Seat) → is ≡ was → Takes was.tracee is.tracee []
 none_taken was is same = record { setup = setup_of was.tracee was.tracee is.tracee (ap (λ (s : Seat). s.tracee) same) (same_setup was.tracee); rest = ap (λ (s : Seat). waiting_of s.tracee) (sym same) }
 
-hand_takes : {P : Type 0} (told : P → Told) (p q : Place P) (limit : ℕ) (was is : Seat) (result : Result Receipt HandFault) → HandsOver told p q limit was is result → Takes was.tracee is.tracee (moved_by result)
+pub hand_takes : {P : Type 0} (told : P → Told) (p q : Place P) (limit : ℕ) (was is : Seat) (result : Result Receipt HandFault) → HandsOver told p q limit was is result → Takes was.tracee is.tracee (moved_by result)
 hand_takes told p q limit was is result (moves same m names) = record { setup = m.setup; rest = m.rest }
 hand_takes told p q limit was is result (is_refused same m names) = record { setup = m.setup; rest = m.rest }
 hand_takes told p q limit was is result (no_memory same none) = none_taken was is none.seat
 hand_takes told p q limit was is result (is_stranger other none) = none_taken was is none.seat
 
-flush_for_takes : {P : Type 0} (told : P → Told) (p q : Place P) (was is : Seat) (result : Result Receipt HandFault) → FlushesFor told p q was is result → Takes was.tracee is.tracee (moved_by result)
+pub flush_for_takes : {P : Type 0} (told : P → Told) (p q : Place P) (was is : Seat) (result : Result Receipt HandFault) → FlushesFor told p q was is result → Takes was.tracee is.tracee (moved_by result)
 flush_for_takes told p q was is result (covers {receipt = receipt} between mid same f book account) = record {
   setup = setup_of was.tracee mid.tracee is.tracee account.tracee f.all.setup;
   rest = f.all.rest ∙ ap (λ (t : Tracee). moved_by result ++ waiting_of t) (sym account.tracee);

@@ -8,8 +8,12 @@ pub mod Counted
 pub mod Eithers
 pub mod Kept
 pub mod Lenders
+pub mod Meant
 pub mod Moved
 pub mod Places
 pub mod Recovering
 pub mod Runs
 pub mod StepByStep
+pub mod Summed
+pub mod Worked
+pub mod Writing

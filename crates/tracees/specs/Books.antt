@@ -1,5 +1,5 @@
 -- What a desk's book and an account count.
-use Rattle.std.specs.Prelude.{ℕ, ◌+◌, List}
+use Rattle.std.specs.Prelude.{ℕ, ◌+◌, ◌≤◌, List}
 use Rattle.entry_codec.specs.Entries.{Entry, drops_in}
 use Rattle.intake.specs.WaitingLists.{messages_in}
 use Rattle.tracees.specs.declared.book.Totals.{Totals}
@@ -28,3 +28,9 @@ plain_totals book = totals book.messages book.drops 0
 -- and an account of plain counts
 abbrev pub plain_sums : PlainAccount → Totals
 plain_sums slip = totals slip.messages slip.drops slip.flushed
+
+-- one counts no more than the other
+pub record IsWithin (part whole : Totals) : Type 0 where
+  pub messages : part.messages ≤ whole.messages
+  pub drops : part.drops ≤ whole.drops
+  pub flushed : part.flushed ≤ whole.flushed

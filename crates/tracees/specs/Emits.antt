@@ -1,5 +1,5 @@
 -- What an emit answers and changes, put together.
-use Rattle.std.specs.Prelude.{◌≡◌, ◌↔◌, None, Option, Result, Ok, Err, IfSome, IsSomeAnd}
+use Rattle.std.specs.Prelude.{◌≡◌, ◌↔◌, None, Result, Ok, Err, IfSome, IsSomeAnd}
 use Rattle.ext_format.specs.Canonical.{canonical}
 use Rattle.trace_message.specs.declared.event.Event.{Event}
 use Rattle.trace_message.specs.declared.event.Stamp.{Stamp}

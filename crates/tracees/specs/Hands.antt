@@ -1,5 +1,5 @@
 -- What a hand-over moves, what its receipt says, and what a flush for a tracee adds.
-use Rattle.std.specs.Prelude.{◌≡◌, ◌≢◌, ℕ, Bool, true, false, List, [], ◌∷◌, ◌++◌, take, map, Option, Some, None, Result, Ok, Err}
+use Rattle.std.specs.Prelude.{◌≡◌, ◌≢◌, ℕ, ◌≤◌, Bool, true, false, List, [], ◌∷◌, ◌++◌, take, map, Option, Some, None, Result, Ok, Err}
 use Rattle.entry_codec.specs.Entries.{Entry, drops_in}
 use Rattle.entry_codec.specs.Seen.{views}
 use Rattle.recovery.specs.Items.{Item, Kept}
@@ -10,9 +10,10 @@ use Rattle.trace_port.specs.declared.kinds.PortFault.{PortFault}
 use Rattle.trace_port.specs.declared.kinds.PortFault.TheVariants as faults
 use Rattle.intake.specs.WaitingLists.{messages_in}
 use Rattle.intake.specs.Tracees.{waiting_of, CountsGrow, SameSetup}
-use Rattle.tracees.specs.Books.{added, all_flushed}
+use Rattle.tracees.specs.Books.{added, all_flushed, IsWithin}
 use Rattle.tracees.specs.Desks.{Place, Seat, SameBook, BookCovers}
 use Rattle.tracees.specs.PortCalls.{Flushes}
+use Rattle.tracees.specs.declared.book.Totals.{Totals}
 use Rattle.tracees.specs.declared.receipt.Receipt.{Receipt}
 use Rattle.tracees.specs.declared.receipt.HandFault.{HandFault}
 use Rattle.tracees.specs.declared.receipt.HandFault.TheVariants as hands
@@ -105,3 +106,15 @@ fault_number hands.Stranger = 3
 abbrev pub has_gone : Result Receipt HandFault → Bool
 has_gone (Ok receipt) = true
 has_gone (Err fault) = false
+
+-- the receipt of a hand-over's answer, also that inside a refusal
+abbrev pub receipt_of : Result Receipt HandFault → Option Receipt
+receipt_of (Ok receipt) = Some receipt
+receipt_of (Err (hands.Port fault receipt)) = Some receipt
+receipt_of (Err hands.NoMemory) = None
+receipt_of (Err hands.Stranger) = None
+
+-- before the hand-over of this receipt the book counted no less than the account, and the port had at least the account's messages
+pub record IsBacked (account book : Totals) (receipt : Receipt) : Type 0 where
+  pub within : IsWithin account book
+  pub first : account.messages ≤ receipt.first

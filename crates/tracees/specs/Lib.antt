@@ -5,10 +5,14 @@ pub mod Effects
 pub mod Either
 pub mod Emits
 pub mod Hands
+pub mod Jobs
 pub mod Lent
+pub mod Meanings
 pub mod Moments
 pub mod Moving
 pub mod PortCalls
 pub mod Prefixes
+pub mod Settled
 pub mod States
 pub mod Steps
+pub mod Sums

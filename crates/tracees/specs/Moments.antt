@@ -1,5 +1,5 @@
 -- What holds after a run, and at each moment of it.
-use Rattle.std.specs.Prelude.{◌≡◌, ◌⊎◌, ℕ, ◌≤◌, Bool, List, [], ◌∷◌, ◌++◌, slice_get, Some}
+use Rattle.std.specs.Prelude.{◌≡◌, ◌⊎◌, ℕ, ◌≤◌, Bool, List, ◌∷◌, ◌++◌, slice_get, Some}
 use Rattle.entry_codec.specs.Entries.{Entry, joined}
 use Rattle.trace_store.specs.Disk.{Image}
 use Rattle.recovery.specs.Items.{Item}

@@ -1,5 +1,5 @@
 -- What the steps of a run answer, and what they change.
-use Rattle.std.specs.Prelude.{◌≡◌, ℕ, Bool, true, false, List, [], ◌∷◌, set, slice_get, Option, Some, None, Result, Ok, Err}
+use Rattle.std.specs.Prelude.{◌≡◌, ℕ, Bool, List, [], ◌∷◌, set, slice_get, Some, None, Result, Ok, Err}
 use Rattle.trace_message.specs.declared.event.Event.{Event}
 use Rattle.trace_message.specs.declared.event.Stamp.{Stamp}
 use Rattle.trace_port.specs.Port.{Told}

@@ -1,6 +1,6 @@
 //! How a desk keeps its book: what went through it, and through each tracee's account.
 
-ghost use Rattle.std.specs.Prelude.{◌≡◌, ◌+◌, ◌<◌, ◌≤◌, ◌^◌, ℕ};
+ghost use Rattle.std.specs.Prelude.{◌≡◌, ◌+◌, ◌<◌, ◌≤◌, ◌^◌, ℕ, Bool, false, IsTrue};
 ghost use Rattle.tracees.specs.declared.book.Totals.{Totals};
 
 /// Messages, messages that were dropped, and messages that were flushed.
@@ -17,7 +17,7 @@ pub trait Bookkeeping: Send + Drop {
     /// What a tracee's account holds.
     type Slip: Send + Drop;
 
-    ghost use Rattle.tracees.specs.Books.{totals, no_totals, all_flushed};
+    ghost use Rattle.tracees.specs.Books.{totals, no_totals, all_flushed, IsWithin};
 
     /// What the book counts.
     ghost totals_of: { Self → Totals };
@@ -27,6 +27,9 @@ pub trait Bookkeeping: Send + Drop {
 
     /// What an account counts.
     ghost sums_of: { Self.Slip → Totals };
+
+    /// Whether each account is a share of its book by its type, so that no account counts more than the book.
+    ghost shared: { Bool };
 
     /// Opens an account.
     fn open(&mut self) -> Self::Slip
@@ -47,13 +50,15 @@ pub trait Bookkeeping: Send + Drop {
         requires account_drops { (sums_of slip.old).drops + drops < 2 ^ 64 }
         ensures totals { totals_of self.new ≡ totals ((totals_of self.old).messages + messages) ((totals_of self.old).drops + drops) (totals_of self.old).flushed }
         ensures sums { sums_of slip.new ≡ totals ((sums_of slip.old).messages + messages) ((sums_of slip.old).drops + drops) (sums_of slip.old).flushed }
-        ensures attached { attached_of self.new ≡ attached_of self.old };
+        ensures attached { attached_of self.new ≡ attached_of self.old }
+        ensures within { IsTrue shared → IsWithin (sums_of slip.old) (totals_of self.old) };
 
     /// All messages of the account are flushed.
     fn settle(&mut self, slip: &mut Self::Slip)
         ensures messages { (totals_of self.new).messages ≡ (totals_of self.old).messages }
         ensures drops { (totals_of self.new).drops ≡ (totals_of self.old).drops }
         ensures flushed { (totals_of self.new).flushed ≤ (totals_of self.new).messages }
+        ensures exact { IsTrue shared → (totals_of self.new).flushed + (sums_of slip.old).flushed ≡ (totals_of self.old).flushed + (sums_of slip.old).messages }
         ensures sums { sums_of slip.new ≡ all_flushed (sums_of slip.old) }
         ensures attached { attached_of self.new ≡ attached_of self.old };
 
@@ -104,6 +109,8 @@ impl Bookkeeping for PlainBook {
     ghost attached_of = { λ book. book.attached };
 
     ghost sums_of = { plain_sums };
+
+    ghost shared = { false };
 
     fn open(&mut self) -> PlainAccount {
         self.attached += 1;

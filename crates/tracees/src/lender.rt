@@ -1,6 +1,6 @@
 //! What a lender knows of a port, or of a store, that went through a desk.
 
-ghost use Rattle.std.specs.Prelude.{◌≡◌, ◌<◌, ◌++◌, ℕ, [], length};
+ghost use Rattle.std.specs.Prelude.{◌≡◌, ◌<◌, ◌++◌, ℕ, [], length, IsTrue};
 ghost use Rattle.trace_store.specs.Disk.{file_of};
 ghost use Rattle.segment.specs.Specification.{File};
 ghost use Rattle.recovery.specs.Views.{View, total};
@@ -13,6 +13,7 @@ ghost use Rattle.trace_port.specs.FilePort.{file_told};
 ghost use Rattle.tracees.specs.Books.{no_totals};
 ghost use Rattle.tracees.specs.Hands.{moved_by, items_moved};
 ghost use Rattle.tracees.specs.Lent.{HandsOne, RecordsOne};
+ghost use Rattle.tracees.specs.Meanings.{KeepsMeaning};
 
 use crate::book::{Bookkeeping, PlainBook};
 use crate::desk::Desk;
@@ -33,6 +34,7 @@ pub fn hand_one<P: TracePort, K: Bookkeeping>(
 ) -> (Tracee, Result<Receipt, HandFault>)
     requires totals { K.totals_of book ≡ no_totals }
     requires attached { K.attached_of book < 4294967295 }
+    requires fits { IsTrue K.shared → KeepsMeaning (P.told port.old) }
     ensures same { P.lender port.new ≡ P.lender port.old }
     ensures hands { HandsOne P.told number port.old port.new limit tracee result.0 result.1 }
 {

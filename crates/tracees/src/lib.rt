@@ -5,16 +5,23 @@
 
 mod accepting;
 mod account;
+mod adding;
 mod auditing;
 mod book;
 mod desk;
 mod driving;
 mod either;
+mod job;
 mod laws;
+mod ledgers;
 mod lender;
 mod receipt;
+mod settling;
+mod shared;
 mod step;
+mod threads;
 mod traced;
+mod working;
 
 pub use account::Account;
 pub use auditing::{Mismatch, audit};
@@ -22,10 +29,15 @@ pub use book::{Bookkeeping, PlainAccount, PlainBook, Totals};
 pub use desk::Desk;
 pub use driving::drive;
 pub use either::{EitherPort, put_as_file, put_as_wrap};
+pub use job::{Act, ActFault, Gate, Job, JobState};
 pub use laws::{recovered_is_a_prefix, recovery_refuses_no_sound_image};
+pub use ledgers::{LedgerAccount, LedgerBook, PARTS};
 pub use lender::{hand_one, record_one};
 pub use receipt::{HandFault, Receipt};
+pub use settling::{SettleFault, settle};
+pub use shared::SharedBook;
 pub use step::{Reply, Step};
+pub use threads::run_threads;
 pub use traced::Traced;
 
 #[cfg(test)]
@@ -36,3 +48,7 @@ mod tests_auditing;
 mod tests_driving;
 #[cfg(test)]
 mod tests_either;
+#[cfg(test)]
+mod tests_settling;
+#[cfg(test)]
+mod tests_threads;
