@@ -105,6 +105,17 @@ pub fn atom_of(alloc: Global, tag: Tag, bytes: &[u8]) -> Result<(Atom, &[u8]), D
     }
 }
 
+/// The text of a pid's node, and the bytes behind it, where it is of ASCII. None says nothing.
+#[tactic(auto, unfolding(crate::specs::Reading::node_at))]
+pub fn ascii_node_at(bytes: &[u8]) -> Option<(&[u8], &[u8])>
+    ensures { IfSome result (λ x. node_at bytes.now ≡ Ok (x.0.now, x.1.now)) }
+{
+    match tag_behind(bytes) {
+        Ok((tag, rest)) => ascii_at(tag, rest),
+        Err(_) => None,
+    }
+}
+
 /// The node of a pid, an atom with its tag.
 #[tactic(auto, unfolding(crate::specs::Reading::node_at))]
 fn node_of(alloc: Global, bytes: &[u8]) -> Result<(Atom, &[u8]), DecodeFault>
