@@ -39,10 +39,10 @@ scalars-bytes (c ∷ codes) fits =
 latin1_is : (codes out : List ℕ) → IsBytes codes → latin1_text codes ≡ Ok out → IsText (encode_utf8_all codes) × (encode_utf8_all codes ≡ out)
 latin1_is codes out fits e = is_short (encode_utf8_all codes) out (codes, (scalars-bytes codes fits, refl)) e
 
-is_short-again : (text : List ℕ) → IsText text → short_text text ≡ Ok text
+pub is_short-again : (text : List ℕ) → IsText text → short_text text ≡ Ok text
 is_short-again text is = rw (le-ltb 255 (length (chars text)) is.short) refl
 
-utf8_again : (text : List ℕ) → IsText text → utf8_text text ≡ Ok text
+pub utf8_again : (text : List ℕ) → IsText text → utf8_text text ≡ Ok text
 unfolding utf8_text
 utf8_again text is = rw (is_utf8-from_IsUtf8 text is.utf8) (is_short-again text is)
 

@@ -5,20 +5,20 @@
 //! says which fault comes first from left to right.
 #![tactic(auto)]
 
-mod atoms;
+pub mod atoms;
 mod fault;
-mod fields;
-mod integers;
+pub mod fields;
+pub mod integers;
 mod laws;
-mod limits;
+pub mod limits;
 mod reading;
 mod size;
-mod tag;
+pub mod tag;
 mod writing;
 
 pub use fault::{DecodeFault, EncodeFault};
 pub use laws::{canonical_is_spelled, cut_is_truncated, one_reading, spelled_is_read};
-pub use reading::decode;
+pub use reading::{decode, inner_room, tail};
 pub use writing::encode;
 
 #[cfg(test)]

@@ -1,3 +1,4 @@
+pub mod GlanceLemmas
 pub mod KindLemmas
 pub mod ShapeLemmas
 pub mod WordLemmas

@@ -1,4 +1,5 @@
 pub mod Events
+pub mod Glances
 pub mod Kinds
 pub mod Messages
 pub mod Shapes

@@ -2,12 +2,14 @@
 #![tactic(auto)]
 
 mod event;
+mod glance;
 mod laws;
 mod messages;
 mod seen;
 mod word;
 
 pub use event::{Event, Flags, Stamp};
+pub use glance::{Glance, Sort};
 pub use laws::{messages_have_their_kind, one_kind, some_kind_or_none};
 pub use messages::message;
 pub use seen::{Seen, classify};

@@ -1,4 +1,5 @@
 ghost use Rattle.std.specs.Prelude.{◌≡◌};
+ghost use Rattle.std.specs.Str.{bytes_eq};
 ghost use Rattle.trace_message.specs.Words.{text_of, word_named};
 
 /// The atoms that trace messages are told with.
@@ -27,6 +28,38 @@ impl Word {
             Word::Send => "send",
             Word::SendToNonExistingProcess => "send_to_non_existing_process",
             Word::Receive => "receive",
+        }
+    }
+
+    fn is(self, text: &[u8]) -> bool
+        ensures { result ≡ bytes_eq text.now (text_of self) }
+    {
+        text == self.text().as_bytes()
+    }
+
+    /// The word of this text.
+    #[tactic(auto, unfolding(crate::specs::Words::word_named))]
+    pub fn spelled(text: &[u8]) -> Option<Word>
+        ensures { result ≡ word_named text.now }
+    {
+        if Word::Trace.is(text) {
+            Some(Word::Trace)
+        } else if Word::TraceTs.is(text) {
+            Some(Word::TraceTs)
+        } else if Word::Call.is(text) {
+            Some(Word::Call)
+        } else if Word::ReturnFrom.is(text) {
+            Some(Word::ReturnFrom)
+        } else if Word::ExceptionFrom.is(text) {
+            Some(Word::ExceptionFrom)
+        } else if Word::Send.is(text) {
+            Some(Word::Send)
+        } else if Word::SendToNonExistingProcess.is(text) {
+            Some(Word::SendToNonExistingProcess)
+        } else if Word::Receive.is(text) {
+            Some(Word::Receive)
+        } else {
+            None
         }
     }
 
