@@ -66,9 +66,7 @@ fn serve(rt: &HostRuntime, request: Request<'_>) -> Result<(), SimFault> {
     match request {
         Request::Sim => run_sim(rt.alloc(), &mut input(rt)?, &mut output(rt)?),
         Request::Stream => run_stream(rt.alloc(), &mut input(rt)?, &mut output(rt)?),
-        Request::Record { place, turn } => {
-            Files::locked_at(*rt, place)?.record(turn, &mut input(rt)?, &mut output(rt)?)
-        }
+        Request::Record { place, turn } => record(rt, place, turn),
         Request::Import {
             place,
             turn,
@@ -78,6 +76,16 @@ fn serve(rt: &HostRuntime, request: Request<'_>) -> Result<(), SimFault> {
         Request::Export(place) => Files::at(*rt, place)?.export(&mut output(rt)?),
         Request::Wipe(place) => Files::locked_at(*rt, place)?.wipe(&mut output(rt)?),
     }
+}
+
+/// Records what a script says. Where a device call failed, standard error names its file.
+fn record(rt: &HostRuntime, place: Place<'_>, turn: Turn) -> Result<(), SimFault> {
+    let mut files = Files::locked_at(*rt, place)?;
+    files.record(turn, &mut input(rt)?, &mut output(rt)?)?;
+    if let Some((name, reason)) = files.complaint() {
+        let _ = eprintln!(rt; "dbgrec: {name:?}: {reason}");
+    }
+    Ok(())
 }
 
 fn import(

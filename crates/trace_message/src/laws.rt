@@ -5,6 +5,7 @@ ghost use Rattle.trace_message.specs.declared.event.Flags.{Flags as TheFlags};
 ghost use Rattle.trace_message.specs.declared.event.Stamp.{Stamp as TheStamp};
 ghost use Rattle.trace_message.specs.declared.seen.Seen.{Seen as TheSeen};
 ghost use Rattle.trace_message.specs.Events.{EventData};
+ghost use Rattle.trace_message.specs.Glances.{glance};
 ghost use Rattle.trace_message.specs.Kinds.{IsMessage, seen_of};
 ghost use Rattle.trace_message.specs.Messages.{message_of};
 ghost use Rattle.trace_terms.specs.declared.term.Pid.{Pid as ThePid};
@@ -24,4 +25,9 @@ pub fn some_kind_or_none()
 pub fn messages_have_their_kind()
     ensures { (event : EventData) (pid : ThePid) (flags : TheFlags) (stamp : TheStamp) (term : Data)
         → message_of event pid flags stamp ≡ Some term → IsMessage (seen_of event) term }
+{}
+
+/// A glance at a term tells the kind of message that it is.
+pub fn a_glance_tells_the_kind()
+    ensures { (term : Data) (seen : TheSeen) → ((glance term).kind ≡ Some seen) ↔ IsMessage seen term }
 {}

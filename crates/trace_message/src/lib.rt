@@ -10,7 +10,7 @@ mod word;
 
 pub use event::{Event, Flags, Stamp};
 pub use glance::{Glance, Sort};
-pub use laws::{messages_have_their_kind, one_kind, some_kind_or_none};
+pub use laws::{a_glance_tells_the_kind, messages_have_their_kind, one_kind, some_kind_or_none};
 pub use messages::message;
 pub use seen::{Seen, classify};
 
