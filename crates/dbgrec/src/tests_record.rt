@@ -33,13 +33,23 @@ const WRAP: Place<'static> = Place {
 /// What ends a run of a new wrap where nothing else is asked for.
 const STANDARD: Turn = Turn::Size(131_072);
 
+/// The names of the files at a place, with a blank behind each.
+fn names(alloc: Global, place: Place<'_>) -> Result<String, Fail> {
+    let mut text = String::new(alloc);
+    let names = place.names(alloc)?;
+    for name in &names {
+        text.push_str(name.as_str())?;
+        text.push(' ')?;
+    }
+    Ok(text)
+}
+
 #[test]
 fn wrap_files_are_named_by_their_numbers(rt: HostRuntime) -> Result<(), Fail> {
-    let names = WRAP.names(rt.alloc())?;
-    let expected = ["t/trace0.log", "t/trace1.log", "t/trace2.log"];
-    assert!(rt; names.iter().map(String::as_str).eq(expected));
-    let names = FILE.names(rt.alloc())?;
-    assert!(rt; names.iter().map(String::as_str).eq(["trace"]));
+    let alloc = rt.alloc();
+    let expected = "t/trace0.log t/trace1.log t/trace2.log ";
+    assert_eq!(rt; names(alloc, WRAP)?.as_str(), expected);
+    assert_eq!(rt; names(alloc, FILE)?.as_str(), "trace ");
     Ok(())
 }
 
