@@ -140,19 +140,30 @@ def a_listing_onto_a_full_device_is_a_fault(program):
         same((ran.returncode, ran.stderr), (1, b"dbgrec: refused 2 Write\n"))
 
 
-@case
-def a_stream_on_a_terminal_is_listed_as_it_comes(program):
-    screen, terminal = pty.openpty()
-    with subprocess.Popen([program.path, "stream"], stdin=subprocess.PIPE, stdout=terminal, stderr=terminal) as lister:
-        os.close(terminal)
+def lists_as_it_comes(program, screen, end, feed):
+    """A stream's lines can be read before more of it is written; each ends so."""
+    with subprocess.Popen([program.path, "stream"], stdin=subprocess.PIPE, stdout=end, stderr=end) as lister:
+        os.close(end)
         try:
             for number in range(3):
                 lister.stdin.write(message(EXAMPLE))
                 lister.stdin.flush()
-                same(read_some(screen), f"{example_line(number)}\r\n".encode())
+                same(read_some(screen), f"{example_line(number)}{feed}".encode())
             lister.stdin.close()
-            same(read_some(screen), b"end_of_trace\r\n")
+            same(read_some(screen), f"end_of_trace{feed}".encode())
             same(lister.wait(PATIENCE), 0)
         finally:
             lister.kill()
             os.close(screen)
+
+
+@case
+def a_stream_on_a_terminal_is_listed_as_it_comes(program):
+    screen, terminal = pty.openpty()
+    lists_as_it_comes(program, screen, terminal, "\r\n")
+
+
+@case
+def a_stream_into_a_pipe_is_listed_as_it_comes(program):
+    reader, writer = os.pipe()
+    lists_as_it_comes(program, reader, writer, "\n")
