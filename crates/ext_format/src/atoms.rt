@@ -2,7 +2,7 @@
 
 ghost use Rattle.std.specs.Prelude.{◌≡◌, ◌≤◌, Ok, length, string_bytes, IfOk, IfSome, IsTrue};
 ghost use Rattle.std.specs.Int.{w8, w32};
-ghost use Rattle.std.specs.Str.{encode_utf8_all};
+ghost use Rattle.std.specs.Str.{encode_utf8_all, IsAscii};
 ghost use Rattle.ext_format.specs.Reading.{Gives, short_text, utf8_text, latin1_text, text_at, node_at, pid_at};
 
 use crate::fault::DecodeFault;
@@ -53,28 +53,33 @@ fn latin1_atom(alloc: Global, bytes: &[u8]) -> Result<Atom, DecodeFault>
     short_atom(alloc, text.as_str())
 }
 
-/// Whether these are at most 255 bytes of ASCII, which spell themselves in UTF-8 and in Latin-1.
-fn is_short_ascii(text: &[u8]) -> bool
-    ensures utf8 { IsTrue result → utf8_text text.now ≡ Ok text.now }
-    ensures latin1 { IsTrue result → latin1_text text.now ≡ Ok text.now }
+/// Bytes that aren't too many for the text of any atom.
+fn as_short(text: &[u8]) -> Option<&[u8]>
+    ensures text { IfSome result (λ x. x.now ≡ text.now) }
+    ensures utf8 { IfSome result (λ x. IsAscii x.now → utf8_text text.now ≡ Ok x.now) }
+    ensures latin1 { IfSome result (λ x. IsAscii x.now → latin1_text text.now ≡ Ok x.now) }
 {
-    text.len() <= Atom::MAX_CHARS && text.is_ascii()
+    if text.len() > Atom::MAX_CHARS {
+        return None;
+    }
+    Some(text)
 }
 
-/// The text of the atom behind its tag, and the bytes behind it, where it is of ASCII. None says nothing.
+/// The bytes of the text of the atom behind its tag, and those behind them, where they are at most 255. Bytes of ASCII
+/// spell themselves in UTF-8 and in Latin-1, so these are then the atom's text. None says nothing.
 #[tactic(auto, unfolding(crate::specs::Reading::text_at))]
-pub fn ascii_at(tag: Tag, bytes: &[u8]) -> Option<(&[u8], &[u8])>
-    ensures { IfSome result (λ x. text_at tag bytes.now ≡ Ok (x.0.now, x.1.now)) }
+pub fn short_at(tag: Tag, bytes: &[u8]) -> Option<(&[u8], &[u8])>
+    ensures { IfSome result (λ x. IsAscii x.0.now → text_at tag bytes.now ≡ Ok (x.0.now, x.1.now)) }
 {
     match tag {
-        Tag::SmallAtomUtf8Ext | Tag::SmallAtomExt => match sized_8(bytes) {
-            Ok((text, rest)) if is_short_ascii(text) => Some((text, rest)),
-            _ => None,
-        },
-        Tag::AtomUtf8Ext | Tag::AtomExt => match sized_16(bytes) {
-            Ok((text, rest)) if is_short_ascii(text) => Some((text, rest)),
-            _ => None,
-        },
+        Tag::SmallAtomUtf8Ext | Tag::SmallAtomExt => {
+            let (text, rest) = sized_8(bytes).ok()?;
+            Some((as_short(text)?, rest))
+        }
+        Tag::AtomUtf8Ext | Tag::AtomExt => {
+            let (text, rest) = sized_16(bytes).ok()?;
+            Some((as_short(text)?, rest))
+        }
         _ => None,
     }
 }
@@ -102,17 +107,6 @@ pub fn atom_of(alloc: Global, tag: Tag, bytes: &[u8]) -> Result<(Atom, &[u8]), D
             Ok((latin1_atom(alloc, text)?, rest))
         }
         _ => Err(DecodeFault::BadTag),
-    }
-}
-
-/// The text of a pid's node, and the bytes behind it, where it is of ASCII. None says nothing.
-#[tactic(auto, unfolding(crate::specs::Reading::node_at))]
-pub fn ascii_node_at(bytes: &[u8]) -> Option<(&[u8], &[u8])>
-    ensures { IfSome result (λ x. node_at bytes.now ≡ Ok (x.0.now, x.1.now)) }
-{
-    match tag_behind(bytes) {
-        Ok((tag, rest)) => ascii_at(tag, rest),
-        Err(_) => None,
     }
 }
 
