@@ -1,4 +1,4 @@
-//! How much room a term's canonical form takes.
+//! How much room canonical forms take.
 
 ghost use Rattle.std.specs.Prelude.{◌≡◌, length, MatchOption, true, false};
 ghost use Rattle.trace_terms.specs.Data.{list, pid as pid_data};
@@ -10,7 +10,7 @@ ghost use Rattle.ext_format.specs.Room.{LeavesRoom};
 use trace_terms::{Pid, Term};
 
 /// The fewest bytes of a number from `2^31` on.
-pub fn digit_count(size: u64) -> usize
+pub(crate) fn digit_count(size: u64) -> usize
     ensures { result ≡ forms.digit_count size }
 {
     if size < 1 << 32 {
@@ -65,7 +65,7 @@ pub fn arity_size(arity: usize) -> usize
 }
 
 /// The integer, if it is one from 0 to 255.
-pub fn byte_in(term: &Term) -> Option<u8>
+pub(crate) fn byte_in(term: &Term) -> Option<u8>
     ensures { MatchOption result (is_byte (view term.now) ≡ false) (λ byte. (is_byte (view term.now) ≡ true) × (byte_value (view term.now) ≡ byte)) }
 {
     match term {
@@ -88,7 +88,7 @@ fn are_bytes(members: &Vec<Term>) -> bool
 
 /// Whether a list of these members is spelled as a string.
 #[tactic(auto, using(crate::proofs::Sizes::counted))]
-pub fn is_string(members: &Vec<Term>) -> bool
+pub(crate) fn is_string(members: &Vec<Term>) -> bool
     ensures { result ≡ forms.is_string (members_view members.now.items) }
 {
     members.len() < 1 << 16 && are_bytes(members)
@@ -111,7 +111,7 @@ pub fn room_after(room: usize, term: &Term) -> Option<usize>
     }
 }
 
-/// The same for a list of these members.
+/// The room that is left behind a list of these members, if it suffices.
 #[cycle(size)]
 pub fn room_after_list(room: usize, members: &Vec<Term>) -> Option<usize>
     ensures { LeavesRoom result room (length (canonical_form (list (members_view members.now.items)))) }

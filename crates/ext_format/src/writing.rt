@@ -73,7 +73,7 @@ pub fn put_integer(out: &mut Vec<u8>, number: i64) -> Result<(), AllocError>
     put_big(out, u8::from(number < 0), number.unsigned_abs())
 }
 
-/// An atom: SMALL_ATOM_UTF8_EXT up to 255 bytes, else ATOM_UTF8_EXT.
+/// The atom of this text: SMALL_ATOM_UTF8_EXT up to 255 bytes, else ATOM_UTF8_EXT.
 #[tactic(auto, unfolding(crate::specs::Canonical::atom_form))]
 pub fn put_atom(out: &mut Vec<u8>, text: &str) -> Result<(), AllocError>
     requires { length (chars text.now) ≤ 255 }
