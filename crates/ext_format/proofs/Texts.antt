@@ -1,8 +1,10 @@
 -- Texts of atoms.
-use Rattle.std.proofs.Common.{◌≡◌, ℕ, ◌<◌, ◌≤◌, Bool, true, false, List, length, Ok, Err, refl, ap, sym, subst, arith}
+use Rattle.std.proofs.Common.{◌≡◌, ℕ, ◌*◌, ◌^◌, ◌<◌, ◌≤◌, Bool, true, false, List, [], ◌∷◌, length, Ok, Err, refl, ap, sym, subst, arith}
 use Rattle.std.specs.Str.{IsAscii, IsUtf8, is_utf8, chars, encode_utf8_all}
 use Rattle.std.proofs.lemmas.Bool.{lt-ltb}
-use Rattle.std.proofs.lemmas.Str.{IsUtf8-from_is_utf8, is_utf8-from_IsUtf8, chars-encodes, chars-IsAscii, encodes-IsAscii}
+use Rattle.std.proofs.Math.Utf8.{encode, encodes}
+use Rattle.std.proofs.lemmas.List.{length-append}
+use Rattle.std.proofs.lemmas.Str.{IsUtf8-from_is_utf8, is_utf8-from_IsUtf8, chars-encodes, chars-IsAscii, encodes-IsAscii, encodes-chars, length-encode, len_utf8_bounds}
 use Rattle.ext_format.specs.declared.fault.DecodeFault.TheVariants.{BadText, AtomTooLong}
 use Rattle.ext_format.specs.Reading.{short_text, utf8_text, latin1_text}
 use Rattle.ext_format.proofs.FieldLaws.{IsBytes}
@@ -40,3 +42,13 @@ utf8_text-ascii text ascii short = utf8_again text (ascii_is_text text ascii sho
 
 pub latin1_text-ascii : (text : List ℕ) → IsAscii text → length text ≤ 255 → latin1_text text ≡ Ok text
 latin1_text-ascii text ascii short = subst (λ (l : List ℕ). short_text l ≡ Ok text) (sym (encodes-IsAscii text ascii)) (is_short-again text (ascii_is_text text ascii short))
+
+-- ---- how many bytes a text has
+
+encodes_le : (cs : List ℕ) → length (encodes cs) ≤ 4 * length cs
+encodes_le [] = omega arith
+encodes_le (c ∷ cs) = omega (arith, encodes_le cs, length-append (encode c) (encodes cs), length-encode c, (len_utf8_bounds c).1)
+
+-- its length fits two bytes
+pub short_text_bytes : (text : List ℕ) → IsUtf8 text → length (chars text) ≤ 255 → length text < 2 ^ 16
+short_text_bytes text is short = omega (arith, encodes_le (chars text), ap length (encodes-chars text is))

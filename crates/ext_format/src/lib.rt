@@ -12,9 +12,9 @@ pub mod integers;
 mod laws;
 pub mod limits;
 mod reading;
-mod size;
+pub mod size;
 pub mod tag;
-mod writing;
+pub mod writing;
 
 pub use fault::{DecodeFault, EncodeFault};
 pub use laws::{canonical_is_spelled, cut_is_truncated, one_reading, spelled_is_read};

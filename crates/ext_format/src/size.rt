@@ -1,15 +1,16 @@
-//! How much room a term's canonical form takes.
+//! How much room canonical forms take.
 
 ghost use Rattle.std.specs.Prelude.{◌≡◌, length, MatchOption, true, false};
+ghost use Rattle.trace_terms.specs.Data.{list, pid as pid_data};
 ghost use Rattle.trace_terms.specs.View.{view, members_view};
 ghost use Rattle.ext_format.specs.Canonical as forms;
 ghost use Rattle.ext_format.specs.Canonical.{integer_form, atom_form, arity_form, is_byte, byte_value, are_bytes, canonical_form, canonical_forms};
 ghost use Rattle.ext_format.specs.Room.{LeavesRoom};
 
-use trace_terms::Term;
+use trace_terms::{Pid, Term};
 
 /// The fewest bytes of a number from `2^31` on.
-pub fn digit_count(size: u64) -> usize
+pub(crate) fn digit_count(size: u64) -> usize
     ensures { result ≡ forms.digit_count size }
 {
     if size < 1 << 32 {
@@ -27,7 +28,7 @@ pub fn digit_count(size: u64) -> usize
 
 /// How many bytes a number takes.
 #[tactic(auto, unfolding(crate::specs::Canonical::integer_form, crate::specs::Canonical::big_form))]
-fn integer_size(number: i64) -> usize
+pub fn integer_size(number: i64) -> usize
     ensures { result ≡ length (integer_form number) }
 {
     if u8::try_from(number).is_ok() {
@@ -39,25 +40,32 @@ fn integer_size(number: i64) -> usize
     }
 }
 
-/// The room that is left behind an atom, if it suffices.
+/// The room that is left behind an atom of this text, if it suffices.
 #[tactic(auto, unfolding(crate::specs::Canonical::atom_form))]
-fn room_after_atom(room: usize, text: &str) -> Option<usize>
+pub fn room_after_atom(room: usize, text: &str) -> Option<usize>
     ensures { LeavesRoom result room (length (atom_form text.now)) }
 {
     let head = if text.len() < 256 { 2 } else { 3 };
     room.checked_sub(head)?.checked_sub(text.len())
 }
 
+/// The room that is left behind a pid, if it suffices.
+pub fn room_after_pid(room: usize, pid: &Pid) -> Option<usize>
+    ensures { LeavesRoom result room (length (canonical_form (pid_data pid.now))) }
+{
+    room_after_atom(room, pid.node.text())?.checked_sub(13)
+}
+
 /// How many bytes the head of a tuple takes.
 #[tactic(auto, unfolding(crate::specs::Canonical::arity_form))]
-fn arity_size(arity: usize) -> usize
+pub fn arity_size(arity: usize) -> usize
     ensures { result ≡ length (arity_form arity) }
 {
     if arity < 256 { 2 } else { 5 }
 }
 
 /// The integer, if it is one from 0 to 255.
-pub fn byte_in(term: &Term) -> Option<u8>
+pub(crate) fn byte_in(term: &Term) -> Option<u8>
     ensures { MatchOption result (is_byte (view term.now) ≡ false) (λ byte. (is_byte (view term.now) ≡ true) × (byte_value (view term.now) ≡ byte)) }
 {
     match term {
@@ -80,7 +88,7 @@ fn are_bytes(members: &Vec<Term>) -> bool
 
 /// Whether a list of these members is spelled as a string.
 #[tactic(auto, using(crate::proofs::Sizes::counted))]
-pub fn is_string(members: &Vec<Term>) -> bool
+pub(crate) fn is_string(members: &Vec<Term>) -> bool
     ensures { result ≡ forms.is_string (members_view members.now.items) }
 {
     members.len() < 1 << 16 && are_bytes(members)
@@ -94,7 +102,7 @@ pub fn room_after(room: usize, term: &Term) -> Option<usize>
     match term {
         Term::Int(number) => room.checked_sub(integer_size(*number)),
         Term::Atom(atom) => room_after_atom(room, atom.text()),
-        Term::Pid(pid) => room_after_atom(room, pid.node.text())?.checked_sub(13),
+        Term::Pid(pid) => room_after_pid(room, pid),
         Term::Tuple(members) => {
             room_after_members(room.checked_sub(arity_size(members.len()))?, members)
         }
@@ -103,10 +111,10 @@ pub fn room_after(room: usize, term: &Term) -> Option<usize>
     }
 }
 
-/// The same for a list.
+/// The room that is left behind a list of these members, if it suffices.
 #[cycle(size)]
-fn room_after_list(room: usize, members: &Vec<Term>) -> Option<usize>
-    ensures { LeavesRoom result room (length (forms.list_form (members_view members.now.items) (canonical_forms (members_view members.now.items)))) }
+pub fn room_after_list(room: usize, members: &Vec<Term>) -> Option<usize>
+    ensures { LeavesRoom result room (length (canonical_form (list (members_view members.now.items)))) }
 {
     if members.is_empty() {
         room.checked_sub(1)

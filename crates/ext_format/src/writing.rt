@@ -1,12 +1,14 @@
-//! Terms, written at the end of bytes in their canonical spelling.
+//! Terms, written at the end of bytes in their canonical spelling. Where memory runs out, a part of
+//! a form may be written.
 
 ghost use Rattle.std.specs.Prelude.{◌≡◌, ◌<◌, ◌≤◌, ◌^◌, ◌↔◌, ◌∷◌, ◌++◌, length, true, OnOk, IfOk};
-ghost use Rattle.trace_terms.specs.Data.{depth};
+ghost use Rattle.trace_terms.specs.Data.{depth, list, pid as pid_data};
 ghost use Rattle.trace_terms.specs.View.{view, members_view};
-ghost use Rattle.ext_format.specs.Canonical.{integer_form, big_form, atom_form, arity_form, are_bytes, byte_values, list_form, canonical_form, canonical_forms, canonical};
+ghost use Rattle.ext_format.specs.Canonical.{integer_form, big_form, atom_form, arity_form, are_bytes, byte_values, canonical_form, canonical_forms, canonical};
 ghost use Rattle.ext_format.specs.Fits.{Fits, AllFit, FitsPidFields};
-ghost use Rattle.ext_format.specs.Spelling.{sized, pid_fields, Spells};
+ghost use Rattle.ext_format.specs.Spelling.{sized, Spells};
 ghost use Rattle.std.specs.Int.{w32, w64};
+ghost use Rattle.std.specs.Str.{chars};
 ghost use Rattle.std.specs.Int.RustNames.{FitsSigned};
 
 use crate::fault::EncodeFault;
@@ -57,7 +59,7 @@ fn put_big(out: &mut Vec<u8>, sign: u8, size: u64) -> Result<(), AllocError>
 
 /// A number: SMALL_INTEGER_EXT, INTEGER_EXT or SMALL_BIG_EXT, the first that holds it.
 #[tactic(auto, unfolding(crate::specs::Canonical::integer_form))]
-fn put_integer(out: &mut Vec<u8>, number: i64) -> Result<(), AllocError>
+pub fn put_integer(out: &mut Vec<u8>, number: i64) -> Result<(), AllocError>
     ensures written { OnOk result (out.new.items ≡ out.old.items ++ integer_form number) }
     ensures fits { FitsSigned w64 number }
 {
@@ -71,10 +73,10 @@ fn put_integer(out: &mut Vec<u8>, number: i64) -> Result<(), AllocError>
     put_big(out, u8::from(number < 0), number.unsigned_abs())
 }
 
-/// An atom: SMALL_ATOM_UTF8_EXT up to 255 bytes, else ATOM_UTF8_EXT.
+/// The atom of this text: SMALL_ATOM_UTF8_EXT up to 255 bytes, else ATOM_UTF8_EXT.
 #[tactic(auto, unfolding(crate::specs::Canonical::atom_form))]
-fn put_atom(out: &mut Vec<u8>, text: &str) -> Result<(), AllocError>
-    requires { length text.now < 2 ^ 16 }
+pub fn put_atom(out: &mut Vec<u8>, text: &str) -> Result<(), AllocError>
+    requires { length (chars text.now) ≤ 255 }
     ensures { OnOk result (out.new.items ≡ out.old.items ++ atom_form text.now) }
 {
     let len = text.len();
@@ -88,9 +90,8 @@ fn put_atom(out: &mut Vec<u8>, text: &str) -> Result<(), AllocError>
 }
 
 /// A pid: NEW_PID_EXT.
-fn put_pid(out: &mut Vec<u8>, pid: &Pid) -> Result<(), AllocError>
-    requires { length pid.now.node < 2 ^ 16 }
-    ensures written { OnOk result (out.new.items ≡ out.old.items ++ 88 ∷ pid_fields w32 pid.now (atom_form pid.now.node)) }
+pub fn put_pid(out: &mut Vec<u8>, pid: &Pid) -> Result<(), AllocError>
+    ensures written { OnOk result (out.new.items ≡ out.old.items ++ canonical_form (pid_data pid.now)) }
     ensures fits { OnOk result (FitsPidFields pid.now) }
 {
     out.push(NEW_PID_EXT)?;
@@ -102,7 +103,7 @@ fn put_pid(out: &mut Vec<u8>, pid: &Pid) -> Result<(), AllocError>
 
 /// The head of a tuple: SMALL_TUPLE_EXT up to an arity of 255, else LARGE_TUPLE_EXT.
 #[tactic(auto, unfolding(crate::specs::Canonical::arity_form))]
-fn put_arity(out: &mut Vec<u8>, arity: usize) -> Result<(), AllocError>
+pub fn put_arity(out: &mut Vec<u8>, arity: usize) -> Result<(), AllocError>
     requires { arity < 2 ^ 32 }
     ensures { OnOk result (out.new.items ≡ out.old.items ++ arity_form arity) }
 {
@@ -139,7 +140,7 @@ fn put_bytes(out: &mut Vec<u8>, members: &Vec<Term>) -> Result<(), AllocError>
 
 /// A term without the version.
 #[cycle(writing)]
-fn put_form(out: &mut Vec<u8>, term: &Term) -> Result<(), AllocError>
+pub fn put_form(out: &mut Vec<u8>, term: &Term) -> Result<(), AllocError>
     requires { length (canonical_form (view term.now)) < 2 ^ 16 }
     ensures written { OnOk result (out.new.items ≡ out.old.items ++ canonical_form (view term.now)) }
     ensures fits { OnOk result (Fits (view term.now)) }
@@ -160,9 +161,9 @@ fn put_form(out: &mut Vec<u8>, term: &Term) -> Result<(), AllocError>
 /// A list: NIL_EXT where it is empty, STRING_EXT for up to 65,535 integers from 0 to 255, else
 /// LIST_EXT.
 #[cycle(writing)]
-fn put_list(out: &mut Vec<u8>, members: &Vec<Term>) -> Result<(), AllocError>
-    requires { length (list_form (members_view members.now.items) (canonical_forms (members_view members.now.items))) < 2 ^ 16 }
-    ensures written { OnOk result (out.new.items ≡ out.old.items ++ list_form (members_view members.now.items) (canonical_forms (members_view members.now.items))) }
+pub fn put_list(out: &mut Vec<u8>, members: &Vec<Term>) -> Result<(), AllocError>
+    requires { length (canonical_form (list (members_view members.now.items))) < 2 ^ 16 }
+    ensures written { OnOk result (out.new.items ≡ out.old.items ++ canonical_form (list (members_view members.now.items))) }
     ensures fits { OnOk result (AllFit (members_view members.now.items)) }
 {
     if members.is_empty() {

@@ -11,8 +11,9 @@ mod word;
 pub use event::{Event, Flags, Stamp};
 pub use glance::{Glance, Sort};
 pub use laws::{a_glance_tells_the_kind, messages_have_their_kind, one_kind, some_kind_or_none};
-pub use messages::message;
+pub use messages::{is_asked, message};
 pub use seen::{Seen, classify};
+pub use word::Word;
 
 #[cfg(test)]
 mod tests;

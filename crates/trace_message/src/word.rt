@@ -1,5 +1,5 @@
-ghost use Rattle.std.specs.Prelude.{◌≡◌};
-ghost use Rattle.std.specs.Str.{bytes_eq};
+ghost use Rattle.std.specs.Prelude.{◌≡◌, ◌≤◌, length};
+ghost use Rattle.std.specs.Str.{bytes_eq, chars};
 ghost use Rattle.trace_message.specs.Words.{text_of, word_named};
 
 /// The atoms that trace messages are told with.
@@ -16,8 +16,10 @@ pub enum Word {
 }
 
 impl Word {
+    /// The atom's text.
     pub fn text(self) -> &'static str
-        ensures { result.now ≡ text_of self }
+        ensures bytes { result.now ≡ text_of self }
+        ensures short { length (chars result.now) ≤ 255 }
     {
         match self {
             Word::Trace => "trace",

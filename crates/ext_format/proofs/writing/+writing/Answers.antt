@@ -4,23 +4,11 @@ use Rattle.std.proofs.lemmas.Result.{on_ok_weaker}
 use Rattle.std.specs.Int.{w16, w32, to_be_bytes}
 use Rattle.trace_terms.specs.View.{view, members_view}
 use Rattle.ext_format.specs.Members.{member_count}
-use Rattle.ext_format.specs.Canonical.{atom_form, arity_form, byte_values, canonical_form, canonical_forms}
-use Rattle.ext_format.proofs.Sizes.{list_form-empty, list_form-string, list_form-other, length-list_form-other, length-pid, length-tuple, atom_form-longer, member_count_le, is_string-short, is_string-bytes, three_pieces, four_pieces}
+use Rattle.ext_format.specs.Canonical.{arity_form, byte_values, canonical_form, canonical_forms}
+use Rattle.ext_format.proofs.Sizes.{list_form-empty, list_form-string, list_form-other, length-list_form-other, length-tuple, member_count_le, is_string-short, is_string-bytes, three_pieces, four_pieces}
 use Rattle.ext_format.proofs.Fitting.{on_ok_always, bytes_fit}
-use Rattle.ext_format.proofs.Seen.{view-Atom, view-Pid, view-Tuple, counted_vec, some_members, no_members_in}
+use Rattle.ext_format.proofs.Seen.{view-Tuple, counted_vec, some_members, no_members_in}
 use Rattle.ext_format.proofs.writing.+writing.Goals as goal
-
-pub put_form-put_atom-requires : goal.put_form-put_atom-requires
-put_form-put_atom-requires t c =
-    let a = c.in-Atom.atom in
-    let e : length (canonical_form (view c.args.term.now)) ≡ length (atom_form a) = rw (c.in-Atom.is, view-Atom a) in
-    rw c.text.ensures.bytes (omega (arith, e, atom_form-longer a, c.requires))
-
-pub put_form-put_pid-requires : goal.put_form-put_pid-requires
-put_form-put_pid-requires t c =
-    let p = c.in-Pid.pid in
-    let e : length (canonical_form (view c.args.term.now)) ≡ 13 + length (atom_form p.node) = rw (c.in-Pid.is, view-Pid p, length-pid p) in
-    omega (arith, e, atom_form-longer p.node, c.requires)
 
 pub put_form-put_arity-requires : goal.put_form-put_arity-requires
 put_form-put_arity-requires t c =
