@@ -1,11 +1,12 @@
+pub mod AsRead
 pub mod Asking
+pub mod Feeding
 pub mod Misplaced
+pub mod Parts
 pub mod Placing
 pub mod Running
-pub mod Written
+pub mod Starting
 pub mod Storing
 pub mod Streaming
-pub mod Starting
-pub mod Parts
-pub mod Feeding
 pub mod Turning
+pub mod Written

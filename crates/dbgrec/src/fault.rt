@@ -1,5 +1,6 @@
 // What ends a run before its end.
 ghost use Rattle.std.specs.Prelude.{◌≡◌};
+ghost use Rattle.recovery.specs.Faults.{fault_for};
 ghost use Rattle.dbgrec.specs.Faults.{fault_of_list};
 ghost use Rattle.dbgrec.specs.Streamed.{run_fault};
 ghost use Rattle.dbgrec.specs.declared.fault.SimFault.TheVariants as faults;
@@ -7,6 +8,7 @@ ghost use Rattle.dbgrec.specs.declared.refusal.Refusal.TheVariants as refusals;
 
 use crate::refusal::Refusal;
 use recovery::RecoverFault;
+use segment::SegmentFault;
 use std::alloc::{AllocError, AllocFailed};
 use std::io;
 use thiserror::Error;
@@ -120,6 +122,14 @@ impl From<RecoverFault> for SimFault {
 
     fn from(fault: RecoverFault) -> SimFault {
         SimFault::Refused(Refusal::Recover(fault))
+    }
+}
+
+impl From<SegmentFault> for SimFault {
+    ghost from_gives = { λ fault e. e ≡ faults.Refused (refusals.Recover (fault_for fault)) };
+
+    fn from(fault: SegmentFault) -> SimFault {
+        SimFault::from(RecoverFault::from(fault))
     }
 }
 
