@@ -82,6 +82,29 @@ def a_damaged_file_is_told_with_its_place(program):
 
 
 @case
+def a_damaged_file_is_listed_up_to_its_damage(program):
+    whole = segment(FILE_HEADER, message(EXAMPLE) + drop(3), message(b"x"))
+    (program.folder / "t").write_bytes(whole[:-1] + b"\1\0\0\0\7" + message(b"y") + b"\2\0")
+    lines = [example_line(0), "1 drop 3", "2 opaque 1", "3 opaque 1"]
+    output = "".join(f"{line}\n" for line in lines).encode()
+    place = len(whole) - 1
+    program.refused("list", "t", says=f"dbgrec: refused 1 Damaged file 0 at {place}", output=output)
+    program.refused("export", "t", says=f"dbgrec: refused 1 Damaged file 0 at {place}")
+
+
+@case
+def a_file_trace_of_40_megabytes_is_listed_in_24(program):
+    entry = message(bytes(95))
+    (program.folder / "t").write_bytes(segment(FILE_HEADER, *[entry * 1000] * 400))
+    small = ("bash", "-c", 'ulimit -v 24000; exec "$@"', "bash")
+    outcome = program.run("list", "t", before=small)
+    same((outcome.status, outcome.errors), (0, b""))
+    same(outcome.output.count(b"\n"), 400001)
+    end = b"\n399999 opaque 95\nend_of_trace\n"
+    same(outcome.output[-len(end) :], end)
+
+
+@case
 def files_that_are_no_one_store_are_told(program):
     wrap = ("--kind", "wrap", "--count", "2")
     (program.folder / "a0").write_bytes(segment(FILE_HEADER))
