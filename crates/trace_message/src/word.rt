@@ -33,6 +33,7 @@ impl Word {
         }
     }
 
+    #[inline(always)]
     fn is(self, text: &[u8]) -> bool
         ensures { result ≡ bytes_eq text.now (text_of self) }
     {
@@ -41,6 +42,7 @@ impl Word {
 
     /// The word of this text.
     #[tactic(auto, unfolding(crate::specs::Words::word_named))]
+    #[inline(never)]
     pub fn spelled(text: &[u8]) -> Option<Word>
         ensures { result ≡ word_named text.now }
     {
