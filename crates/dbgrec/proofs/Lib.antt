@@ -1,4 +1,5 @@
 pub mod AsRead
+pub mod CutOff
 pub mod Asking
 pub mod Feeding
 pub mod Misplaced

@@ -14,3 +14,4 @@ pub mod Incoming
 pub mod Parts
 pub mod Importing
 pub mod Kept
+pub mod CutOff
