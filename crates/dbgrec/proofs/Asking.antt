@@ -1,12 +1,10 @@
 -- What the port that is held does in a line.
 use Rattle.std.proofs.Common.{◌≡◌, ℕ, ◌+◌, List, [], ◌∷◌, ◌++◌, None, Result, refl, sym, ◌∙◌, ap, subst}
 use Rattle.entry_codec.specs.Seen.{view}
-use Rattle.entry_codec.specs.declared.model.Entry.{Entry as Stored}
 use Rattle.trace_message.specs.declared.event.Event.{Event}
 use Rattle.trace_message.specs.declared.event.Flags.{Flags}
 use Rattle.trace_message.specs.declared.event.Stamp.{Stamp}
 use Rattle.trace_port.specs.Port.{Told}
-use Rattle.trace_port.specs.declared.kinds.PortFault.{PortFault}
 use Rattle.tracees.specs.Desks.{Place, Seat, SameBook}
 use Rattle.intake.specs.declared.fault.EmitFault.{EmitFault}
 use Rattle.intake.specs.declared.offer.Offer.{Offer}

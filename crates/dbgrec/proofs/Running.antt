@@ -1,5 +1,5 @@
 -- What a run of lines on what is held keeps.
-use Rattle.std.proofs.Common.{◌≡◌, ◌≢◌, ◌⊎◌, inl, inr, ⊎_elim, ℕ, ◌≤◌, Option, Some, None, List, [], ◌∷◌, ◌++◌, Result, IfOk, refl, sym, ◌∙◌, ap, subst, arith}
+use Rattle.std.proofs.Common.{◌≡◌, ◌⊎◌, inl, inr, ⊎_elim, ℕ, ◌≤◌, Option, None, List, [], ◌∷◌, ◌++◌, Result, refl, sym, ◌∙◌, ap, subst, arith}
 use Rattle.std.proofs.lemmas.List.{append-nil}
 use Rattle.trace_store.specs.Disk.{Image, SameImages}
 use Rattle.trace_store.specs.Moments.{Rose}
@@ -8,23 +8,21 @@ use Rattle.recovery.specs.Items.{Item}
 use Rattle.recovery.specs.Views.{View, extend}
 use Rattle.trace_port.specs.Device.{Device, Leaves, IsIdle, clock_sealed}
 use Rattle.trace_port.specs.Sound.{Sound}
-use Rattle.trace_port.specs.Port.{Told, Fits, AreSealed, IsSaved, gate_behind, has_sealed, Ends}
+use Rattle.trace_port.specs.Port.{Told, Fits, AreSealed, gate_behind, has_sealed, Ends}
 use Rattle.trace_port.proofs.Leaving.{both, stays_idle}
 use Rattle.trace_port.proofs.Lending.{ends_after}
 use Rattle.tracees.specs.Effects.{Effect, items_in, covered_by, Calls}
 use Rattle.tracees.specs.PortCalls.{Finishes}
 use Rattle.tracees.specs.Lent.{IsAsOpened}
 use Rattle.tracees.proofs.Composed.{IsStill, items_in-append, covered_more, behind, calls_both, no_call}
-use Rattle.dbgrec.specs.declared.line.Line.{Line}
 use Rattle.dbgrec.specs.declared.answer.Answer.{Answer}
 use Rattle.dbgrec.specs.declared.reply.Leave.{Leave}
-use Rattle.dbgrec.specs.declared.reply.Reply.{Reply}
 use Rattle.dbgrec.specs.declared.reply.Reply.TheVariants.{Told as Answered, Left}
 use Rattle.dbgrec.specs.declared.fault.SimFault.{SimFault}
 use Rattle.dbgrec.specs.Texts.{line_of}
 use Rattle.dbgrec.specs.Sides.{Held, Alone, AtDesk, port_of}
 use Rattle.dbgrec.specs.Asked.{IsAsked}
-use Rattle.dbgrec.specs.Held.{Exchange, AreAsked, ends, leaves, asks, left_by, effects, accepted, written, IsSoundSince, IsSoundThroughout, IsLetGo, Ran, IsHeld, WasHeld}
+use Rattle.dbgrec.specs.Held.{Exchange, AreAsked, ends, leaves, asks, left_by, effects, accepted, IsSoundSince, IsSoundThroughout, IsLetGo, Ran, IsHeld, WasHeld}
 use Rattle.dbgrec.proofs.Asking.{asked_calls}
 
 -- the calls of a run

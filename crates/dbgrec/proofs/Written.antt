@@ -1,5 +1,5 @@
 -- What is written in a run.
-use Rattle.std.proofs.Common.{◌≡◌, ℕ, pos, false, true, Option, Some, None, List, [], ◌∷◌, ◌++◌, Result, Ok, Err, IfOk, IsErr, refl, sym, ◌∙◌, ap, subst, append_assoc}
+use Rattle.std.proofs.Common.{◌≡◌, ℕ, pos, false, true, Option, Some, None, List, [], ◌∷◌, ◌++◌, Result, Ok, Err, IsErr, refl, sym, ◌∙◌, ap, subst, append_assoc}
 use Rattle.std.proofs.lemmas.List.{append-nil}
 use Rattle.std.specs.Io.KnownBytes.{Appends}
 use Rattle.trace_port.specs.Port.{Told}
@@ -17,7 +17,7 @@ use Rattle.dbgrec.specs.declared.fault.SimFault.{SimFault}
 use Rattle.dbgrec.specs.Texts.{line_of}
 use Rattle.dbgrec.specs.Sides.{DeskSide, Held, Alone, AtDesk, first_side, new_side}
 use Rattle.dbgrec.specs.Asked.{IsAsked}
-use Rattle.dbgrec.specs.Held.{Exchange, AreAsked, ends, leaves, asks, left_by, reply_text, written, IsLetGo, Ran, IsAtDesk}
+use Rattle.dbgrec.specs.Held.{Exchange, AreAsked, ends, leaves, asks, reply_text, written, IsLetGo, Ran, IsAtDesk}
 use Rattle.dbgrec.proofs.Running.{then_more}
 
 -- nothing, and then two texts

@@ -1,5 +1,5 @@
 -- What a line of a script asks of what is held, and what may come of it.
-use Rattle.std.specs.Prelude.{◌≡◌, ℕ, Bool, false, List, [], ◌∷◌, Result}
+use Rattle.std.specs.Prelude.{ℕ, Bool, false, [], Result}
 use Rattle.entry_codec.specs.Seen.{view}
 use Rattle.entry_codec.specs.declared.model.Entry.{Entry as Stored}
 use Rattle.trace_store.specs.declared.pick.Pick.{Pick}

@@ -1,5 +1,5 @@
 -- What a line for a desk asks of it, and what may come of it.
-use Rattle.std.specs.Prelude.{◌≡◌, ◌≢◌, ◌⊎◌, ℕ, ◌+◌, ◌<◌, ℤ, false, List, [], ◌∷◌, ◌++◌, set, slice_get, Some, None, Result, codes}
+use Rattle.std.specs.Prelude.{◌≡◌, ◌≢◌, ◌⊎◌, ℕ, ◌+◌, ◌<◌, ℤ, false, [], ◌∷◌, ◌++◌, set, slice_get, Some, None, Result, codes}
 use Rattle.trace_message.specs.declared.event.Event.{Event}
 use Rattle.trace_message.specs.declared.event.Flags.{Flags}
 use Rattle.trace_message.specs.declared.event.Stamp.{Stamp}

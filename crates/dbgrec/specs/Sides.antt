@@ -1,5 +1,5 @@
 -- What is held while lines are run: a port, alone or in a desk with its tracees.
-use Rattle.std.specs.Prelude.{◌≡◌, ℕ, nat_eq, pos, Option, List, [], map, position}
+use Rattle.std.specs.Prelude.{ℕ, nat_eq, pos, Option, List, [], map, position}
 use Rattle.trace_message.specs.declared.event.Stamp.{Stamp}
 use Rattle.trace_port.specs.declared.port.TracePort.{Ghosts as PortGhosts}
 use Rattle.tracees.specs.Books.{no_totals}

@@ -1,4 +1,4 @@
-use Rattle.std.proofs.Common.{refl, ap, false}
+use Rattle.std.proofs.Common.{ap, false}
 use Rattle.intake.specs.Tracees.{counts_of}
 use Rattle.tracees.specs.Effects.{effect, no_effect}
 use Rattle.tracees.specs.Hands.{items_moved, has_gone}

@@ -1,4 +1,4 @@
-use Rattle.std.proofs.Common.{◌≡◌, ◌<◌, ◌≤◌, length, codes, Err, lit≤, ◌∙◌, ap, arith}
+use Rattle.std.proofs.Common.{◌<◌, ◌≤◌, length, codes, Err, lit≤, ◌∙◌, ap, arith}
 use Rattle.std.specs.Str.{chars}
 use Rattle.dbgrec.proofs.attached.pid.Goals as goal
 
