@@ -103,6 +103,14 @@ text_at SmallAtomExt bytes = text_in latin1_text w8 bytes
 text_at AtomExt bytes = text_in latin1_text w16 bytes
 text_at _ bytes = Err BadTag
 
+-- the bytes of an atom's text behind its tag, whatever they spell
+unfoldable pub spelt_at : Tag → List ℕ → Read (List ℕ)
+spelt_at SmallAtomUtf8Ext bytes = sized_at w8 bytes
+spelt_at AtomUtf8Ext bytes = sized_at w16 bytes
+spelt_at SmallAtomExt bytes = sized_at w8 bytes
+spelt_at AtomExt bytes = sized_at w16 bytes
+spelt_at _ bytes = Err BadTag
+
 -- a pid's node, an atom with its tag
 unfoldable pub node_at : List ℕ → Read (List ℕ)
 node_at bytes = do

@@ -3,7 +3,7 @@
 ghost use Rattle.std.specs.Prelude.{◌≡◌, ◌≤◌, Ok, length, string_bytes, IfOk, IfSome, IsTrue};
 ghost use Rattle.std.specs.Int.{w8, w32};
 ghost use Rattle.std.specs.Str.{encode_utf8_all, IsAscii};
-ghost use Rattle.ext_format.specs.Reading.{Gives, short_text, utf8_text, latin1_text, text_at, node_at, pid_at};
+ghost use Rattle.ext_format.specs.Reading.{Gives, short_text, utf8_text, latin1_text, text_at, spelt_at, node_at, pid_at};
 
 use crate::fault::DecodeFault;
 use crate::fields::{sized_8, sized_16, tag_behind, u8_at, u32_at};
@@ -56,6 +56,7 @@ fn latin1_atom(alloc: Global, bytes: &[u8]) -> Result<Atom, DecodeFault>
 /// Bytes that aren't too many for the text of any atom.
 fn as_short(text: &[u8]) -> Option<&[u8]>
     ensures text { IfSome result (λ x. x.now ≡ text.now) }
+    ensures short { IfSome result (λ x. length x.now ≤ 255) }
     ensures utf8 { IfSome result (λ x. IsAscii x.now → utf8_text text.now ≡ Ok x.now) }
     ensures latin1 { IfSome result (λ x. IsAscii x.now → latin1_text text.now ≡ Ok x.now) }
 {
@@ -67,9 +68,11 @@ fn as_short(text: &[u8]) -> Option<&[u8]>
 
 /// The bytes of the text of the atom behind its tag, and those behind them, where they are at most 255. Bytes of ASCII
 /// spell themselves in UTF-8 and in Latin-1, so these are then the atom's text. None says nothing.
-#[tactic(auto, unfolding(crate::specs::Reading::text_at))]
+#[tactic(auto, unfolding(crate::specs::Reading::text_at, crate::specs::Reading::spelt_at))]
 pub fn short_at(tag: Tag, bytes: &[u8]) -> Option<(&[u8], &[u8])>
-    ensures { IfSome result (λ x. IsAscii x.0.now → text_at tag bytes.now ≡ Ok (x.0.now, x.1.now)) }
+    ensures bytes { IfSome result (λ x. spelt_at tag bytes.now ≡ Ok (x.0.now, x.1.now)) }
+    ensures short { IfSome result (λ x. length x.0.now ≤ 255) }
+    ensures text { IfSome result (λ x. IsAscii x.0.now → text_at tag bytes.now ≡ Ok (x.0.now, x.1.now)) }
 {
     match tag {
         Tag::SmallAtomUtf8Ext | Tag::SmallAtomExt => {
