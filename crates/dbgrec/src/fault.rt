@@ -62,6 +62,15 @@ pub enum SimFault {
         name: String,
         reason: io::Error,
     },
+    /// The file of this number isn't one of a trace. It may begin with an entry.
+    #[error("file {file} isn't a trace of dbgrec")]
+    Foreign {
+        file: u32,
+        is_stream: bool,
+    },
+    /// No file of the trace has a byte.
+    #[error("no such trace")]
+    Absent,
     /// Another process has the trace.
     #[error("{name:?} is in use by another process")]
     InUse {
@@ -76,6 +85,19 @@ pub enum SimFault {
 }
 
 impl SimFault {
+    /// Whether the stream that came in ended it, or want of memory for that.
+    pub fn is_of_stream(&self) -> bool {
+        matches!(
+            self,
+            SimFault::Read
+                | SimFault::Truncated { place: _ }
+                | SimFault::BadOp { place: _ }
+                | SimFault::ZeroDrop { place: _ }
+                | SimFault::TooLong { place: _ }
+                | SimFault::NoMemory
+        )
+    }
+
     /// The exit status of the program.
     pub fn status(&self) -> u8 {
         match self {
