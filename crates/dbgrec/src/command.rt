@@ -1,6 +1,6 @@
 // The command line.
 
-use crate::importing::{Ending, Flushing, Rules};
+use crate::importing::{Ending, Flushing};
 use crate::looked::Clearing;
 use crate::place::{Asked, Shape, Turn};
 use crate::size::bytes_in;
@@ -28,6 +28,13 @@ impl Wanted<'_> {
             None => Turn::Size(self.size.unwrap_or(STANDARD_SIZE)),
         }
     }
+}
+
+/// How an import flushes and ends.
+#[derive(Clone, Copy, Debug, PartialEq, Eq)]
+pub struct Rules {
+    pub flushing: Flushing,
+    pub ending: Ending,
 }
 
 /// What a command line asks for.

@@ -14,6 +14,7 @@ use std::io;
 use thiserror::Error;
 use trace_client::{ListFault, StreamFault, WriteFault};
 use trace_port::PortFault;
+use trace_store::FileFault;
 
 /// What ends a run before its end. It displays what is told on standard error.
 #[derive(Debug, Drop, Error)]
@@ -56,11 +57,11 @@ pub enum SimFault {
     #[error("refused {0}")]
     Refused(Refusal),
     /// A call on a stored trace, for what the system said of a file.
-    #[error("refused {refusal}: {name:?}: {reason}")]
+    #[error("refused {refusal}: {name:?}: {fault}")]
     OfFile {
         refusal: Refusal,
         name: String,
-        reason: io::Error,
+        fault: FileFault,
     },
     /// The file of this number isn't one of a trace. It may begin with an entry.
     #[error("file {file} isn't a trace of dbgrec")]

@@ -45,12 +45,11 @@ mod tests_record;
 mod watched;
 
 use clap::error::ErrorKind;
-use command::{Misuse, Request, Wanted, asked_for};
+use command::{Misuse, Request, Rules, Wanted, asked_for};
 use complaint::{Complaint, FAILED_DISK};
 use fault::SimFault;
 use files::Files;
 use host::Console;
-use importing::Rules;
 use looked::Clearing;
 use lookup::{Found, find};
 use notices::{tell_idle, tell_idle_on_file, tell_own};
@@ -127,8 +126,8 @@ fn record(rt: &HostRuntime, wanted: Wanted<'_>, output: &mut Outlet) -> Result<(
     let (opened, origin) = files.open(wanted.turn())?;
     tell_own(rt, &wanted, &found, origin);
     files.record(opened, origin, &mut input(rt)?, output)?;
-    if let Some((name, reason)) = files.complaint() {
-        let _ = eprintln!(rt; "dbgrec: {name:?}: {reason}");
+    if let Some((name, fault)) = files.complaint() {
+        let _ = eprintln!(rt; "dbgrec: {name:?}: {fault}");
     }
     Ok(())
 }
