@@ -73,7 +73,7 @@ fn serve(rt: &HostRuntime, request: Request<'_>) -> Result<(), SimFault> {
             flushing,
         } => import(rt, place, turn, flushing),
         Request::List(place) => list(rt, place),
-        Request::Export(place) => Files::at(*rt, place)?.export(&mut output(rt)?),
+        Request::Export(place) => export(rt, place),
         Request::Wipe(place) => Files::locked_at(*rt, place)?.wipe(&mut output(rt)?),
     }
 }
@@ -106,6 +106,14 @@ fn import(
 fn list(rt: &HostRuntime, place: Place<'_>) -> Result<(), SimFault> {
     let mut console = Console::new(*rt, rt.stdout().is_terminal());
     let done = Files::at(*rt, place)?.list(&mut output(rt)?, &mut console);
+    console.clear();
+    done
+}
+
+/// Writes a trace as an entry stream, in the same way.
+fn export(rt: &HostRuntime, place: Place<'_>) -> Result<(), SimFault> {
+    let mut console = Console::new(*rt, rt.stdout().is_terminal());
+    let done = Files::at(*rt, place)?.export(&mut output(rt)?, &mut console);
     console.clear();
     done
 }
