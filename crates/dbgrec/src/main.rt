@@ -167,8 +167,12 @@ fn list(rt: &HostRuntime, asked: Asked<'_>, output: &mut Outlet) -> Result<(), C
     done
 }
 
+/// Writes a trace as an entry stream, in the same way.
 fn export(rt: &HostRuntime, asked: Asked<'_>, output: &mut Outlet) -> Result<(), Complaint> {
-    files_to_read(rt, asked)?.export(output)
+    let mut console = Console::new(*rt, rt.stdout().is_terminal());
+    let done = files_to_read(rt, asked)?.export(output, &mut console);
+    console.clear();
+    done
 }
 
 fn words(rt: &HostRuntime) -> io::Result<Vec<String>> {

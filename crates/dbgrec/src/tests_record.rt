@@ -333,7 +333,11 @@ fn a_stored_trace_is_listed_and_exported(rt: HostRuntime) -> Result<(), Fail> {
     assert_eq!(rt; String::from_utf8_lossy(alloc, &listed)?.as_str(), text);
     assert_eq!(rt; host.times, 0);
     let mut exported: Vec<u8> = Vec::new(alloc);
-    export_store(alloc, &mut store, &mut exported)?;
+    export_store(
+        alloc,
+        &mut store,
+        &mut Watched::new(&mut exported, &mut host),
+    )?;
     // The entries have 5 + 51 and 5 bytes, and a Drop of 1 is 1 and its number.
     assert_eq!(rt; exported.len(), 61);
     assert!(rt; exported.starts_with(&[0, 0, 0, 0, 51, 131]));
@@ -387,7 +391,11 @@ fn a_trace_in_real_files_is_recorded_listed_and_wiped(rt: HostRuntime) -> Result
     let mut files = Files::locked_at(rt, place)?;
     let mut script = b"tracee 0 8 10 r\nemit 0 receive 8377026f6b\nflushfor 0\n".as_slice();
     files.record(STANDARD, &mut script, &mut written)?;
-    files.export(&mut written)?;
+    let mut host = Shown {
+        last: None,
+        times: 0,
+    };
+    files.export(&mut written, &mut host)?;
     files.wipe(&mut written)?;
     match Files::locked_at(rt, place) {
         Err(SimFault::InUse { name: _ }) => {}
