@@ -313,6 +313,8 @@ impl Host for Shown {
         self.last = Some(progress);
         self.times = self.times.saturating_add(1);
     }
+
+    fn pause(&mut self) {}
 }
 
 #[test]
