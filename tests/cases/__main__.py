@@ -18,6 +18,7 @@ import absent
 import crashes
 import faults
 import foreign
+import images
 import importing
 import keeping
 import listing
@@ -29,7 +30,7 @@ import wording
 from cases import Skipped
 from program import Program
 
-GROUPS = (listing, recording, importing, foreign, absent, keeping, telling, crashes, machine, faults, locking, wording)
+GROUPS = (listing, recording, importing, foreign, absent, keeping, telling, crashes, images, machine, faults, locking, wording)
 
 
 def words():

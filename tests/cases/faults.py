@@ -1,18 +1,15 @@
 """Cases of calls of the system that fail or are interrupted, by a library that is preloaded."""
 
 import os
-import shutil
-import subprocess
 
-from cases import STREAMS, Skipped, group, stored
+from cases import STREAMS, group, stored
 from entries import EXAMPLE, drop, listing, message, split
 from machine import as_nobody
-from program import PATIENCE, Outcome, same
+from preloading import calls_of, with_library
+from program import Outcome, same
 from segments import is_foreign
 
 CASES, case = group()
-
-SOURCE = os.path.join(os.path.dirname(os.path.abspath(__file__)), "preloaded.c")
 
 WRAP = ("--kind", "wrap", "--count", "3", "--size", "100")
 
@@ -26,30 +23,14 @@ TOLD = f"dbgrec: {FAILED}\n".encode()
 ENTRIES = [drop(number + 1) for number in range(60)]
 
 
-def with_library(program, **wanted):
-    """Words that run a command with the library preloaded, and the calls as they are wanted."""
-    library = program.folder.parent / "preloaded.so"
-    if not library.exists():
-        if not shutil.which("cc"):
-            raise Skipped("there is no C compiler")
-        subprocess.run(["cc", "-shared", "-fPIC", "-O1", "-o", str(library), SOURCE], check=True, timeout=PATIENCE)
-    return ("env", f"LD_PRELOAD={library}", *(f"{name}={value}" for name, value in wanted.items()))
-
-
 def syncs(program, *words, stdin=b""):
-    """The syncs of a command that is to end well: the call and the path of each."""
-    log = program.folder.parent / f"{program.folder.name}.syncs"
-    log.unlink(missing_ok=True)
-    outcome = program.run(*words, stdin=stdin, before=with_library(program, SYNCS=log))
-    same((outcome.status, outcome.errors), (0, b""))
-    lines = log.read_text().splitlines() if log.exists() else []
-    log.unlink(missing_ok=True)
-    return [(line.split(" ", 2)[0], line.split(" ", 2)[2]) for line in lines]
+    """The path of each sync of a command that is to end well."""
+    return [call[-1] for call in calls_of(program, *words, stdin=stdin) if call[0] == "sync"]
 
 
 def folders_in(found, folder):
     """How many syncs are those of this folder."""
-    return sum(path == str(folder) for _, path in found)
+    return found.count(str(folder))
 
 
 def is_marked(program, *words):
@@ -76,7 +57,7 @@ def a_failed_sync_leaves_a_mark(program):
     same(first, b'dbgrec: refused 1 Device: "t": Input/output error (os error 5)')
     same(sorted(stored(program.folder)), ["t", "t.failed"])
     mark = (program.folder / "t.failed").read_text()
-    same((mark.count("\n"), mark.endswith("\n"), "dbgrec" in mark), (1, True, True))
+    same((mark.count("\n"), mark.endswith("\n"), "failed" in mark), (1, True, True))
     is_marked(program, "t")
     exported = program.run("export", "t")
     entries = split(exported.output)
@@ -253,20 +234,19 @@ def the_folder_of_a_wrap_is_synced_once(program):
     same(len(stored(program.folder)), 1_001)
     found = syncs(program, "record", "w", *words, stdin=b"abandon\n")
     same(folders_in(found, program.folder), 1)
-    assert len({path for _, path in found}) == 1_002
+    same(len(set(found)), 1_002)
     same(folders_in(syncs(program, "wipe", "w"), program.folder), 1)
 
 
 @case
 def each_new_file_has_its_folder_synced(program):
     found = syncs(program, "import", "w", *WRAP, stdin=drop(1) * 90)
-    last = {path: number for number, (_, path) in enumerate(found) if path != str(program.folder)}
-    first = {}
-    for number, (_, path) in enumerate(found):
-        first.setdefault(path, number)
-    for path in last:
-        after = [number for number, (_, other) in enumerate(found) if other == str(program.folder) and number > first[path] - 1]
-        assert after and after[0] < last[path], f"the folder isn't synced behind the making of {path}"
+    files = sorted(set(found) - {str(program.folder)})
+    same(len(files), 4)
+    for path in files:
+        # a file's first sync, and that of the folder, stand before its next one
+        first = found.index(path)
+        assert str(program.folder) in found[max(first - 1, 0) : found.index(path, first + 1)], f"{path} in {found}"
 
 
 @case
@@ -276,5 +256,5 @@ def through_a_link_the_folder_of_the_file_is_synced(program):
     (program.folder / "t").symlink_to("real/trace")
     found = syncs(program, "import", "t", stdin=drop(1))
     assert folders_in(found, program.folder / "real") > 0, found
-    same({path for _, path in found}, {str(program.folder / "real"), str(program.folder / "real" / "trace")})
+    same(set(found), {str(program.folder / "real"), str(program.folder / "real" / "trace")})
     same(program.good("list", "t"), listing(0, 0, ["0 drop 1"]))
