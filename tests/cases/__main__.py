@@ -14,16 +14,23 @@ import shutil
 import tempfile
 import traceback
 
+import absent
 import crashes
+import faults
+import foreign
+import images
 import importing
+import keeping
 import listing
+import locking
 import machine
 import recording
+import telling
 import wording
 from cases import Skipped
 from program import Program
 
-GROUPS = (listing, recording, importing, crashes, machine, wording)
+GROUPS = (listing, recording, importing, foreign, absent, keeping, telling, crashes, images, machine, faults, locking, wording)
 
 
 def words():

@@ -14,6 +14,8 @@ CASES, case = group()
 
 WRAP = ("--kind", "wrap")
 
+SEALED = "dbgrec: refused 1 Sealed\nthe trace is sealed: export keeps its entries, wipe clears it"
+
 TRACES = ("plain", "stamped", "mono", "wrap", "ip", "node")
 
 
@@ -33,8 +35,8 @@ def imports(program, stream, *words):
 def an_import_is_sealed_at_the_end_of_its_input(program):
     imports(program, message(EXAMPLE) + drop(3))
     same(program.good("list", "t"), listing(0, 0, [example_line(0), "1 drop 3"]))
-    program.refused("import", "t", stdin=message(EXAMPLE), says="dbgrec: refused 1 Sealed")
-    program.refused("record", "t", says="dbgrec: refused 1 Sealed")
+    program.refused("import", "t", stdin=message(EXAMPLE), says=SEALED)
+    program.refused("record", "t", says=SEALED)
     same(program.good("export", "t"), message(EXAMPLE) + drop(3))
     same(program.good("wipe", "t"), b"ok\n")
     imports(program, b"")
@@ -53,12 +55,12 @@ def streams_of_otp_come_back_byte_for_byte(program):
         stream = stream_of(name)
         expected = kept(stream)
         for kind in ((), WRAP):
-            program.good("wipe", "t", *kind)
             imports(program, stream, *kind, *(("--size", "4294967295") if kind else ()))
             same(program.good("export", "t", *kind), b"".join(expected))
             listed = program.good("list", "t", *kind)
             same(listed, program.good("stream", stdin=b"".join(expected)))
             same(listed, listing_of(expected))
+            same(program.good("wipe", "t", *kind), b"ok\n")
 
 
 @case
@@ -112,7 +114,6 @@ def a_wrap_keeps_the_last_runs_of_a_stream(program):
     stream = stream_of("node") + drop(9) + stream_of("stamped")
     entries = kept(stream)
     for size, count in ((0, 1), (100, 3), (2_000, 4), (65_536, 2), (131_072, 8)):
-        program.good("wipe", "t", *WRAP)
         imports(program, stream, *WRAP, "--size", str(size), "--count", str(count))
         first, left = window(entries, size, count)
         same(program.good("export", "t", *WRAP, "--count", str(count)), b"".join(left))

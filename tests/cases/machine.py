@@ -11,10 +11,13 @@ import time
 from cases import Skipped, group, is_root, stored
 from entries import EXAMPLE, example_line, listing, message, split
 from program import PATIENCE, Outcome, read_some, same
+from segments import is_foreign
 
 CASES, case = group()
 
 WRAP = ("--kind", "wrap", "--count", "3")
+
+GOES_ON = b"the trace isn't sealed: the same command goes on with it\n"
 
 # what sets the user of a process, where this one may
 NOBODY = ("setpriv", "--reuid", "65534", "--regid", "65534", "--clear-groups")
@@ -50,25 +53,40 @@ def check_prefix(program, entries, *words):
     return len(left)
 
 
+def check_no_foreign_file(folder, *others):
+    """Fails unless each file, but for these others, is one of the recorder's."""
+    for name, data in stored(folder).items():
+        assert name in others or not is_foreign(data), f"{name} is foreign: {data[:60]}"
+
+
 @case
 def a_full_disk_is_told_and_a_prefix_is_left(program):
     entries = stream()
-    with small_disk(program.folder):
+    with small_disk(program.folder) as disk:
+        (disk / "other").write_bytes(bytes(100_000))
         outcome = program.run("import", "disk/t", stdin=b"".join(entries))
         same((outcome.status, outcome.output), (1, b"created\n"))
-        same(outcome.errors, b'dbgrec: refused 1 Device: "disk/t": No space left on device (os error 28)\n')
-        assert 300 < check_prefix(program, entries, "disk/t") < 524
+        same(outcome.errors, b'dbgrec: refused 1 Device: "disk/t": No space left on device (os error 28)\n' + GOES_ON)
+        left = check_prefix(program, entries, "disk/t")
+        assert 200 < left < 424
+        same(sorted(stored(disk)), ["other", "t"])
+        check_no_foreign_file(disk, "other")
+        (disk / "other").unlink()
+        same(program.good("import", "disk/t", stdin=entries[left]), f"resumed {left}\nsealed {left + 1}\n".encode())
+        same(check_prefix(program, entries, "disk/t"), left + 1)
 
 
 @case
 def a_full_disk_under_a_wrap_is_told_with_the_file(program):
     entries = stream()
     words = ("disk/t", "--kind", "wrap", "--suffix", ".x")
-    with small_disk(program.folder):
+    with small_disk(program.folder) as disk:
         outcome = program.run("import", *words, stdin=b"".join(entries))
         same((outcome.status, outcome.output), (1, b"created\n"))
-        same(outcome.errors, b'dbgrec: refused 1 Device: "disk/t3.x": No space left on device (os error 28)\n')
+        same(outcome.errors, b'dbgrec: refused 1 Device: "disk/t3.x": No space left on device (os error 28)\n' + GOES_ON)
         assert 300 < check_prefix(program, entries, *words) < 524
+        same(sorted(stored(disk)), ["t0.x", "t1.x", "t2.x", "t3.x"])
+        check_no_foreign_file(disk)
 
 
 @case
@@ -79,7 +97,8 @@ def a_disk_without_room_for_a_trace_is_told(program):
                 other.write(bytes(4_096))
         full = ' "disk/t": No space left on device (os error 28)'
         same(program.run("record", "disk/t"), told(1, f"dbgrec: refused 3 Device:{full}"))
-        same(program.good("list", "disk/t"), b"end_of_trace\n")
+        program.refused("list", "disk/t", says="dbgrec: disk/t: no such trace")
+        check_no_foreign_file(disk, "other")
 
 
 @case
@@ -92,7 +111,9 @@ def a_file_that_may_not_grow_is_told_and_a_prefix_is_left(program):
     # the signal for it stays ignored, as it is here
     outcome = program.run("import", "t", stdin=b"".join(entries), preexec_fn=limit, restore_signals=False)
     same((outcome.status, outcome.output), (1, b"created\n"))
-    same(outcome.errors, b'dbgrec: refused 1 Device: "t": File too large (os error 27)\n')
+    same(outcome.errors, b'dbgrec: refused 1 Device: "t": File too large (os error 27)\n' + GOES_ON)
+    same(list(stored(program.folder)), ["t"])
+    check_no_foreign_file(program.folder)
     assert 300 < check_prefix(program, entries, "t") < 400
     told_again = program.good("import", "t").decode().split()
     same(told_again[0], "resumed")
@@ -122,9 +143,10 @@ def a_folder_that_may_not_be_changed_is_told(program):
         os.chmod(program.folder / "shut", 0o555)
         os.chmod(program.folder / "closed", 0o000)
         denied = "Permission denied (os error 13)"
-        for command in ("record", "import", "wipe"):
+        for command in ("record", "import"):
             same(program.run(command, "shut/t", before=nobody), told(1, f'dbgrec: "shut/t" can\'t be locked: {denied}'))
             same(program.run(command, "closed/t", before=nobody), told(1, f'dbgrec: "closed/t" can\'t be locked: {denied}'))
+        same(program.run("wipe", "shut/t", before=nobody), told(1, "dbgrec: shut/t: no such trace"))
         for command in ("list", "export"):
             same(program.run(command, "closed/t", before=nobody), told(1, f'dbgrec: refused 4 Device: "closed/t": {denied}'))
     same(stored(program.folder / "shut"), before)

@@ -67,13 +67,3 @@ pub fn find(rt: HostRuntime, asked: Asked<'_>) -> Result<Found, AllocError> {
     }
     Ok(Found::Wrap(wrap_header(rt, asked.as_wrap(Some(MOST_RUNS)))?))
 }
-
-// TEMPORARY
-#[derive(Clone, Copy)]
-pub enum Disagreement {
-    One { file: u32 },
-    Two { one: u32, other: u32 },
-}
-pub fn find_disagreement(_store: &mut FolderStore) -> Option<Disagreement> {
-    None
-}

@@ -14,6 +14,8 @@ pub struct Outlet {
 }
 
 impl Outlet {
+    ghost use Rattle.std.specs.Prelude.{◌≡◌};
+
     pub fn new(rt: &HostRuntime) -> io::Result<Outlet> {
         Ok(Outlet {
             inner: BufWriter::with_capacity(rt.alloc(), BUFFER, rt.stdout())?,
@@ -26,7 +28,9 @@ impl Outlet {
         self.is_closed
     }
 
-    fn noted<T>(&mut self, answer: io::Result<T>) -> io::Result<T> {
+    fn noted<T>(&mut self, answer: io::Result<T>) -> io::Result<T>
+        ensures { result ≡ answer }
+    {
         if let Err(reason) = &answer
             && reason.kind() == ErrorKind::BrokenPipe
         {
