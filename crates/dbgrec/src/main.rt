@@ -28,13 +28,7 @@ mod spelling;
 mod stored;
 mod stream;
 #[cfg(test)]
-mod tests;
-#[cfg(test)]
-mod tests_desk;
-#[cfg(test)]
 mod tests_driving;
-#[cfg(test)]
-mod tests_record;
 mod watched;
 
 use clap::error::ErrorKind;
