@@ -27,8 +27,6 @@ mod sim;
 mod spelling;
 mod stored;
 mod stream;
-#[cfg(test)]
-mod tests_driving;
 mod watched;
 
 use clap::error::ErrorKind;
