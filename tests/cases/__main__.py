@@ -1,4 +1,4 @@
-"""Tests of the built program over real files: python3 tests/cases PROGRAM [--only WORD] [--and PASSED FAILED].
+"""Tests of the built program: python3 tests/cases PROGRAM [--only WORD] [--and PASSED FAILED].
 
 Each case has a fresh folder of its own. The last line counts the cases, and what `--and` says was counted before.
 """
@@ -25,12 +25,14 @@ import listing
 import locking
 import machine
 import recording
+import rows
+import scripts
 import telling
 import wording
 from cases import Skipped
 from program import Program
 
-GROUPS = (listing, recording, importing, foreign, absent, keeping, telling, crashes, images, machine, faults, locking, wording)
+GROUPS = (rows, scripts, listing, recording, importing, foreign, absent, keeping, telling, crashes, images, machine, faults, locking, wording)
 
 
 def words():

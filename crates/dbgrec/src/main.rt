@@ -34,14 +34,6 @@ mod size;
 mod spelling;
 mod stored;
 mod stream;
-#[cfg(test)]
-mod tests;
-#[cfg(test)]
-mod tests_desk;
-#[cfg(test)]
-mod tests_driving;
-#[cfg(test)]
-mod tests_record;
 mod watched;
 
 use clap::error::ErrorKind;
