@@ -2,6 +2,7 @@
 
 import array
 import bisect
+import concurrent.futures
 import fcntl
 import itertools
 import random
@@ -10,12 +11,15 @@ import time
 
 from cases import group, stored
 from entries import drop, entry_line, example_line, kept, lost_in, message
-from program import Outcome, read_some, same
+from program import Program, read_some, same
 from segments import is_foreign
 
 CASES, case = group()
 
 KILLS = 1_000
+
+# so many runs of kills go on at once, each in a folder of its own
+RUNS = 4
 
 WRAP = ("--kind", "wrap", "--count", "3")
 
@@ -46,12 +50,6 @@ class Parts:
     def between(self, first, end):
         return self.joined[self.starts[first] : self.starts[end]]
 
-    def place(self, start):
-        """The number of the part that begins there."""
-        number = bisect.bisect_left(self.starts, start)
-        assert number < len(self.starts) and self.starts[number] == start, "it ends inside an entry"
-        return number
-
 
 class Expected:
     """What a trace is to show of each prefix of a stream, in one file or in a wrap of runs by size."""
@@ -70,16 +68,15 @@ class Expected:
         ended = bisect.bisect_right(self.ends, total)
         return self.ends[ended - self.count] if ended >= self.count else 0
 
-    def check(self, exported, listed):
-        """Fails unless both show a prefix, and answers its length."""
+    def check(self, listed):
+        """Fails unless the listing shows a prefix, and answers the number of its first entry and its length."""
         head = listed.split(b"\n", 1)[0].decode().split()
         first = int(head[2]) if head[:2] == ["before", "entries"] else 0
-        total = self.entries.place(self.entries.starts[first] + len(exported))
+        total = first + listed.count(b"\n") - (2 if first else 1)
         same(first, self.first(total))
-        same(exported, self.entries.between(first, total))
         before = f"before entries {first} dropped {self.lost[first]}\n".encode() if first else b""
         same(listed, before + self.lines.between(first, total) + b"end_of_trace\n")
-        return total
+        return first, total
 
 
 def run_ends(entries, size):
@@ -93,15 +90,32 @@ def run_ends(entries, size):
     return found
 
 
-def left_by(program, expected, words):
-    """Fails unless a kill has left no foreign file and a prefix, and answers its length."""
+def listing_left(program):
+    """The listing of what a kill has left. Fails where a file is foreign."""
     files = stored(program.folder)
     for name, data in files.items():
         assert not is_foreign(data), f"{name} is foreign: {data[:60]}"
-    if not any(files.values()):
-        program.refused("list", "t", *words, says="dbgrec: t: no such trace")
-        return 0
-    return expected.check(program.good("export", "t", *words), program.good("list", "t", *words))
+    if any(files.values()):
+        return program.good("list", "t")
+    program.refused("list", "t", says="dbgrec: t: no such trace")
+    return b"end_of_trace\n"
+
+
+def left_by(program, expected, looks_twice=True):
+    """Fails unless a kill has left a prefix, and answers its length."""
+    first, total = expected.check(listing_left(program))
+    if looks_twice and total:
+        same(program.good("export", "t"), expected.entries.between(first, total))
+    return total
+
+
+def at_once(program, kill, seed):
+    """Runs the kills of one case in several folders, each with a seed of its own, and joins what they answer."""
+    programs = [Program(program.path, program.folder / str(number)) for number in range(RUNS)]
+    for each in programs:
+        each.folder.mkdir()
+    with concurrent.futures.ThreadPoolExecutor(RUNS) as pool:
+        return set().union(*pool.map(kill, programs, range(seed, seed + RUNS)))
 
 
 def resumed(line):
@@ -141,64 +155,73 @@ def give_some(importer, chance, data, longest):
 
 
 def kill_imports(program, words, seed, size=None):
-    """Kills imports of one stream at many places, and goes on from where the trace ends. A long trace is begun anew."""
+    """Kills imports of one stream, goes on from where the trace ends, and answers where it did. A long trace is begun anew."""
     chance = random.Random(seed)
     given = stream(chance, 1_200_000)
     data = Parts(given)
     expected = Expected(given, size)
     longest = time_of_an_opening(program, words)
     total, seen = 0, set()
-    for turn in range(KILLS):
+    for turn in range(KILLS // RUNS):
         flush = chance.choice(("always", "paused", "paused", "never"))
         with program.start("import", "t", *words, "--flush", flush) as importer:
             found = resumed(importer.line())
             same(found, total)
             give_some(importer, chance, data.between(found, expected.total), longest)
             same(importer.kill(), "")
-        total = left_by(program, expected, words)
+        total = left_by(program, expected, turn % 10 == 0)
         assert total >= found, f"turn {turn}: {total} entries, and {found} were covered"
         seen.add(total)
-        if total > expected.total * 3 // 4 or turn == KILLS - 1:
+        if total > expected.total * 3 // 4 or turn == KILLS // RUNS - 1:
             told = program.good("import", "t", *words, stdin=data.between(total, expected.total)).decode()
             same(told, f"resumed {total}\nsealed {expected.total}\n")
-            same(left_by(program, expected, words), expected.total)
+            same(left_by(program, expected), expected.total)
             same(program.good("wipe", "t"), b"ok\n")
             total = 0
-    assert len(seen) > KILLS // 5, f"only {len(seen)} places"
+    return seen
 
 
 @case
 def a_thousand_killed_imports_into_a_file_leave_a_prefix(program):
-    kill_imports(program, (), 1)
+    seen = at_once(program, lambda each, seed: kill_imports(each, (), seed), 10)
+    assert len(seen) > KILLS // 5, f"only {len(seen)} places"
 
 
 @case
 def a_thousand_killed_imports_into_a_wrap_leave_the_window_of_a_prefix(program):
-    kill_imports(program, (*WRAP, "--size", "50000"), 2, 50_000)
+    words = (*WRAP, "--size", "50000")
+    seen = at_once(program, lambda each, seed: kill_imports(each, words, seed, 50_000), 20)
+    assert len(seen) > KILLS // 5, f"only {len(seen)} places"
 
 
-@case
-def a_thousand_imports_killed_at_their_opening_leave_what_was_there(program):
-    chance = random.Random(3)
+def kill_openings(program, seed):
+    """Kills imports of one entry each while they open their trace, and answers what was left."""
+    chance = random.Random(seed)
     words = (*WRAP, "--size", "1000")
     given = stream(chance, 100_000)
     expected = Expected(given, 1_000)
     longest = 2 * time_of_an_opening(program, words)
-    total, greatest = 0, 0
-    for turn in range(KILLS):
+    total, seen = 0, set()
+    for turn in range(KILLS // RUNS):
         with program.start("import", "t", *words) as importer:
             importer.write(given[total])
             time.sleep(longest * chance.random())
             told = importer.kill()
         for line in told.split("\n")[:-1]:
             same(resumed(line), total)
-        left = left_by(program, expected, words)
+        left = left_by(program, expected)
         assert total <= left <= total + 1, f"turn {turn}: {left} entries behind {total}"
-        total, greatest = left, max(greatest, left)
+        seen.add(left)
+        total = left
         if total == 60:
             same(program.good("wipe", "t"), b"ok\n")
             total = 0
-    assert greatest > 0, "no import came beyond its opening"
+    return seen
+
+
+@case
+def a_thousand_imports_killed_at_their_opening_leave_what_was_there(program):
+    assert max(at_once(program, kill_openings, 30)) > 0, "no import came beyond its opening"
 
 
 def reported(answers):
@@ -214,14 +237,14 @@ def answers_of(recorder, count):
     return text
 
 
-@case
-def a_thousand_killed_records_keep_all_that_was_reported_as_covered(program):
-    chance = random.Random(4)
+def kill_records(program, seed):
+    """Kills records, and answers where each trace ended."""
+    chance = random.Random(seed)
     longest = time_of_an_opening(program, ())
     steps = b"tracee 0 8 10 r\n" + b"emit 0 receive 8377026f6b\nflushfor 0\n" * 50
     lines = Parts([f"{example_line(number)}\n".encode() for number in range(2_000)])
     total, seen = 0, set()
-    for turn in range(KILLS):
+    for turn in range(KILLS // RUNS):
         wanted = chance.choice((0, 1, 2, 3, chance.randrange(40), chance.randrange(80)))
         with program.start("record", "t") as recorder:
             recorder.write(steps)
@@ -229,7 +252,9 @@ def a_thousand_killed_records_keep_all_that_was_reported_as_covered(program):
             if not wanted:
                 time.sleep(longest * chance.random())
             answers = (text.decode() + recorder.kill()).split("\n")[:-1]
-        found = records_left(program, lines)
+        listed = listing_left(program)
+        found = listed.count(b"\n") - 1
+        same(listed, lines.between(0, found) + b"end_of_trace\n")
         covered = max(reported(answers), total)
         assert covered <= found <= covered + 1, f"turn {turn}: {found} entries, of which {covered} were covered"
         total = found
@@ -237,17 +262,10 @@ def a_thousand_killed_records_keep_all_that_was_reported_as_covered(program):
         if total > 1_500:
             same(program.good("wipe", "t"), b"ok\n")
             total = 0
+    return seen
+
+
+@case
+def a_thousand_killed_records_keep_all_that_was_reported_as_covered(program):
+    seen = at_once(program, kill_records, 40)
     assert len(seen) > KILLS // 5, f"only {len(seen)} places"
-
-
-def records_left(program, lines):
-    """Fails unless a kill has left no foreign file and a prefix of these lines, and answers its length."""
-    files = stored(program.folder)
-    assert not any(map(is_foreign, files.values())), files
-    if not any(files.values()):
-        same(program.run("list", "t"), Outcome(1, b"", b"dbgrec: t: no such trace\n"))
-        return 0
-    listed = program.good("list", "t")
-    found = listed.count(b"\n") - 1
-    same(listed, lines.between(0, found) + b"end_of_trace\n")
-    return found

@@ -23,7 +23,7 @@ class File:
     def reads(self):
         data = self.synced
         for change in self.changes:
-            data = change(data)
+            data = change.made_to(data)
         return data
 
     def sync(self):
@@ -33,26 +33,38 @@ class File:
         """An image: some changes since the last sync are there, whole or in part, and some aren't."""
         data = self.synced
         for change in self.changes:
-            data = mixed(chance, data, change(data))
+            data = mixed(chance, data, change.made_to(data), change)
         return data
 
 
-def writing(place, data):
-    return lambda old: (old[:place].ljust(place, b"\0") + data + old[place + len(data) :]) if data else old
+class Written:
+    def __init__(self, place, data):
+        self.place = place
+        self.data = data
+        self.end = place + len(data)
+
+    def made_to(self, old):
+        return old[: self.place].ljust(self.place, b"\0") + self.data + old[self.end :]
 
 
-def cutting(length):
-    return lambda old: old[:length]
+class Cut:
+    def __init__(self, place):
+        self.place = self.end = place
+
+    def made_to(self, old):
+        return old[: self.place]
 
 
-def mixed(chance, old, new):
-    """Either, or a part of each: whole sectors, or single bytes, and any length between the two. Zeros stand for neither."""
+def mixed(chance, old, new, change):
+    """Either, or a part of each: whole sectors, or single bytes, and any length between the two. What was written may be zeros."""
     kind = chance.randrange(5)
     if kind < 2:
         return new if kind else old
     length = chance.choice((len(old), len(new), chance.randint(*sorted((len(old), len(new))))))
     step = SECTOR if kind == 2 else 1
-    sources = [source.ljust(length, b"\0") for source in (old, new)] + ([bytes(length)] if kind == 4 else [])
+    sources = [source.ljust(length, b"\0") for source in (old, new)]
+    if kind == 4:
+        sources.append(new[: change.place].ljust(change.end, b"\0") + new[change.end :].ljust(length, b"\0"))
     return b"".join(chance.choice(sources)[at : at + step] for at in range(0, length, step))[:length]
 
 
@@ -66,9 +78,9 @@ def images_of(calls, chance, names):
         if what == "sync":
             files[name].sync()
         elif what == "cut":
-            files[name].changes.append(cutting(int(numbers[0])))
+            files[name].changes.append(Cut(int(numbers[0])))
         else:
-            files[name].changes.append(writing(int(numbers[0]), bytes.fromhex(numbers[1])))
+            files[name].changes.append(Written(int(numbers[0]), bytes.fromhex(numbers[1])))
         for _ in range(6):
             yield number, {name: file.image(chance) for name, file in files.items()}
 
