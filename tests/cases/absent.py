@@ -99,13 +99,13 @@ def a_blank_store_of_a_script_lists_as_empty(program):
 @case
 def a_wrap_is_found_without_its_options(program):
     lines = [example_line(number) for number in (5, 6)]
-    for number, suffix in enumerate(((), ("--suffix", ".trc"), ("--suffix", "-7"))):
+    for number, suffix in enumerate(((), ("--suffix", ".trc"), ("--suffix=-7",))):
         name = f"w{number}"
         program.good("import", name, *SMALL, *suffix, stdin=message(EXAMPLE) * 7)
         for words in ((), WRAP, (*WRAP, "--count", "3"), ("--count", "3")):
             same(program.good("list", name, *suffix, *words), listing(5, 0, lines))
             same(program.good("export", name, *suffix, *words), message(EXAMPLE) * 2)
-    for number, suffix in enumerate(((), ("--suffix", ".trc"), ("--suffix", "-7"))):
+    for number, suffix in enumerate(((), ("--suffix", ".trc"), ("--suffix=-7",))):
         same(program.good("wipe", f"w{number}", *suffix), b"ok\n")
     same({len(data) for data in stored(program.folder).values()}, {1})
 

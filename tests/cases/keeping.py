@@ -27,7 +27,7 @@ def broken_streams():
     for bad in (b"\0", b"\0\0\0\0", message(EXAMPLE)[:-1], b"\1\0\0\0", message(bytes(65_532))[:-1], message(bytes(70_000))[:6]):
         yield good, bad, "3 Truncated"
         yield b"", bad, "3 Truncated"
-    for bad in (b"\2", b"\xff" + bytes(10), message(EXAMPLE)[3:]):
+    for bad in (b"\2", b"\xff" + bytes(10), message(EXAMPLE)[4:]):
         yield good, bad, "4 BadOp"
         yield b"", bad, "4 BadOp"
     yield good, drop(0), "5 ZeroDrop"

@@ -78,7 +78,7 @@ def a_file_that_comes_in_the_place_of_a_later_one_stays(program):
             running.write(drop(1) * 9)
         outcome = running.end()
     same(outcome.status, 1)
-    assert outcome.errors.startswith(b'dbgrec: refused 1 Device: "w3": '), outcome
+    assert outcome.errors.startswith(b'dbgrec: "w3" is in use by another process\n'), outcome
     same((program.folder / "w3").read_bytes(), before)
 
 

@@ -144,7 +144,7 @@ def a_folder_that_may_not_be_changed_is_told(program):
         os.chmod(program.folder / "closed", 0o000)
         denied = "Permission denied (os error 13)"
         for command in ("record", "import"):
-            same(program.run(command, "shut/t", before=nobody), told(1, f'dbgrec: "shut/t" can\'t be locked: {denied}'))
+            same(program.run(command, "shut/t", before=nobody), told(1, f'dbgrec: refused 3 Device: "shut/t": {denied}'))
             same(program.run(command, "closed/t", before=nobody), told(1, f'dbgrec: "closed/t" can\'t be locked: {denied}'))
         same(program.run("wipe", "shut/t", before=nobody), told(1, "dbgrec: shut/t: no such trace"))
         for command in ("list", "export"):
@@ -178,7 +178,7 @@ def a_file_on_a_disk_that_may_only_be_read_is_listed(program):
         same(program.good("export", "disk/t"), message(EXAMPLE))
         read_only = "Read-only file system (os error 30)"
         same(program.run("wipe", "disk/t"), told(1, f'dbgrec: refused 1 Device: "disk/t": {read_only}'))
-        same(program.run("record", "disk/u"), told(1, f'dbgrec: "disk/u" can\'t be locked: {read_only}'))
+        same(program.run("record", "disk/u"), told(1, f'dbgrec: refused 3 Device: "disk/u": {read_only}'))
 
 
 @case
@@ -219,7 +219,7 @@ def a_folder_in_the_place_of_a_file_is_told(program):
     for command in ("list", "export"):
         program.refused(command, "t", says='dbgrec: refused 4 Device: "t": is a directory')
     (program.folder / "w1").mkdir()
-    program.refused("record", "w", *WRAP, says='dbgrec: refused 5 Recover 4 Device: "w1": is a directory')
+    program.refused("record", "w", *WRAP, says='dbgrec: "w1" can\'t be locked: is a directory')
 
 
 @case

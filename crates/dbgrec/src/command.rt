@@ -116,7 +116,7 @@ fn of_files<'a>(
         alloc,
         "kind",
         "KIND",
-        "One file, or wrap files BASE0SUFFIX, BASE1SUFFIX ..; else what is there, or one file",
+        "One file, or wrap files BASE0SUFFIX, BASE1SUFFIX ..; unless said, what is there [default: file]",
     )
     .value_parser(["file", "wrap"].as_slice());
     let suffix = option(
@@ -129,7 +129,7 @@ fn of_files<'a>(
         alloc,
         "count",
         "COUNT",
-        "Runs that a wrap keeps (1 to 1000, a new one 8), in one file more",
+        "Runs that a wrap keeps (1 to 1000), in one file more [default: 8]",
     )
     .value_parser(value_parser!(u16).range(1..=1000));
     Command::new(alloc, name)
@@ -152,7 +152,7 @@ fn of_new_files<'a>(
         alloc,
         "size",
         "BYTES",
-        "A new wrap goes on to its next file after more than this, 131072 unless said; K, M and G are powers of 1,024",
+        "A new wrap goes on to its next file after more than this; K, M, G: powers of 1,024 [default: 131072]",
     );
     let time = option(
         alloc,

@@ -48,13 +48,31 @@ pub fn first_wrap_file(rt: &HostRuntime, asked: Asked<'_>) -> Result<Option<Stri
     Ok(None)
 }
 
-/// The header of the first wrap file that is open. None also where a file can't be read: who opens the trace is told.
+/// The header of a file, where it is open. None also where it can't be read: who opens the trace is told.
+fn header_in(rt: HostRuntime, name: String) -> Result<Option<SegHeader>, AllocError> {
+    let mut names = Vec::new(rt.alloc());
+    names.push(name)?;
+    let mut store = FolderStore::over(rt, names)?;
+    Ok(first_header(&mut store).unwrap_or(None))
+}
+
+/// Whether a wrap with this header has it in file `k`. Two wraps may share a name: `t10` is a file of `t` and of `t1`.
+fn is_in_place(header: &SegHeader, k: u32) -> bool {
+    header.kind != Kind::File && header.generation % (u64::from(header.wrap_count) + 1) == u64::from(k)
+}
+
+/// The header of the first wrap file that is open and in its place.
 fn wrap_header(rt: HostRuntime, place: Place<'_>) -> Result<Option<SegHeader>, AllocError> {
-    let mut store = FolderStore::over(rt, place.names(rt.alloc())?)?;
-    match first_header(&mut store) {
-        Ok(Some(header)) if header.kind != Kind::File => Ok(Some(header)),
-        _ => Ok(None),
+    for k in 0..place.files() {
+        let name = place.name(rt.alloc(), k)?;
+        if has_bytes(&rt, name.as_str())
+            && let Some(header) = header_in(rt, name)?
+            && is_in_place(&header, k)
+        {
+            return Ok(Some(header));
+        }
     }
+    Ok(None)
 }
 
 /// Looks for a trace of the shape that is asked for; where none is, for one file and then for a wrap.

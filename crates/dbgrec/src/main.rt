@@ -46,7 +46,7 @@ use looked::Clearing;
 use lookup::{Found, find};
 use notices::{tell_idle, tell_idle_on_file, tell_own};
 use outlet::Outlet;
-use place::{Asked, Kind, Place};
+use place::{Asked, Place};
 use sim::run_sim;
 use std::io::{BufReader, IsTerminal};
 use std::process::ExitCode;
@@ -90,7 +90,7 @@ fn place_to_read<'a>(rt: &HostRuntime, asked: Asked<'a>) -> Result<Place<'a>, Co
         });
     }
     let place = asked.place(&found);
-    if place.kind == Kind::File {
+    if matches!(found, Found::File) {
         tell_idle_on_file(rt, &asked);
     }
     Ok(place)
