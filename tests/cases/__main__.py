@@ -1,4 +1,4 @@
-"""Tests of the built program over real files: python3 tests/cases PROGRAM [--only WORD] [--and PASSED FAILED].
+"""Tests of the built program: python3 tests/cases PROGRAM [--only WORD] [--and PASSED FAILED].
 
 Each case has a fresh folder of its own. The last line counts the cases, and what `--and` says was counted before.
 """
@@ -14,16 +14,25 @@ import shutil
 import tempfile
 import traceback
 
+import absent
 import crashes
+import faults
+import foreign
+import images
 import importing
+import keeping
 import listing
+import locking
 import machine
 import recording
+import rows
+import scripts
+import telling
 import wording
 from cases import Skipped
 from program import Program
 
-GROUPS = (listing, recording, importing, crashes, machine, wording)
+GROUPS = (rows, scripts, listing, recording, importing, foreign, absent, keeping, telling, crashes, images, machine, faults, locking, wording)
 
 
 def words():

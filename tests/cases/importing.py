@@ -1,16 +1,20 @@
 """Cases of `import`, and of what goes from OTP through the program and back."""
 
 import os
+import random
+import shutil
 import subprocess
 import time
 
-from cases import STREAMS, group, stored
+from cases import STREAMS, Skipped, group, stored
 from entries import EXAMPLE, drop, example_line, kept, listing, listing_of, lost_in, message, split, window
 from program import PATIENCE, same
 
 CASES, case = group()
 
 WRAP = ("--kind", "wrap")
+
+SEALED = "dbgrec: refused 1 Sealed\nthe trace is sealed: export keeps its entries, wipe clears it"
 
 TRACES = ("plain", "stamped", "mono", "wrap", "ip", "node")
 
@@ -31,8 +35,8 @@ def imports(program, stream, *words):
 def an_import_is_sealed_at_the_end_of_its_input(program):
     imports(program, message(EXAMPLE) + drop(3))
     same(program.good("list", "t"), listing(0, 0, [example_line(0), "1 drop 3"]))
-    program.refused("import", "t", stdin=message(EXAMPLE), says="dbgrec: refused 1 Sealed")
-    program.refused("record", "t", says="dbgrec: refused 1 Sealed")
+    program.refused("import", "t", stdin=message(EXAMPLE), says=SEALED)
+    program.refused("record", "t", says=SEALED)
     same(program.good("export", "t"), message(EXAMPLE) + drop(3))
     same(program.good("wipe", "t"), b"ok\n")
     imports(program, b"")
@@ -51,12 +55,12 @@ def streams_of_otp_come_back_byte_for_byte(program):
         stream = stream_of(name)
         expected = kept(stream)
         for kind in ((), WRAP):
-            program.good("wipe", "t", *kind)
             imports(program, stream, *kind, *(("--size", "4294967295") if kind else ()))
             same(program.good("export", "t", *kind), b"".join(expected))
             listed = program.good("list", "t", *kind)
             same(listed, program.good("stream", stdin=b"".join(expected)))
             same(listed, listing_of(expected))
+            same(program.good("wipe", "t", *kind), b"ok\n")
 
 
 @case
@@ -110,7 +114,6 @@ def a_wrap_keeps_the_last_runs_of_a_stream(program):
     stream = stream_of("node") + drop(9) + stream_of("stamped")
     entries = kept(stream)
     for size, count in ((0, 1), (100, 3), (2_000, 4), (65_536, 2), (131_072, 8)):
-        program.good("wipe", "t", *WRAP)
         imports(program, stream, *WRAP, "--size", str(size), "--count", str(count))
         first, left = window(entries, size, count)
         same(program.good("export", "t", *WRAP, "--count", str(count)), b"".join(left))
@@ -130,24 +133,149 @@ def broken_streams():
     yield b"", b"\2", "4 BadOp"
 
 
+def stops(outcome, fault, output):
+    """Fails unless an import ended with this fault, which the first line on standard error tells."""
+    same((outcome.status, outcome.output), (1, output.encode()))
+    same(outcome.errors.split(b"\n")[0], f"dbgrec: {fault}".encode())
+
+
 @case
-def a_cut_or_broken_stream_is_kept_up_to_its_fault(program):
+def a_cut_or_broken_stream_is_kept_up_to_its_fault_and_gone_on_with(program):
     for number, (good, bad, fault) in enumerate(broken_streams()):
-        name = f"t{number}"
-        outcome = program.run("import", name, stdin=good + bad)
-        same((outcome.status, outcome.errors), (1, f"dbgrec: refused {fault} at {len(good)}\n".encode()))
-        same(outcome.output, f"created\nsealed {len(split(good))}\n".encode())
-        same(program.good("export", name), b"".join(kept(good)))
-        program.refused("import", name, says="dbgrec: refused 1 Sealed")
+        for kind in ((), (*WRAP, "--size", "4294967295")):
+            name, read, count = f"t{number}-{len(kind)}", kind[:2], len(split(good))
+            stops(program.run("import", name, *kind, stdin=good + bad), f"refused {fault} at {len(good)}", f"created\nkept {count}\n")
+            same(program.good("export", name, *read), b"".join(kept(good)))
+            # the same command once more
+            told = program.good("import", name, *kind, stdin=drop(5))
+            same(told, f"resumed {count}\nsealed {count + 1}\n".encode())
+            same(program.good("export", name, *read), b"".join(kept(good)) + drop(5))
 
 
 @case
-def an_input_that_can_not_be_read_is_told_and_what_came_is_sealed(program):
+def an_import_that_begins_inside_an_entry_leaves_its_trace_open(program):
+    entries = [message(bytes([131, 97, number])) for number in range(20)]
+    whole = b"".join(entries)
+    with program.start("import", "t") as importer:
+        importer.write(whole[: 10 * len(entries[0]) + 6])
+        wait_for(lambda: program.run("export", "t").output == b"".join(entries[:10]))
+        importer.kill()
+    # the rest begins with a byte of a message
+    stops(program.run("import", "t", stdin=whole[10 * len(entries[0]) + 6 :]), "refused 4 BadOp at 0", "resumed 10\nkept 10\n")
+    same(program.good("import", "t", stdin=b"".join(entries[11:])), b"resumed 10\nsealed 19\n")
+    same(program.good("export", "t"), b"".join(entries[:10] + entries[11:]))
+
+
+@case
+def streams_that_are_cut_anywhere_lose_nothing(program):
+    chance = random.Random(5)
+    entries = [message(bytes([number % 256]) * chance.choice((1, 40, 3_000))) for number in range(600)]
+    for kind in ((), (*WRAP, "--size", "20000", "--count", "100")):
+        name, read = f"t{len(kind)}", kind[:2] + kind[4:]
+        opened, at = "created", 0
+        while at < len(entries) - 1:
+            upto = min(at + chance.randrange(100), len(entries) - 1)
+            came = b"".join(entries[at:upto])
+            part = entries[upto][: chance.randrange(1, len(entries[upto]))]
+            flush = chance.choice(("always", "paused", "never"))
+            outcome = program.run("import", name, *kind, "--flush", flush, stdin=came + part)
+            stops(outcome, f"refused 3 Truncated at {len(came)}", f"{opened}\nkept {upto}\n")
+            same(program.good("export", name, *read), b"".join(entries[:upto]))
+            opened, at = f"resumed {upto}", upto
+        same(program.good("import", name, *kind, stdin=entries[-1]), f"{opened}\nsealed {len(entries)}\n".encode())
+        same(program.good("export", name, *read), b"".join(entries))
+
+
+@case
+def an_import_that_is_to_keep_its_trace_open_does(program):
+    for kind in ((), WRAP):
+        name = f"t{len(kind)}"
+        same(program.good("import", name, *kind, "--keep-open", stdin=message(EXAMPLE)), b"created\nkept 1\n")
+        same(program.good("import", name, *kind, "--keep-open"), b"resumed 1\nkept 1\n")
+        same(program.good("import", name, *kind, "--keep-open", "--flush", "never", stdin=drop(2)), b"resumed 1\nkept 2\n")
+        same(program.good("export", name, *kind), message(EXAMPLE) + drop(2))
+        stops(program.run("import", name, *kind, "--keep-open", stdin=drop(0)), "refused 5 ZeroDrop at 0", "resumed 2\nkept 2\n")
+        same(program.good("import", name, *kind, stdin=drop(3)), b"resumed 2\nsealed 3\n")
+        stops(program.run("import", name, *kind, "--keep-open"), "refused 1 Sealed", "")
+
+
+@case
+def a_trace_whose_count_is_full_is_kept(program):
+    # a segment of a wrap behind as many entries as u64 can count
+    head = "01" + "44425432" + "01" + "0001" + "00000064" + "0000000000000001" + "f" * 16 + "0" * 16 + "00"
+    (program.folder / "w1").write_bytes(bytes.fromhex(head))
+    most = 2**64 - 1
+    told = f"resumed {most}\nkept {most}\n"
+    for _ in range(2):
+        stops(program.run("import", "w", *WRAP, "--count", "1", stdin=drop(1)), "refused 4 CountFull", told)
+
+
+@case
+def an_input_that_can_not_be_read_is_told_and_what_came_is_kept(program):
     folder = os.open(program.folder, os.O_RDONLY)
     command = [program.path, "import", "t"]
     ran = subprocess.run(command, cwd=program.folder, stdin=folder, capture_output=True, timeout=PATIENCE, check=False)
     os.close(folder)
-    same((ran.returncode, ran.stdout, ran.stderr), (1, b"created\nsealed 0\n", b"dbgrec: refused 1 Read\n"))
+    same((ran.returncode, ran.stdout), (1, b"created\nkept 0\n"))
+    same(ran.stderr.split(b"\n")[0], b"dbgrec: refused 1 Read")
+    same(program.good("import", "t", stdin=drop(1)), b"resumed 0\nsealed 1\n")
+
+
+@case
+def an_input_that_does_not_wait_is_waited_for(program):
+    entries = [message(bytes([number]) * 50) for number in range(12)]
+    reading, writing = os.pipe()
+    os.set_blocking(reading, False)
+    pipe = subprocess.PIPE
+    importer = subprocess.Popen([program.path, "import", "t"], cwd=program.folder, stdin=reading, stdout=pipe, stderr=pipe)
+    os.close(reading)
+    for entry in entries:
+        time.sleep(0.03)
+        os.write(writing, entry[:7])
+        time.sleep(0.03)
+        os.write(writing, entry[7:])
+    wait_for(lambda: program.run("export", "t").output == b"".join(entries))
+    os.close(writing)
+    output, errors = importer.communicate(timeout=PATIENCE)
+    same((importer.returncode, output, errors), (0, b"created\nsealed 12\n", b""))
+
+
+INTERRUPTING = r"""
+#define _GNU_SOURCE
+#include <dlfcn.h>
+#include <errno.h>
+#include <fcntl.h>
+#include <unistd.h>
+
+/* two of three reads of standard input are interrupted, and the file `interrupted` tells that they were */
+ssize_t read(int descriptor, void *buffer, size_t size)
+{
+    static ssize_t (*real)(int, void *, size_t);
+    static unsigned calls;
+    if (!real)
+        real = (ssize_t (*)(int, void *, size_t))dlsym(RTLD_NEXT, "read");
+    if (descriptor == 0 && calls++ % 3 < 2) {
+        close(open("interrupted", O_CREAT | O_WRONLY, 0644));
+        errno = EINTR;
+        return -1;
+    }
+    return real(descriptor, buffer, size);
+}
+"""
+
+
+@case
+def a_read_that_is_interrupted_is_tried_again(program):
+    if not shutil.which("cc"):
+        raise Skipped("there is no C compiler")
+    (program.folder / "interrupting.c").write_text(INTERRUPTING)
+    library = program.folder / "interrupting.so"
+    subprocess.run(["cc", "-shared", "-fPIC", "-o", library, program.folder / "interrupting.c", "-ldl"], check=True)
+    stream = b"".join(message(bytes([number % 256]) * 1_000) for number in range(300))
+    outcome = program.run("import", "t", stdin=stream, env={**os.environ, "LD_PRELOAD": str(library)})
+    same((outcome.status, outcome.output, outcome.errors), (0, b"created\nsealed 300\n", b""))
+    same(program.good("export", "t"), stream)
+    assert (program.folder / "interrupted").exists(), "no read was interrupted"
 
 
 def wait_for(what):

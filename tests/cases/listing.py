@@ -7,29 +7,9 @@ import subprocess
 from cases import group
 from entries import EXAMPLE, drop, example_line, listing, listing_of, message
 from program import PATIENCE, read_some, same
+from segments import FILE_HEADER, STORED, segment, wrap_header
 
 CASES, case = group()
-
-# the header of a file without its gate, of a file trace
-FILE_HEADER = b"DBT1" + bytes(31)
-
-# a file trace of the example entry
-STORED = b"\1" + FILE_HEADER + b"\1" + bytes.fromhex("00000038") + message(EXAMPLE) + b"\0"
-
-
-def wrap_header(generation, before=0, lost=0, size=100, count=2):
-    """The header of a wrap by size, without its gate."""
-    numbers = [(1, 1), (count, 2), (size, 4), (generation, 8), (before, 8), (lost, 8)]
-    return b"DBT1" + b"".join(value.to_bytes(length, "big") for value, length in numbers)
-
-
-def batch(entries):
-    return b"\1" + len(entries).to_bytes(4, "big") + entries
-
-
-def segment(header, *batches):
-    return b"\1" + header + b"".join(map(batch, batches)) + b"\0"
-
 
 @case
 def a_stored_file_is_listed(program):
@@ -44,14 +24,6 @@ def a_listing_changes_no_file(program):
     program.good("list", "t")
     program.good("export", "t")
     same((program.folder / "t").read_bytes(), STORED)
-
-
-@case
-def a_trace_that_is_not_there_lists_as_empty_and_is_not_made(program):
-    same(program.good("list", "t"), b"end_of_trace\n")
-    same(program.good("list", "t", "--kind", "wrap"), b"end_of_trace\n")
-    same(program.good("export", "t"), b"")
-    same(os.listdir(program.folder), [])
 
 
 @case
@@ -75,21 +47,13 @@ def a_wrap_is_listed_from_its_window_on(program):
 @case
 def a_damaged_file_is_told_with_its_place(program):
     (program.folder / "t").write_bytes(STORED[:36] + bytes.fromhex("010000ffff"))
-    for command in ("list", "export"):
-        program.refused(command, "t", says="dbgrec: refused 1 Damaged file 0 at 36")
+    for command, done in (("list", "listed"), ("export", "written")):
+        says = f"dbgrec: refused 1 Damaged file 0 at 36\nt is damaged there: no entry is {done}"
+        program.refused(command, "t", says=says)
+    says = "dbgrec: refused 5 Recover 1 Damaged file 0 at 36\n"
+    says += "t is damaged there: list shows the entries before it, wipe clears the trace"
     for command in ("record", "import"):
-        program.refused(command, "t", says="dbgrec: refused 5 Recover 1 Damaged file 0 at 36")
-
-
-@case
-def a_damaged_file_is_listed_up_to_its_damage(program):
-    whole = segment(FILE_HEADER, message(EXAMPLE) + drop(3), message(b"x"))
-    (program.folder / "t").write_bytes(whole[:-1] + b"\1\0\0\0\7" + message(b"y") + b"\2\0")
-    lines = [example_line(0), "1 drop 3", "2 opaque 1", "3 opaque 1"]
-    output = "".join(f"{line}\n" for line in lines).encode()
-    place = len(whole) - 1
-    program.refused("list", "t", says=f"dbgrec: refused 1 Damaged file 0 at {place}", output=output)
-    program.refused("export", "t", says=f"dbgrec: refused 1 Damaged file 0 at {place}")
+        program.refused(command, "t", says=says)
 
 
 @case
@@ -109,10 +73,10 @@ def files_that_are_no_one_store_are_told(program):
     wrap = ("--kind", "wrap", "--count", "2")
     (program.folder / "a0").write_bytes(segment(FILE_HEADER))
     (program.folder / "a1").write_bytes(segment(wrap_header(1)))
-    program.refused("list", "a", *wrap, says="dbgrec: refused 2 Mixed")
+    program.refused("list", "a", *wrap, says="dbgrec: refused 2 Mixed\na0 and a1 don't belong together")
     (program.folder / "b0").write_bytes(segment(wrap_header(6)))
     (program.folder / "b1").write_bytes(segment(wrap_header(4)))
-    program.refused("list", "b", *wrap, says="dbgrec: refused 3 Sequence")
+    program.refused("list", "b", *wrap, says="dbgrec: refused 3 Sequence\nb1 and b0 don't belong together")
 
 
 @case
@@ -140,27 +104,6 @@ def the_fault_of_a_stream_is_told_with_its_place(program):
     program.refused("stream", stdin=bytes.fromhex("000000003383"), says="dbgrec: refused 3 Truncated at 0")
     program.refused("stream", stdin=b"\2", says="dbgrec: refused 4 BadOp at 0")
     program.refused("stream", stdin=bytes.fromhex("000000fffc"), says="dbgrec: refused 6 TooLong at 0")
-
-
-@case
-def a_listing_into_a_closed_pipe_ends_with_status_1(program):
-    entries = message(EXAMPLE) * 20_000
-    program.good("import", "t", stdin=entries)
-    listed = program.start("list", "t")
-    with listed:
-        same(listed.line(), example_line(0))
-        listed.process.stdout.close()
-        same(listed.process.wait(PATIENCE), 1)
-        same(listed.process.stderr.read(), b"dbgrec: refused 2 Write\n")
-
-
-@case
-def a_listing_onto_a_full_device_is_a_fault(program):
-    (program.folder / "t").write_bytes(STORED)
-    for command in ("list", "export"):
-        with open("/dev/full", "wb") as full:
-            ran = subprocess.run([program.path, command, "t"], cwd=program.folder, stdout=full, stderr=subprocess.PIPE, check=False)
-        same((ran.returncode, ran.stderr), (1, b"dbgrec: refused 2 Write\n"))
 
 
 def lists_as_it_comes(program, screen, end, feed):

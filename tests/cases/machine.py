@@ -11,10 +11,13 @@ import time
 from cases import Skipped, group, is_root, stored
 from entries import EXAMPLE, example_line, listing, message, split
 from program import PATIENCE, Outcome, read_some, same
+from segments import is_foreign
 
 CASES, case = group()
 
 WRAP = ("--kind", "wrap", "--count", "3")
+
+GOES_ON = b"the trace isn't sealed: the same command goes on with it\n"
 
 # what sets the user of a process, where this one may
 NOBODY = ("setpriv", "--reuid", "65534", "--regid", "65534", "--clear-groups")
@@ -50,25 +53,40 @@ def check_prefix(program, entries, *words):
     return len(left)
 
 
+def check_no_foreign_file(folder, *others):
+    """Fails unless each file, but for these others, is one of the recorder's."""
+    for name, data in stored(folder).items():
+        assert name in others or not is_foreign(data), f"{name} is foreign: {data[:60]}"
+
+
 @case
 def a_full_disk_is_told_and_a_prefix_is_left(program):
     entries = stream()
-    with small_disk(program.folder):
+    with small_disk(program.folder) as disk:
+        (disk / "other").write_bytes(bytes(100_000))
         outcome = program.run("import", "disk/t", stdin=b"".join(entries))
         same((outcome.status, outcome.output), (1, b"created\n"))
-        same(outcome.errors, b'dbgrec: refused 1 Device: "disk/t": No space left on device (os error 28)\n')
-        assert 300 < check_prefix(program, entries, "disk/t") < 524
+        same(outcome.errors, b'dbgrec: refused 1 Device: "disk/t": No space left on device (os error 28)\n' + GOES_ON)
+        left = check_prefix(program, entries, "disk/t")
+        assert 200 < left < 424
+        same(sorted(stored(disk)), ["other", "t"])
+        check_no_foreign_file(disk, "other")
+        (disk / "other").unlink()
+        same(program.good("import", "disk/t", stdin=entries[left]), f"resumed {left}\nsealed {left + 1}\n".encode())
+        same(check_prefix(program, entries, "disk/t"), left + 1)
 
 
 @case
 def a_full_disk_under_a_wrap_is_told_with_the_file(program):
     entries = stream()
     words = ("disk/t", "--kind", "wrap", "--suffix", ".x")
-    with small_disk(program.folder):
+    with small_disk(program.folder) as disk:
         outcome = program.run("import", *words, stdin=b"".join(entries))
         same((outcome.status, outcome.output), (1, b"created\n"))
-        same(outcome.errors, b'dbgrec: refused 1 Device: "disk/t3.x": No space left on device (os error 28)\n')
+        same(outcome.errors, b'dbgrec: refused 1 Device: "disk/t3.x": No space left on device (os error 28)\n' + GOES_ON)
         assert 300 < check_prefix(program, entries, *words) < 524
+        same(sorted(stored(disk)), ["t0.x", "t1.x", "t2.x", "t3.x"])
+        check_no_foreign_file(disk)
 
 
 @case
@@ -79,7 +97,8 @@ def a_disk_without_room_for_a_trace_is_told(program):
                 other.write(bytes(4_096))
         full = ' "disk/t": No space left on device (os error 28)'
         same(program.run("record", "disk/t"), told(1, f"dbgrec: refused 3 Device:{full}"))
-        same(program.good("list", "disk/t"), b"end_of_trace\n")
+        program.refused("list", "disk/t", says="dbgrec: disk/t: no such trace")
+        check_no_foreign_file(disk, "other")
 
 
 @case
@@ -92,7 +111,9 @@ def a_file_that_may_not_grow_is_told_and_a_prefix_is_left(program):
     # the signal for it stays ignored, as it is here
     outcome = program.run("import", "t", stdin=b"".join(entries), preexec_fn=limit, restore_signals=False)
     same((outcome.status, outcome.output), (1, b"created\n"))
-    same(outcome.errors, b'dbgrec: refused 1 Device: "t": File too large (os error 27)\n')
+    same(outcome.errors, b'dbgrec: refused 1 Device: "t": File too large (os error 27)\n' + GOES_ON)
+    same(list(stored(program.folder)), ["t"])
+    check_no_foreign_file(program.folder)
     assert 300 < check_prefix(program, entries, "t") < 400
     told_again = program.good("import", "t").decode().split()
     same(told_again[0], "resumed")
@@ -122,9 +143,10 @@ def a_folder_that_may_not_be_changed_is_told(program):
         os.chmod(program.folder / "shut", 0o555)
         os.chmod(program.folder / "closed", 0o000)
         denied = "Permission denied (os error 13)"
-        for command in ("record", "import", "wipe"):
-            same(program.run(command, "shut/t", before=nobody), told(1, f'dbgrec: "shut/t" can\'t be locked: {denied}'))
+        for command in ("record", "import"):
+            same(program.run(command, "shut/t", before=nobody), told(1, f'dbgrec: refused 3 Device: "shut/t": {denied}'))
             same(program.run(command, "closed/t", before=nobody), told(1, f'dbgrec: "closed/t" can\'t be locked: {denied}'))
+        same(program.run("wipe", "shut/t", before=nobody), told(1, "dbgrec: shut/t: no such trace"))
         for command in ("list", "export"):
             same(program.run(command, "closed/t", before=nobody), told(1, f'dbgrec: refused 4 Device: "closed/t": {denied}'))
     same(stored(program.folder / "shut"), before)
@@ -156,7 +178,7 @@ def a_file_on_a_disk_that_may_only_be_read_is_listed(program):
         same(program.good("export", "disk/t"), message(EXAMPLE))
         read_only = "Read-only file system (os error 30)"
         same(program.run("wipe", "disk/t"), told(1, f'dbgrec: refused 1 Device: "disk/t": {read_only}'))
-        same(program.run("record", "disk/u"), told(1, f'dbgrec: "disk/u" can\'t be locked: {read_only}'))
+        same(program.run("record", "disk/u"), told(1, f'dbgrec: refused 3 Device: "disk/u": {read_only}'))
 
 
 @case
@@ -197,7 +219,7 @@ def a_folder_in_the_place_of_a_file_is_told(program):
     for command in ("list", "export"):
         program.refused(command, "t", says='dbgrec: refused 4 Device: "t": is a directory')
     (program.folder / "w1").mkdir()
-    program.refused("record", "w", *WRAP, says='dbgrec: refused 5 Recover 4 Device: "w1": is a directory')
+    program.refused("record", "w", *WRAP, says='dbgrec: "w1" can\'t be locked: is a directory')
 
 
 @case

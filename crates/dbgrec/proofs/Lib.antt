@@ -2,6 +2,7 @@ pub mod AsRead
 pub mod CutOff
 pub mod Asking
 pub mod Feeding
+pub mod Looking
 pub mod Misplaced
 pub mod Parts
 pub mod Placing

@@ -88,7 +88,7 @@ module _ {P : Type 0} (told : P → Told) (still : (p : P) → IsStill (told p))
 same_twice : (old mid new : Image → Type 0) → SameImages old mid → SameImages mid new → SameImages old new
 same_twice old mid new one two = record { no_more = λ image left. one.no_more image (two.no_more image left); no_fewer = λ image left. two.no_fewer image (one.no_fewer image left) }
 
-idle_twice : (old mid new : Device) → IsIdle old mid → IsIdle mid new → IsIdle old new
+pub idle_twice : (old mid new : Device) → IsIdle old mid → IsIdle mid new → IsIdle old new
 idle_twice old mid new one two = record {
   reads = two.reads ∙ one.reads;
   images = same_twice old.images mid.images new.images one.images two.images;

@@ -15,3 +15,4 @@ pub mod Parts
 pub mod Importing
 pub mod Kept
 pub mod CutOff
+pub mod Looked

@@ -105,6 +105,7 @@ answer_text (answers.Resumed count) = codes "resumed " ++ decimal count
 answer_text (answers.Covered count) = codes "covered " ++ decimal count
 answer_text answers.Sealed = codes "sealed"
 answer_text (answers.SealedAt count) = codes "sealed " ++ decimal count
+answer_text (answers.KeptAt count) = codes "kept " ++ decimal count
 answer_text answers.Cut = codes "cut"
 answer_text answers.Open = codes "open"
 answer_text answers.Closed = codes "closed"

@@ -28,6 +28,8 @@ pub enum Answer {
     Sealed,
     /// A trace that was sealed with so many entries.
     SealedAt(u64),
+    /// A trace that stays open, with so many entries.
+    KeptAt(u64),
     /// A tick that cut.
     Cut,
     /// A tick that didn't.
@@ -157,6 +159,7 @@ impl fmt::Display for Answer {
             Answer::Covered(count) => write!(f, "covered {count}"),
             Answer::Sealed => f.write_str("sealed"),
             Answer::SealedAt(count) => write!(f, "sealed {count}"),
+            Answer::KeptAt(count) => write!(f, "kept {count}"),
             Answer::Cut => f.write_str("cut"),
             Answer::Open => f.write_str("open"),
             Answer::Closed => f.write_str("closed"),

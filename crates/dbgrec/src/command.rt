@@ -1,18 +1,40 @@
 // The command line.
 
-use crate::importing::Flushing;
-use crate::place::{Kind, Place};
-use clap::{Arg, ArgMatches, Command, Error, value_parser};
+use crate::importing::{Ending, Flushing};
+use crate::looked::Clearing;
+use crate::place::{Asked, Shape, Turn};
+use crate::size::bytes_in;
+use clap::{Arg, ArgAction, ArgMatches, Command, Error, value_parser};
 use std::alloc::{AllocError, Global};
 use std::convert::AsStr;
 
-/// What ends a run of a wrap.
+/// What a command line asks of a trace that is made where there is none.
 #[derive(Clone, Copy, Debug, PartialEq, Eq)]
-pub enum Turn {
-    /// More than so many bytes.
-    Size(u32),
-    /// So many milliseconds.
-    Time(u32),
+pub struct Wanted<'a> {
+    pub asked: Asked<'a>,
+    /// The bytes of entries that end a run of a wrap, where the command line says so.
+    pub size: Option<u32>,
+    /// The milliseconds that end a run of a wrap, where the command line says so.
+    pub time: Option<u32>,
+    /// To go on also where the disk failed.
+    pub is_after_failure: bool,
+}
+
+impl Wanted<'_> {
+    /// What ends a run of a new wrap.
+    pub fn turn(&self) -> Turn {
+        match self.time {
+            Some(millis) => Turn::Time(millis),
+            None => Turn::Size(self.size.unwrap_or(STANDARD_SIZE)),
+        }
+    }
+}
+
+/// How an import flushes and ends.
+#[derive(Clone, Copy, Debug, PartialEq, Eq)]
+pub struct Rules {
+    pub flushing: Flushing,
+    pub ending: Ending,
 }
 
 /// What a command line asks for.
@@ -23,38 +45,60 @@ pub enum Request<'a> {
     /// List an entry stream.
     Stream,
     /// Record what a script says.
-    Record {
-        place: Place<'a>,
-        turn: Turn,
-    },
+    Record(Wanted<'a>),
     /// Record an entry stream.
     Import {
-        place: Place<'a>,
-        turn: Turn,
-        flushing: Flushing,
+        wanted: Wanted<'a>,
+        rules: Rules,
     },
     /// List a stored trace.
-    List(Place<'a>),
+    List(Asked<'a>),
     /// Write a stored trace as an entry stream.
-    Export(Place<'a>),
+    Export(Asked<'a>),
     /// End a stored trace, and leave an empty store.
-    Wipe(Place<'a>),
+    Wipe {
+        asked: Asked<'a>,
+        clearing: Clearing,
+    },
 }
 
-/// The most runs that a wrap keeps.
-const MOST_RUNS: u16 = 1000;
+/// Why words aren't a command line.
+#[derive(Drop)]
+pub enum Misuse<'a> {
+    /// The words aren't of the form that the help shows, or ask for help.
+    Form(Error),
+    /// The value of `--size`.
+    Size(&'a str),
+}
 
-/// Runs that a wrap keeps.
-const COUNT: &str = "8";
+impl From<Error> for Misuse<'_> {
+    fn from(error: Error) -> Self {
+        Misuse::Form(error)
+    }
+}
+
+impl From<AllocError> for Misuse<'_> {
+    fn from(fault: AllocError) -> Self {
+        Misuse::Form(Error::from(fault))
+    }
+}
 
 /// Bytes of a run of a wrap.
-const SIZE: &str = "131072";
+const STANDARD_SIZE: u32 = 131_072;
 
 /// An option with a value.
 fn option<'a>(alloc: Global, name: &'a str, value: &'a str, about: &'a str) -> Arg<'a> {
     Arg::new(alloc, name)
         .long(name)
         .value_name(value)
+        .help(about)
+}
+
+/// An option without a value.
+fn flag<'a>(alloc: Global, name: &'a str, about: &'a str) -> Arg<'a> {
+    Arg::new(alloc, name)
+        .long(name)
+        .action(ArgAction::SetTrue)
         .help(about)
 }
 
@@ -72,25 +116,22 @@ fn of_files<'a>(
         alloc,
         "kind",
         "KIND",
-        "One file, or wrap files BASE0SUFFIX, BASE1SUFFIX ..",
+        "One file, or wrap files BASE0SUFFIX, BASE1SUFFIX ..; unless said, what is there [default: file]",
     )
-    .value_parser(["file", "wrap"].as_slice())
-    .default_value("file");
+    .value_parser(["file", "wrap"].as_slice());
     let suffix = option(
         alloc,
         "suffix",
         "SUFFIX",
         "What the names of wrap files end with",
-    )
-    .default_value("");
+    );
     let count = option(
         alloc,
         "count",
         "COUNT",
-        "Runs that a wrap keeps (1 to 1000), in one file more",
+        "Runs that a wrap keeps (1 to 1000), in one file more [default: 8]",
     )
-    .value_parser(value_parser!(u16).range(1..=1000))
-    .default_value(COUNT);
+    .value_parser(value_parser!(u16).range(1..=1000));
     Command::new(alloc, name)
         .about(about)
         .after_help(example)
@@ -111,10 +152,8 @@ fn of_new_files<'a>(
         alloc,
         "size",
         "BYTES",
-        "A new wrap goes on to its next file behind more than this",
-    )
-    .value_parser(value_parser!(u32))
-    .default_value(SIZE);
+        "A new wrap goes on to its next file after more than this; K, M, G: powers of 1,024 [default: 131072]",
+    );
     let time = option(
         alloc,
         "time",
@@ -122,7 +161,15 @@ fn of_new_files<'a>(
         "A new wrap goes on to its next file after this time instead",
     )
     .value_parser(value_parser!(u32).range(1..));
-    of_files(alloc, name, about, example)?.arg(size)?.arg(time)
+    let after_failure = flag(
+        alloc,
+        "after-failure",
+        "Goes on also where the disk failed while the trace was written",
+    );
+    of_files(alloc, name, about, example)?
+        .arg(size)?
+        .arg(time)?
+        .arg(after_failure)
 }
 
 /// The command that records an entry stream.
@@ -135,13 +182,19 @@ fn import<'a>(alloc: Global) -> Result<Command<'a>, AllocError> {
     )
     .value_parser(["always", "paused", "never"].as_slice())
     .default_value("paused");
+    let keep_open = flag(
+        alloc,
+        "keep-open",
+        "At the end of the input flushes, and doesn't seal: the next import goes on",
+    );
     of_new_files(
         alloc,
         "import",
         "Records the entry stream of a node from standard input, and seals the trace at its end",
-        "A trace that is there and not sealed is gone on with. A sealed one is kept by export and cleared by wipe.\n\nExample: nc HOST 4711 | dbgrec import trace --kind wrap",
+        "A trace that is there and not sealed is gone on with. A sealed one is kept by export and cleared by wipe. A stream that is cut or broken doesn't seal.\n\nExample: nc HOST 4711 | dbgrec import trace --kind wrap",
     )?
-    .arg(flush)
+    .arg(flush)?
+    .arg(keep_open)
 }
 
 fn dbgrec<'a>(alloc: Global) -> Result<Command<'a>, AllocError> {
@@ -163,7 +216,7 @@ fn dbgrec<'a>(alloc: Global) -> Result<Command<'a>, AllocError> {
         alloc,
         "list",
         "Lists a stored trace on standard output",
-        "Example: dbgrec list trace --kind wrap",
+        "Example: dbgrec list trace",
     )?;
     let export = of_files(
         alloc,
@@ -176,7 +229,8 @@ fn dbgrec<'a>(alloc: Global) -> Result<Command<'a>, AllocError> {
         "wipe",
         "Clears a stored trace, for good",
         "Example: dbgrec wipe trace",
-    )?;
+    )?
+    .arg(flag(alloc, "force", "Clears files that aren't of a trace too"))?;
     Command::new(alloc, "dbgrec")
         .version("0.1.0")
         .about("Records traces as dbg of Erlang does, and lists what a crash has left of them")
@@ -191,55 +245,73 @@ fn dbgrec<'a>(alloc: Global) -> Result<Command<'a>, AllocError> {
         .subcommand(sim)
 }
 
-/// The place that the options name.
-fn place_in<'a>(matches: &ArgMatches<'a>) -> Place<'a> {
-    let kind = match matches.get_str("kind") {
-        Some("wrap") => Kind::Wrap {
-            count: matches.get_one::<u16>("count").unwrap_or(8).min(MOST_RUNS),
-        },
-        _ => Kind::File,
+/// What the options say of where a trace is.
+fn asked_in<'a>(matches: &ArgMatches<'a>) -> Asked<'a> {
+    let shape = match matches.get_str("kind") {
+        Some("wrap") => Some(Shape::Wrap),
+        Some(_) => Some(Shape::File),
+        None => None,
     };
-    Place {
-        kind,
+    Asked {
         base: matches.get_str("BASE").unwrap_or(""),
-        suffix: matches.get_str("suffix").unwrap_or(""),
+        shape,
+        suffix: matches.get_str("suffix"),
+        count: matches.get_one::<u16>("count"),
     }
 }
 
-/// What ends a run of a new wrap.
-fn turn_in(matches: &ArgMatches<'_>) -> Turn {
-    match matches.get_one::<u32>("time") {
-        Some(millis) => Turn::Time(millis),
-        None => Turn::Size(matches.get_one::<u32>("size").unwrap_or(131_072)),
-    }
+/// What the options say of a trace that is made where there is none.
+fn wanted_in<'a>(matches: &ArgMatches<'a>) -> Result<Wanted<'a>, Misuse<'a>> {
+    let size = match matches.get_str("size") {
+        None => None,
+        Some(text) => match bytes_in(text) {
+            None => return Err(Misuse::Size(text)),
+            found => found,
+        },
+    };
+    Ok(Wanted {
+        asked: asked_in(matches),
+        size,
+        time: matches.get_one::<u32>("time"),
+        is_after_failure: matches.get_flag("after-failure"),
+    })
 }
 
-/// When an import flushes.
-fn flushing_in(matches: &ArgMatches<'_>) -> Flushing {
-    match matches.get_str("flush") {
+/// How an import goes.
+fn rules_in(matches: &ArgMatches<'_>) -> Rules {
+    let flushing = match matches.get_str("flush") {
         Some("always") => Flushing::Always,
         Some("never") => Flushing::Never,
         _ => Flushing::Paused,
-    }
+    };
+    let ending = if matches.get_flag("keep-open") {
+        Ending::Keep
+    } else {
+        Ending::Seal
+    };
+    Rules { flushing, ending }
 }
 
 /// What the words ask for, of which the first is the program's name.
-pub fn asked_for<'a, S: AsStr>(alloc: Global, words: &'a [S]) -> Result<Request<'a>, Error> {
+pub fn asked_for<'a, S: AsStr>(alloc: Global, words: &'a [S]) -> Result<Request<'a>, Misuse<'a>> {
     let matches = dbgrec(alloc)?.try_get_matches_from(words)?;
     Ok(match matches.subcommand() {
         Some(("stream", _)) => Request::Stream,
-        Some(("record", matches)) => Request::Record {
-            place: place_in(matches),
-            turn: turn_in(matches),
-        },
+        Some(("record", matches)) => Request::Record(wanted_in(matches)?),
         Some(("import", matches)) => Request::Import {
-            place: place_in(matches),
-            turn: turn_in(matches),
-            flushing: flushing_in(matches),
+            wanted: wanted_in(matches)?,
+            rules: rules_in(matches),
         },
-        Some(("list", matches)) => Request::List(place_in(matches)),
-        Some(("export", matches)) => Request::Export(place_in(matches)),
-        Some(("wipe", matches)) => Request::Wipe(place_in(matches)),
+        Some(("list", matches)) => Request::List(asked_in(matches)),
+        Some(("export", matches)) => Request::Export(asked_in(matches)),
+        Some(("wipe", matches)) => Request::Wipe {
+            asked: asked_in(matches),
+            clearing: if matches.get_flag("force") {
+                Clearing::Any
+            } else {
+                Clearing::Own
+            },
+        },
         _ => Request::Sim,
     })
 }

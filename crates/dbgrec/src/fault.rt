@@ -14,6 +14,7 @@ use std::io;
 use thiserror::Error;
 use trace_client::{ListFault, StreamFault, WriteFault};
 use trace_port::PortFault;
+use trace_store::FileFault;
 
 /// What ends a run before its end. It displays what is told on standard error.
 #[derive(Debug, Drop, Error)]
@@ -56,12 +57,21 @@ pub enum SimFault {
     #[error("refused {0}")]
     Refused(Refusal),
     /// A call on a stored trace, for what the system said of a file.
-    #[error("refused {refusal}: {name:?}: {reason}")]
+    #[error("refused {refusal}: {name:?}: {fault}")]
     OfFile {
         refusal: Refusal,
         name: String,
-        reason: io::Error,
+        fault: FileFault,
     },
+    /// The file of this number isn't one of a trace. It may begin with an entry.
+    #[error("file {file} isn't a trace of dbgrec")]
+    Foreign {
+        file: u32,
+        is_stream: bool,
+    },
+    /// No file of the trace has a byte.
+    #[error("no such trace")]
+    Absent,
     /// Another process has the trace.
     #[error("{name:?} is in use by another process")]
     InUse {
@@ -76,6 +86,19 @@ pub enum SimFault {
 }
 
 impl SimFault {
+    /// Whether the stream that came in ended it, or want of memory for that.
+    pub fn is_of_stream(&self) -> bool {
+        matches!(
+            self,
+            SimFault::Read
+                | SimFault::Truncated { place: _ }
+                | SimFault::BadOp { place: _ }
+                | SimFault::ZeroDrop { place: _ }
+                | SimFault::TooLong { place: _ }
+                | SimFault::NoMemory
+        )
+    }
+
     /// The exit status of the program.
     pub fn status(&self) -> u8 {
         match self {

@@ -1,6 +1,7 @@
 // What a run asks of the machine besides its files.
 
 use std::io::{self, IsTerminal};
+use std::thread;
 use std::time::{Clock, Duration, Instant};
 
 /// How far a run is.
@@ -19,12 +20,18 @@ pub trait Host {
 
     /// Shows how far the run is, where somebody looks.
     fn show(&mut self, progress: Progress);
+
+    /// Waits a little, until there may be more to read.
+    fn pause(&mut self);
 }
 
 /// Milliseconds until a run counts as long, and between two of its lines.
 const PATIENCE: u64 = 1_000;
 
 const BETWEEN: u64 = 200;
+
+/// Milliseconds between two reads of an input that has nothing to read yet.
+const PAUSE: u64 = 10;
 
 /// The system's clock, and standard error.
 #[derive(Drop)]
@@ -90,5 +97,9 @@ impl Host for Console {
             let _ = eprint!(&self.rt; "\r{entries} entries, {bytes} bytes, {drops} dropped\x1b[K");
             self.shown = Some(self.millis);
         }
+    }
+
+    fn pause(&mut self) {
+        thread::sleep(&self.rt, Duration::from_millis(PAUSE));
     }
 }

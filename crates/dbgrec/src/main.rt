@@ -6,6 +6,7 @@ mod answers;
 mod at_desk;
 mod attached;
 mod command;
+mod complaint;
 mod contents;
 mod desk_line;
 mod event;
@@ -17,95 +18,160 @@ mod importing;
 mod incoming;
 mod kept;
 mod line;
+mod looked;
+mod lookup;
+mod notices;
 mod opening;
+mod outlet;
 mod place;
 mod recording;
 mod refusal;
 mod reply;
 mod script;
+mod shown;
 mod sim;
+mod size;
 mod spelling;
 mod stored;
 mod stream;
-#[cfg(test)]
-mod tests;
-#[cfg(test)]
-mod tests_desk;
-#[cfg(test)]
-mod tests_driving;
-#[cfg(test)]
-mod tests_record;
 mod watched;
 
 use clap::error::ErrorKind;
-use command::{Request, Turn, asked_for};
+use command::{Misuse, Request, Rules, Wanted, asked_for};
+use complaint::{Complaint, FAILED_DISK};
 use fault::SimFault;
 use files::Files;
 use host::Console;
-use importing::Flushing;
-use place::Place;
+use looked::Clearing;
+use lookup::{Found, find};
+use notices::{tell_idle, tell_idle_on_file, tell_own};
+use outlet::Outlet;
+use place::{Asked, Place};
 use sim::run_sim;
-use std::io::{BufReader, BufWriter, IsTerminal};
+use std::io::{BufReader, IsTerminal};
 use std::process::ExitCode;
-use std::rt::{Stdin, Stdout};
+use std::rt::Stdin;
 use std::{env, io};
 use stream::run_stream;
 
-/// What is read or written at a time, in bytes.
+/// What is read at a time, in bytes.
 const BUFFER: usize = 65_536;
 
 fn input(rt: &HostRuntime) -> Result<BufReader<Stdin>, SimFault> {
     BufReader::with_capacity(rt.alloc(), BUFFER, rt.stdin()).map_err(|_| SimFault::NoMemory)
 }
 
-fn output(rt: &HostRuntime) -> Result<BufWriter<Stdout>, SimFault> {
-    BufWriter::with_capacity(rt.alloc(), BUFFER, rt.stdout()).map_err(|_| SimFault::NoMemory)
+fn serve(rt: &HostRuntime, request: Request<'_>, output: &mut Outlet) -> Result<(), Complaint> {
+    match request {
+        Request::Sim => Ok(run_sim(rt.alloc(), &mut input(rt)?, output)?),
+        Request::Stream => Ok(run_stream(rt.alloc(), &mut input(rt)?, output)?),
+        Request::Record(wanted) => record(rt, wanted, output),
+        Request::Import { wanted, rules } => import(rt, wanted, rules, output),
+        Request::List(asked) => list(rt, asked, output),
+        Request::Export(asked) => export(rt, asked, output),
+        Request::Wipe { asked, clearing } => {
+            let place = place_to_read(rt, asked)?;
+            Files::locked_at(*rt, asked, place)?.wipe(clearing, output)
+        }
+    }
 }
 
-fn serve(rt: &HostRuntime, request: Request<'_>) -> Result<(), SimFault> {
-    match request {
-        Request::Sim => run_sim(rt.alloc(), &mut input(rt)?, &mut output(rt)?),
-        Request::Stream => run_stream(rt.alloc(), &mut input(rt)?, &mut output(rt)?),
-        Request::Record { place, turn } => record(rt, place, turn),
-        Request::Import {
-            place,
-            turn,
-            flushing,
-        } => import(rt, place, turn, flushing),
-        Request::List(place) => list(rt, place),
-        Request::Export(place) => Files::at(*rt, place)?.export(&mut output(rt)?),
-        Request::Wipe(place) => Files::locked_at(*rt, place)?.wipe(&mut output(rt)?),
+/// Where a trace is that the command line names. What the files say of themselves counts, and what the command line
+/// says has to agree.
+fn place_to_read<'a>(rt: &HostRuntime, asked: Asked<'a>) -> Result<Place<'a>, Complaint> {
+    let found = find(*rt, asked)?;
+    if let (Some(own), Some(given)) = (found.count(), asked.count)
+        && own != given
+    {
+        return Err(Complaint::Differs {
+            name: String::from_str(rt.alloc(), asked.base)?,
+            given,
+            own,
+        });
     }
+    let place = asked.place(&found);
+    if matches!(found, Found::File) {
+        tell_idle_on_file(rt, &asked);
+    }
+    Ok(place)
+}
+
+/// A trace to be written, locked. It is refused where a sync failed before, unless the command line says otherwise.
+fn files_to_write<'a>(
+    rt: &HostRuntime,
+    wanted: &Wanted<'a>,
+    found: &Found,
+) -> Result<Files<'a>, Complaint> {
+    let place = wanted.asked.place(found);
+    tell_idle(rt, wanted, place.kind);
+    let files = Files::locked_at(*rt, wanted.asked, place)?;
+    if !wanted.is_after_failure && files.has_failed()? {
+        return Err(Complaint::AfterFailure);
+    }
+    Ok(files)
 }
 
 /// Records what a script says. Where a device call failed, standard error names its file.
-fn record(rt: &HostRuntime, place: Place<'_>, turn: Turn) -> Result<(), SimFault> {
-    let mut files = Files::locked_at(*rt, place)?;
-    files.record(turn, &mut input(rt)?, &mut output(rt)?)?;
-    if let Some((name, reason)) = files.complaint() {
-        let _ = eprintln!(rt; "dbgrec: {name:?}: {reason}");
-    }
-    Ok(())
+fn record(rt: &HostRuntime, wanted: Wanted<'_>, output: &mut Outlet) -> Result<(), Complaint> {
+    let found = find(*rt, wanted.asked)?;
+    let mut files = files_to_write(rt, &wanted, &found)?;
+    let (opened, origin) = files.open(wanted.turn())?;
+    tell_own(rt, &wanted, &found, origin);
+    let done = files.record(opened, origin, &mut input(rt)?, output);
+    tell_device(rt, &files);
+    done
 }
 
+/// Names the file of the newest device call that failed, if one did, with the system's word.
+fn tell_device(rt: &HostRuntime, files: &Files<'_>) {
+    if let Some((name, fault)) = files.complaint() {
+        let _ = eprintln!(rt; "dbgrec: {name:?}: {fault}");
+    }
+}
+
+/// Records an entry stream. Where a device call failed that its fault doesn't name, standard error names its file.
 fn import(
     rt: &HostRuntime,
-    place: Place<'_>,
-    turn: Turn,
-    flushing: Flushing,
-) -> Result<(), SimFault> {
+    wanted: Wanted<'_>,
+    rules: Rules,
+    output: &mut Outlet,
+) -> Result<(), Complaint> {
     let mut console = Console::new(*rt, false);
-    let (mut reader, mut writer) = (rt.stdin(), output(rt)?);
-    let mut files = Files::locked_at(*rt, place)?;
-    let done = files.import(turn, flushing, &mut reader, &mut writer, &mut console);
+    let mut reader = rt.stdin();
+    let found = find(*rt, wanted.asked)?;
+    let mut files = files_to_write(rt, &wanted, &found)?;
+    let (opened, origin) = files.open(wanted.turn())?;
+    tell_own(rt, &wanted, &found, origin);
+    let done = files.import(opened, origin, rules, &mut reader, output, &mut console);
+    console.clear();
+    if !matches!(&done, Err(complaint) if complaint.names_file()) {
+        tell_device(rt, &files);
+    }
+    done
+}
+
+/// A trace to be read. Where a sync of it failed, standard error says so.
+fn files_to_read<'a>(rt: &HostRuntime, asked: Asked<'a>) -> Result<Files<'a>, Complaint> {
+    let place = place_to_read(rt, asked)?;
+    let files = Files::at(*rt, asked, place)?;
+    if files.has_failed()? {
+        let _ = eprintln!(rt; "dbgrec: {FAILED_DISK}");
+    }
+    Ok(files)
+}
+
+/// Lists a trace. Where the listing itself goes to a terminal, no other line is shown there.
+fn list(rt: &HostRuntime, asked: Asked<'_>, output: &mut Outlet) -> Result<(), Complaint> {
+    let mut console = Console::new(*rt, rt.stdout().is_terminal());
+    let done = files_to_read(rt, asked)?.list(output, &mut console);
     console.clear();
     done
 }
 
-/// Lists a trace. Where the listing itself goes to a terminal, no other line is shown there.
-fn list(rt: &HostRuntime, place: Place<'_>) -> Result<(), SimFault> {
+/// Writes a trace as an entry stream, in the same way.
+fn export(rt: &HostRuntime, asked: Asked<'_>, output: &mut Outlet) -> Result<(), Complaint> {
     let mut console = Console::new(*rt, rt.stdout().is_terminal());
-    let done = Files::at(*rt, place)?.list(&mut output(rt)?, &mut console);
+    let done = files_to_read(rt, asked)?.export(output, &mut console);
     console.clear();
     done
 }
@@ -114,28 +180,42 @@ fn words(rt: &HostRuntime) -> io::Result<Vec<String>> {
     Ok(env::args(rt)?.collect(rt.alloc())?)
 }
 
-/// Tells the fault on standard error, where that can be had.
-fn fail(rt: &HostRuntime, fault: &SimFault) -> ExitCode {
-    let _ = eprintln!(rt; "dbgrec: {fault}");
-    ExitCode::from(fault.status())
+/// Tells what ended the command on standard error, where that can be had.
+fn fail(rt: &HostRuntime, complaint: &Complaint) -> ExitCode {
+    let _ = eprintln!(rt; "dbgrec: {complaint}");
+    ExitCode::from(complaint.status())
+}
+
+/// Tells what is wrong with the command line, or shows the help that it asks for.
+fn correct(rt: &HostRuntime, misuse: Misuse<'_>) -> ExitCode {
+    match misuse {
+        Misuse::Form(error) if error.kind() == ErrorKind::OutOfMemory => {
+            fail(rt, &Complaint::from(SimFault::NoMemory))
+        }
+        Misuse::Form(error) => {
+            let _ = error.print(rt);
+            ExitCode::from(if error.use_stderr() { 2 } else { 0 })
+        }
+        Misuse::Size(text) => {
+            let _ = eprintln!(rt;
+                "error: invalid value '{text}' for '--size <BYTES>': a number below 4294967296, with K, M or G behind it or nothing\n\nFor more information, try '--help'."
+            );
+            ExitCode::from(2)
+        }
+    }
 }
 
 fn main(rt: HostRuntime) -> ExitCode {
-    let Ok(words) = words(&rt) else {
-        return fail(&rt, &SimFault::NoMemory);
+    let (Ok(words), Ok(mut output)) = (words(&rt), Outlet::new(&rt)) else {
+        return fail(&rt, &Complaint::from(SimFault::NoMemory));
     };
     let request = match asked_for(rt.alloc(), words.as_slice()) {
         Ok(request) => request,
-        Err(error) => {
-            if error.kind() == ErrorKind::OutOfMemory {
-                return fail(&rt, &SimFault::NoMemory);
-            }
-            let _ = error.print(&rt);
-            return ExitCode::from(if error.use_stderr() { 2 } else { 0 });
-        }
+        Err(misuse) => return correct(&rt, misuse),
     };
-    match serve(&rt, request) {
+    match serve(&rt, request, &mut output) {
         Ok(()) => ExitCode::SUCCESS,
-        Err(fault) => fail(&rt, &fault),
+        Err(complaint) if complaint.is_of_writer() && output.is_closed() => ExitCode::FAILURE,
+        Err(complaint) => fail(&rt, &complaint),
     }
 }

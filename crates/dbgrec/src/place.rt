@@ -2,6 +2,7 @@
 ghost use Rattle.std.specs.Prelude.{◌≤◌};
 ghost use Rattle.dbgrec.specs.Places.{file_count};
 
+use crate::lookup::Found;
 use std::alloc::{AllocError, Global};
 use wrap_port::file_name;
 
@@ -12,6 +13,71 @@ pub enum Kind {
     File,
     /// In files that are used again, and one more of them than the runs that are kept.
     Wrap { count: u16 },
+}
+
+/// What ends a run of a wrap.
+#[derive(Clone, Copy, Debug, PartialEq, Eq)]
+pub enum Turn {
+    /// More than so many bytes.
+    Size(u32),
+    /// So many milliseconds.
+    Time(u32),
+}
+
+/// How a trace is stored, as a command line says it.
+#[derive(Clone, Copy, Debug, PartialEq, Eq)]
+pub enum Shape {
+    File,
+    Wrap,
+}
+
+/// What a command line says of where a trace is; None stands for what it doesn't say.
+#[derive(Clone, Copy, Debug, PartialEq, Eq)]
+pub struct Asked<'a> {
+    pub base: &'a str,
+    pub shape: Option<Shape>,
+    pub suffix: Option<&'a str>,
+    /// The runs that a wrap keeps.
+    pub count: Option<u16>,
+}
+
+/// The most runs that a wrap keeps.
+pub const MOST_RUNS: u16 = 1_000;
+
+/// The runs that a new wrap keeps where the command line doesn't say.
+const STANDARD_RUNS: u16 = 8;
+
+impl<'a> Asked<'a> {
+    /// Where the trace is, by what was found of it.
+    pub fn place(&self, found: &Found) -> Place<'a> {
+        match found {
+            Found::File => self.as_file(),
+            Found::Wrap(_) => self.as_wrap(found.count()),
+            Found::Nothing if self.shape == Some(Shape::Wrap) => self.as_wrap(None),
+            Found::Nothing => self.as_file(),
+        }
+    }
+
+    /// The trace of one file.
+    pub fn as_file(&self) -> Place<'a> {
+        Place {
+            kind: Kind::File,
+            base: self.base,
+            suffix: "",
+        }
+    }
+
+    /// The wrap that keeps so many runs, or what the command line says.
+    pub fn as_wrap(&self, found: Option<u16>) -> Place<'a> {
+        let count = found.or(self.count).unwrap_or(STANDARD_RUNS);
+        Place {
+            kind: Kind::Wrap {
+                count: count.min(MOST_RUNS),
+            },
+            base: self.base,
+            suffix: self.suffix.unwrap_or(""),
+        }
+    }
 }
 
 /// Where a trace is stored: a file of this name, or files whose names are this, a number and the suffix.

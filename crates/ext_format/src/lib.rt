@@ -20,6 +20,3 @@ pub use fault::{DecodeFault, EncodeFault};
 pub use laws::{canonical_is_spelled, cut_is_truncated, one_reading, spelled_is_read};
 pub use reading::{decode, inner_room, tail};
 pub use writing::encode;
-
-#[cfg(test)]
-mod tests;

@@ -14,6 +14,3 @@ pub use laws::{a_glance_tells_the_kind, messages_have_their_kind, one_kind, some
 pub use messages::{is_asked, message};
 pub use seen::{Seen, classify};
 pub use word::Word;
-
-#[cfg(test)]
-mod tests;

@@ -13,6 +13,3 @@ pub use atom::Atom;
 pub use fault::{AtomFault, NoMemory};
 pub use laws::equal_terms;
 pub use term::{Pid, Term};
-
-#[cfg(test)]
-mod tests;

@@ -39,16 +39,3 @@ pub use shared::SharedBook;
 pub use step::{Reply, Step};
 pub use threads::run_threads;
 pub use traced::Traced;
-
-#[cfg(test)]
-mod tests;
-#[cfg(test)]
-mod tests_auditing;
-#[cfg(test)]
-mod tests_driving;
-#[cfg(test)]
-mod tests_either;
-#[cfg(test)]
-mod tests_settling;
-#[cfg(test)]
-mod tests_threads;

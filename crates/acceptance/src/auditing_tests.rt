@@ -1,0 +1,83 @@
+use entry_codec::Entry;
+use recovery::Recovered;
+use std::alloc::Global;
+use std::test::Fail;
+use tracees::{Mismatch, Receipt, audit};
+
+/// `{trace,<nonode@nohost.80.0.0>,'receive',ok}` in the External Term Format.
+const EXAMPLE: &[u8] =
+    b"\x83\x68\x04\x77\x05trace\x58\x77\x0dnonode@nohost\x00\x00\x00\x50\x00\x00\x00\x00\x00\x00\x00\x00\x77\x07receive\x77\x02ok";
+
+/// The entries of a receipt or a window: the example, or a Drop.
+#[derive(Clone, Copy)]
+enum Part {
+    Example,
+    Lost(u32),
+}
+
+use Part::{Example, Lost};
+
+fn entries(alloc: Global, parts: &[Part]) -> Result<Vec<Entry>, Fail> {
+    let mut entries = Vec::new(alloc);
+    for part in parts {
+        entries.push(match part {
+            Example => Entry::Message(Vec::from_slice(alloc, EXAMPLE)?),
+            Lost(count) => Entry::Drop(*count),
+        })?;
+    }
+    Ok(entries)
+}
+
+fn receipt(alloc: Global, first: u64, parts: &[Part], covered: u64) -> Result<Receipt, Fail> {
+    Ok(Receipt {
+        desk: 0,
+        tracee: 0,
+        first,
+        entries: entries(alloc, parts)?,
+        covered,
+    })
+}
+
+/// A window of three entries, behind two.
+fn window(alloc: Global) -> Result<Recovered, Fail> {
+    let kept = entries(alloc, &[Example, Example, Example])?;
+    Ok(Recovered::new(None, 2, 0, kept, false).ok_or("a lawful window")?)
+}
+
+#[test]
+fn a_receipt_is_held_against_the_window(rt: HostRuntime) -> Result<(), Fail> {
+    let window = window(rt.alloc())?;
+    let table: [((u64, &[Part], u64), Result<(), Mismatch>); 7] = [
+        ((3, &[Example], 5), Ok(())),
+        // Number 1 fell out.
+        ((1, &[Example], 5), Ok(())),
+        ((1, &[Lost(1), Example], 5), Ok(())),
+        ((4, &[Lost(1)], 5), Err(Mismatch { number: 4 })),
+        // Number 5 is behind the end.
+        ((5, &[Example], 5), Ok(())),
+        ((5, &[Example], 6), Err(Mismatch { number: 5 })),
+        // The number of the second has no value.
+        ((u64::MAX, &[Example, Example], u64::MAX), Ok(())),
+    ];
+    for ((first, parts, covered), expected) in table {
+        let receipts = [receipt(rt.alloc(), first, parts, covered)?];
+        assert_eq!(rt;
+            audit(&window, &receipts),
+            expected,
+            "at {first} of {covered}"
+        );
+    }
+    Ok(())
+}
+
+#[test]
+fn each_receipt_is_held_against_the_window(rt: HostRuntime) -> Result<(), Fail> {
+    let window = window(rt.alloc())?;
+    let receipts = [
+        receipt(rt.alloc(), 2, &[Example, Example], 5)?,
+        receipt(rt.alloc(), 4, &[Lost(7)], 5)?,
+    ];
+    assert_eq!(rt; audit(&window, &receipts), Err(Mismatch { number: 4 }));
+    assert_eq!(rt; audit(&window, &[]), Ok(()));
+    Ok(())
+}

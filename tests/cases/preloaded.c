@@ -1,0 +1,126 @@
+/*
+ * Calls of the system as the cases want them, for a program that this library is preloaded into:
+ *   CALLS       a file that gets a line for each call that ended well: "sync PATH", "write PLACE HEX PATH", "cut LENGTH PATH"
+ *   FAIL_SYNC   the end of a path, of which one sync fails ..
+ *   FAIL_AFTER  .. behind so many (0 where it isn't said) ..
+ *   FAIL_ERROR  .. with this number of errno (5, EIO, where it isn't said)
+ *   INTERRUPT   each second read of standard input is interrupted
+ */
+#define _GNU_SOURCE
+#include <errno.h>
+#include <fcntl.h>
+#include <stdio.h>
+#include <stdlib.h>
+#include <string.h>
+#include <sys/syscall.h>
+#include <unistd.h>
+
+#define MOST 200000
+
+static int number(const char *name, int otherwise)
+{
+    const char *text = getenv(name);
+    return text ? atoi(text) : otherwise;
+}
+
+static const char *path_of(int file)
+{
+    static char path[4096];
+    char link[64];
+    snprintf(link, sizeof link, "/proc/self/fd/%d", file);
+    ssize_t length = readlink(link, path, sizeof path - 1);
+    path[length < 0 ? 0 : length] = 0;
+    return path;
+}
+
+static void note(const char *what, const char *path)
+{
+    static char line[2 * MOST + 5000];
+    int reason = errno;
+    const char *calls = getenv("CALLS");
+    int log = calls ? open(calls, O_WRONLY | O_CREAT | O_APPEND, 0600) : -1;
+    if (log >= 0) {
+        int size = snprintf(line, sizeof line, "%s %s\n", what, path);
+        if (syscall(SYS_write, log, line, size) < size)
+            abort();
+        close(log);
+    }
+    errno = reason;
+}
+
+static int is_to_fail(const char *path)
+{
+    static int seen;
+    const char *end = getenv("FAIL_SYNC");
+    if (!end || strlen(path) < strlen(end) || strcmp(path + strlen(path) - strlen(end), end))
+        return 0;
+    return seen++ == number("FAIL_AFTER", 0);
+}
+
+static int sync_as_wanted(int file, long call)
+{
+    const char *path = path_of(file);
+    if (is_to_fail(path)) {
+        errno = number("FAIL_ERROR", EIO);
+        return -1;
+    }
+    int answer = (int)syscall(call, file);
+    if (answer == 0)
+        note("sync", path);
+    return answer;
+}
+
+int fsync(int file)
+{
+    return sync_as_wanted(file, SYS_fsync);
+}
+
+int fdatasync(int file)
+{
+    return sync_as_wanted(file, SYS_fdatasync);
+}
+
+ssize_t pwrite(int file, const void *data, size_t size, off_t place)
+{
+    static char what[2 * MOST + 100];
+    ssize_t written = syscall(SYS_pwrite64, file, data, size, place);
+    if (written > MOST)
+        abort();
+    if (written > 0 && getenv("CALLS")) {
+        int at = snprintf(what, 100, "write %lld ", (long long)place);
+        for (ssize_t i = 0; i < written; i++)
+            at += sprintf(what + at, "%02x", ((const unsigned char *)data)[i]);
+        note(what, path_of(file));
+    }
+    return written;
+}
+
+ssize_t pwrite64(int file, const void *data, size_t size, off_t place)
+{
+    return pwrite(file, data, size, place);
+}
+
+int ftruncate(int file, off_t length)
+{
+    char what[100];
+    int answer = (int)syscall(SYS_ftruncate, file, length);
+    snprintf(what, sizeof what, "cut %lld", (long long)length);
+    if (answer == 0)
+        note(what, path_of(file));
+    return answer;
+}
+
+int ftruncate64(int file, off_t length)
+{
+    return ftruncate(file, length);
+}
+
+ssize_t read(int file, void *room, size_t size)
+{
+    static int turn;
+    if (file == 0 && getenv("INTERRUPT") && (turn = !turn)) {
+        errno = EINTR;
+        return -1;
+    }
+    return syscall(SYS_read, file, room, size);
+}
