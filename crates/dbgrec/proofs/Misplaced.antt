@@ -1,14 +1,14 @@
 -- Lines that aren't for what is held.
 use Rattle.std.proofs.Common.{◌≡◌, ℕ, refl}
 use Rattle.entry_codec.specs.declared.model.Entry.{Entry as Stored}
-use Rattle.trace_store.specs.declared.pick.Pick.{Pick}
+use Rattle.dbgrec.specs.declared.line.Unsynced.{Unsynced}
 use Rattle.dbgrec.specs.declared.line.Line.{Line}
 use Rattle.dbgrec.specs.declared.line.Line.TheVariants as lines
 use Rattle.dbgrec.specs.declared.desk_line.DeskLine.{DeskLine}
 use Rattle.dbgrec.specs.Asked.{IsOfPortAlone, IsOfDesk}
 
 -- a line that is none of those for a port alone
-pub not_of_port : (line : Line) → ((entry : Stored) → line ≡ lines.Put entry → ⊥) → (line ≡ lines.Flush → ⊥) → (line ≡ lines.Seal → ⊥) → ((now : ℕ) → line ≡ lines.Tick now → ⊥) → (line ≡ lines.Abandon → ⊥) → (line ≡ lines.Close → ⊥) → ((pick : Pick) → line ≡ lines.Crash pick → ⊥) → (line ≡ lines.Desk → ⊥) → IsOfPortAlone line → ⊥
+pub not_of_port : (line : Line) → ((entry : Stored) → line ≡ lines.Put entry → ⊥) → (line ≡ lines.Flush → ⊥) → (line ≡ lines.Seal → ⊥) → ((now : ℕ) → line ≡ lines.Tick now → ⊥) → (line ≡ lines.Abandon → ⊥) → (line ≡ lines.Close → ⊥) → ((unsynced : Unsynced) → line ≡ lines.Crash unsynced → ⊥) → (line ≡ lines.Desk → ⊥) → IsOfPortAlone line → ⊥
 not_of_port (lines.Store files) put flush seal tick abandon close crash desk of = of
 not_of_port (lines.Bytes file bytes) put flush seal tick abandon close crash desk of = of
 not_of_port (lines.Fuse calls) put flush seal tick abandon close crash desk of = of
@@ -24,7 +24,7 @@ not_of_port lines.Seal put flush seal tick abandon close crash desk of = seal re
 not_of_port (lines.Tick now) put flush seal tick abandon close crash desk of = tick now refl
 not_of_port lines.Abandon put flush seal tick abandon close crash desk of = abandon refl
 not_of_port lines.Close put flush seal tick abandon close crash desk of = close refl
-not_of_port (lines.Crash pick) put flush seal tick abandon close crash desk of = crash pick refl
+not_of_port (lines.Crash unsynced) put flush seal tick abandon close crash desk of = crash unsynced refl
 not_of_port lines.Desk put flush seal tick abandon close crash desk of = desk refl
 not_of_port (lines.AtDesk line) put flush seal tick abandon close crash desk of = of
 not_of_port lines.Files put flush seal tick abandon close crash desk of = of
@@ -32,7 +32,7 @@ not_of_port lines.List put flush seal tick abandon close crash desk of = of
 not_of_port lines.Wipe put flush seal tick abandon close crash desk of = of
 
 -- a line that is none of those for a port in a desk
-pub not_of_desk : (line : Line) → (line ≡ lines.Flush → ⊥) → (line ≡ lines.Seal → ⊥) → ((now : ℕ) → line ≡ lines.Tick now → ⊥) → (line ≡ lines.Abandon → ⊥) → (line ≡ lines.Close → ⊥) → ((pick : Pick) → line ≡ lines.Crash pick → ⊥) → ((inner : DeskLine) → line ≡ lines.AtDesk inner → ⊥) → IsOfDesk line → ⊥
+pub not_of_desk : (line : Line) → (line ≡ lines.Flush → ⊥) → (line ≡ lines.Seal → ⊥) → ((now : ℕ) → line ≡ lines.Tick now → ⊥) → (line ≡ lines.Abandon → ⊥) → (line ≡ lines.Close → ⊥) → ((unsynced : Unsynced) → line ≡ lines.Crash unsynced → ⊥) → ((inner : DeskLine) → line ≡ lines.AtDesk inner → ⊥) → IsOfDesk line → ⊥
 not_of_desk (lines.Store files) flush seal tick abandon close crash at_desk of = of
 not_of_desk (lines.Bytes file bytes) flush seal tick abandon close crash at_desk of = of
 not_of_desk (lines.Fuse calls) flush seal tick abandon close crash at_desk of = of
@@ -48,7 +48,7 @@ not_of_desk lines.Seal flush seal tick abandon close crash at_desk of = seal ref
 not_of_desk (lines.Tick now) flush seal tick abandon close crash at_desk of = tick now refl
 not_of_desk lines.Abandon flush seal tick abandon close crash at_desk of = abandon refl
 not_of_desk lines.Close flush seal tick abandon close crash at_desk of = close refl
-not_of_desk (lines.Crash pick) flush seal tick abandon close crash at_desk of = crash pick refl
+not_of_desk (lines.Crash unsynced) flush seal tick abandon close crash at_desk of = crash unsynced refl
 not_of_desk lines.Desk flush seal tick abandon close crash at_desk of = of
 not_of_desk (lines.AtDesk line) flush seal tick abandon close crash at_desk of = at_desk line refl
 not_of_desk lines.Files flush seal tick abandon close crash at_desk of = of

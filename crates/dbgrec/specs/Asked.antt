@@ -2,7 +2,7 @@
 use Rattle.std.specs.Prelude.{ℕ, Bool, false, [], Result}
 use Rattle.entry_codec.specs.Seen.{view}
 use Rattle.entry_codec.specs.declared.model.Entry.{Entry as Stored}
-use Rattle.trace_store.specs.declared.pick.Pick.{Pick}
+use Rattle.dbgrec.specs.declared.line.Unsynced.{Unsynced}
 use Rattle.trace_port.specs.Port.{Told}
 use Rattle.trace_port.specs.Ticks.{due, ticked}
 use Rattle.trace_port.specs.Calls.{taken, went}
@@ -29,7 +29,7 @@ IsOfPort lines.Seal = Unit {0}
 IsOfPort (lines.Tick now) = Unit {0}
 IsOfPort lines.Abandon = Unit {0}
 IsOfPort lines.Close = Unit {0}
-IsOfPort (lines.Crash pick) = Unit {0}
+IsOfPort (lines.Crash unsynced) = Unit {0}
 IsOfPort _ = ⊥
 
 -- a line for a port that isn't in a desk
@@ -59,7 +59,7 @@ pub data IsAsked {P : Type 0} (told : P → Told) : Held P → Held P → Line �
   ticks : {old : Held P} {q : P} {now : ℕ} (result : Result Bool PortFault) → Ticks (told (port_of old)) (told q) now result
       → IsAsked told old (with_port old q) (lines.Tick now) (Answered (tick_answer result)) (effect (ticked (due (told (port_of old)) now) result) false)
   abandons : {old : Held P} {q : P} → Abandons (told (port_of old)) (told q) → IsAsked told old (with_port old q) lines.Abandon (Left Abandoned) no_effect
-  crashes : {old : Held P} {q : P} {pick : Pick} → Abandons (told (port_of old)) (told q) → IsAsked told old (with_port old q) (lines.Crash pick) (Left (Crashed pick)) no_effect
+  crashes : {old : Held P} {q : P} {unsynced : Unsynced} → Abandons (told (port_of old)) (told q) → IsAsked told old (with_port old q) (lines.Crash unsynced) (Left (Crashed unsynced)) no_effect
   -- its drop is yet to come
   closes : {old : Held P} → IsAsked told old old lines.Close (Left Closed) no_effect
   comes_to_desk : {p : P} → IsAsked told (Alone p) (AtDesk (new_side p)) lines.Desk (Answered answers.Done) no_effect

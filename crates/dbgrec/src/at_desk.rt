@@ -43,7 +43,7 @@ pub fn run_desk<P: TracePort, R: BufRead, W: Write>(
         match script.next_line()? {
             None => return Ok(None),
             Some(Line::Bytes(file, _)) if file >= files => return Err(script.bad_command()),
-            Some(line) => match ask(alloc, desk, &mut attached, line) {
+            Some(line) => match ask_owned(alloc, desk, &mut attached, line) {
                 Reply::Told(answer) => answers.tell(answer)?,
                 Reply::Left(leave) => return Ok(Some(leave)),
             },
@@ -52,8 +52,8 @@ pub fn run_desk<P: TracePort, R: BufRead, W: Write>(
     Ok(None)
 }
 
-/// Asks a desk, or its port, what the line says.
-fn ask<P: TracePort>(
+/// Asks a desk, or its port, what the line says, and lets go of the line.
+fn ask_owned<P: TracePort>(
     alloc: Global,
     desk: &mut Desk<'_, P, PlainBook>,
     attached: &mut Attached,
@@ -64,21 +64,38 @@ fn ask<P: TracePort>(
     ensures same { P.lender desk.new.port.now ≡ P.lender desk.old.port.now }
     ensures step { (did : Effect) × IsAsked P.told (AtDesk (side_seen P.TracePort desk.old attached.old)) (AtDesk (side_seen P.TracePort desk.new attached.new)) line result did }
 {
+    let reply = ask(alloc, desk, attached, &line);
+    drop(line);
+    reply
+}
+
+/// Asks a desk, or its port, what the line says.
+fn ask<P: TracePort>(
+    alloc: Global,
+    desk: &mut Desk<'_, P, PlainBook>,
+    attached: &mut Attached,
+    line: &Line,
+) -> Reply
+    requires { IsWithinLimits line.now }
+    ensures name { desk.new.port.ghost_name ≡ desk.old.port.ghost_name }
+    ensures same { P.lender desk.new.port.now ≡ P.lender desk.old.port.now }
+    ensures step { (did : Effect) × IsAsked P.told (AtDesk (side_seen P.TracePort desk.old attached.old)) (AtDesk (side_seen P.TracePort desk.new attached.new)) line.now result did }
+{
     match line {
         Line::Flush => Reply::Told(Answer::of_flush(desk.flush())),
         Line::Seal => Reply::Told(Answer::of_seal(desk.seal())),
-        Line::Tick(now) => Reply::Told(Answer::of_tick(desk.tick(now))),
+        Line::Tick(now) => Reply::Told(Answer::of_tick(desk.tick(*now))),
         Line::Abandon => {
             desk.abandon();
             Reply::Left(Leave::Abandoned)
         }
-        Line::Crash(pick) => {
+        Line::Crash(unsynced) => {
             desk.abandon();
-            Reply::Left(Leave::Crashed(pick))
+            Reply::Left(Leave::Crashed(*unsynced))
         }
         Line::Close => Reply::Left(Leave::Closed),
-        Line::AtDesk(line) => Reply::Told(ask_desk(alloc, desk, attached, &line)),
-        _other => Reply::Told(Answer::OutOfOrder),
+        Line::AtDesk(line) => Reply::Told(ask_desk(alloc, desk, attached, line)),
+        _ => Reply::Told(Answer::OutOfOrder),
     }
 }
 

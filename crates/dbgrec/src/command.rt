@@ -102,6 +102,42 @@ fn flag<'a>(alloc: Global, name: &'a str, about: &'a str) -> Arg<'a> {
         .help(about)
 }
 
+/// The name of a trace.
+fn base<'a>(alloc: Global) -> Arg<'a> {
+    Arg::new(alloc, "BASE")
+        .required(true)
+        .help("The file, or what the names of the wrap files begin with")
+}
+
+fn kind<'a>(alloc: Global) -> Arg<'a> {
+    option(
+        alloc,
+        "kind",
+        "KIND",
+        "One file, or wrap files BASE0SUFFIX, BASE1SUFFIX ..; unless said, what is there [default: file]",
+    )
+    .value_parser(["file", "wrap"].as_slice())
+}
+
+fn suffix<'a>(alloc: Global) -> Arg<'a> {
+    option(
+        alloc,
+        "suffix",
+        "SUFFIX",
+        "What the names of wrap files end with",
+    )
+}
+
+fn count<'a>(alloc: Global) -> Arg<'a> {
+    option(
+        alloc,
+        "count",
+        "COUNT",
+        "Runs that a wrap keeps (1 to 1000), in one file more [default: 8]",
+    )
+    .value_parser(value_parser!(u16).range(1..=1000))
+}
+
 /// A command over the files of a trace.
 fn of_files<'a>(
     alloc: Global,
@@ -109,36 +145,40 @@ fn of_files<'a>(
     about: &'a str,
     example: &'a str,
 ) -> Result<Command<'a>, AllocError> {
-    let base = Arg::new(alloc, "BASE")
-        .required(true)
-        .help("The file, or what the names of the wrap files begin with");
-    let kind = option(
-        alloc,
-        "kind",
-        "KIND",
-        "One file, or wrap files BASE0SUFFIX, BASE1SUFFIX ..; unless said, what is there [default: file]",
-    )
-    .value_parser(["file", "wrap"].as_slice());
-    let suffix = option(
-        alloc,
-        "suffix",
-        "SUFFIX",
-        "What the names of wrap files end with",
-    );
-    let count = option(
-        alloc,
-        "count",
-        "COUNT",
-        "Runs that a wrap keeps (1 to 1000), in one file more [default: 8]",
-    )
-    .value_parser(value_parser!(u16).range(1..=1000));
     Command::new(alloc, name)
         .about(about)
         .after_help(example)
-        .arg(base)?
-        .arg(kind)?
-        .arg(suffix)?
-        .arg(count)
+        .arg(base(alloc))?
+        .arg(kind(alloc))?
+        .arg(suffix(alloc))?
+        .arg(count(alloc))
+}
+
+fn size<'a>(alloc: Global) -> Arg<'a> {
+    option(
+        alloc,
+        "size",
+        "BYTES",
+        "A new wrap goes on to its next file after more than this; K, M, G: powers of 1,024 [default: 131072]",
+    )
+}
+
+fn time<'a>(alloc: Global) -> Arg<'a> {
+    option(
+        alloc,
+        "time",
+        "MS",
+        "A new wrap goes on to its next file after this time instead",
+    )
+    .value_parser(value_parser!(u32).range(1..))
+}
+
+fn after_failure<'a>(alloc: Global) -> Arg<'a> {
+    flag(
+        alloc,
+        "after-failure",
+        "Goes on also where the disk failed while the trace was written",
+    )
 }
 
 /// A command that makes the files where there is no trace yet.
@@ -148,101 +188,111 @@ fn of_new_files<'a>(
     about: &'a str,
     example: &'a str,
 ) -> Result<Command<'a>, AllocError> {
-    let size = option(
-        alloc,
-        "size",
-        "BYTES",
-        "A new wrap goes on to its next file after more than this; K, M, G: powers of 1,024 [default: 131072]",
-    );
-    let time = option(
-        alloc,
-        "time",
-        "MS",
-        "A new wrap goes on to its next file after this time instead",
-    )
-    .value_parser(value_parser!(u32).range(1..));
-    let after_failure = flag(
-        alloc,
-        "after-failure",
-        "Goes on also where the disk failed while the trace was written",
-    );
     of_files(alloc, name, about, example)?
-        .arg(size)?
-        .arg(time)?
-        .arg(after_failure)
+        .arg(size(alloc))?
+        .arg(time(alloc))?
+        .arg(after_failure(alloc))
 }
 
-/// The command that records an entry stream.
-fn import<'a>(alloc: Global) -> Result<Command<'a>, AllocError> {
-    let flush = option(
+fn flush<'a>(alloc: Global) -> Arg<'a> {
+    option(
         alloc,
         "flush",
         "WHEN",
         "When what came is synced: behind each entry, when the writer pauses, or at the end",
     )
     .value_parser(["always", "paused", "never"].as_slice())
-    .default_value("paused");
-    let keep_open = flag(
+    .default_value("paused")
+}
+
+fn keep_open<'a>(alloc: Global) -> Arg<'a> {
+    flag(
         alloc,
         "keep-open",
         "At the end of the input flushes, and doesn't seal: the next import goes on",
-    );
+    )
+}
+
+/// The command that records an entry stream.
+fn import<'a>(alloc: Global) -> Result<Command<'a>, AllocError> {
     of_new_files(
         alloc,
         "import",
         "Records the entry stream of a node from standard input, and seals the trace at its end",
         "A trace that is there and not sealed is gone on with. A sealed one is kept by export and cleared by wipe. A stream that is cut or broken doesn't seal.\n\nExample: nc HOST 4711 | dbgrec import trace --kind wrap",
     )?
-    .arg(flush)?
-    .arg(keep_open)
+    .arg(flush(alloc))?
+    .arg(keep_open(alloc))
 }
 
-fn dbgrec<'a>(alloc: Global) -> Result<Command<'a>, AllocError> {
-    let sim = Command::new(alloc, "sim")
-        .about("Runs a script from standard input over a store in memory")
-        .after_help("Example: dbgrec sim < examples/first.script");
-    let stream = Command::new(alloc, "stream")
-        .about(
-            "Lists an entry stream from standard input on standard output, each line as it comes",
-        )
-        .after_help("Example: nc HOST 4711 | dbgrec stream");
-    let record = of_new_files(
+/// The command that records what a script says.
+fn record<'a>(alloc: Global) -> Result<Command<'a>, AllocError> {
+    of_new_files(
         alloc,
         "record",
         "Records what a script from standard input says, and seals the trace at its end",
         "Example: dbgrec record trace < desk.script",
-    )?;
-    let list = of_files(
+    )
+}
+
+fn list<'a>(alloc: Global) -> Result<Command<'a>, AllocError> {
+    of_files(
         alloc,
         "list",
         "Lists a stored trace on standard output",
         "Example: dbgrec list trace",
-    )?;
-    let export = of_files(
+    )
+}
+
+fn export<'a>(alloc: Global) -> Result<Command<'a>, AllocError> {
+    of_files(
         alloc,
         "export",
         "Writes a stored trace on standard output, as the entry stream that dbg:trace_client reads",
         "Example: dbgrec export trace > trace.out",
-    )?;
-    let wipe = of_files(
+    )
+}
+
+fn wipe<'a>(alloc: Global) -> Result<Command<'a>, AllocError> {
+    of_files(
         alloc,
         "wipe",
         "Clears a stored trace, for good",
         "Example: dbgrec wipe trace",
     )?
-    .arg(flag(alloc, "force", "Clears files that aren't of a trace too"))?;
-    Command::new(alloc, "dbgrec")
+    .arg(flag(alloc, "force", "Clears files that aren't of a trace too"))
+}
+
+fn stream<'a>(alloc: Global) -> Command<'a> {
+    Command::new(alloc, "stream")
+        .about(
+            "Lists an entry stream from standard input on standard output, each line as it comes",
+        )
+        .after_help("Example: nc HOST 4711 | dbgrec stream")
+}
+
+fn sim<'a>(alloc: Global) -> Command<'a> {
+    Command::new(alloc, "sim")
+        .about("Runs a script from standard input over a store in memory")
+        .after_help("Example: dbgrec sim < examples/first.script")
+}
+
+/// A command with those that read a stored trace.
+fn with_readers<'a>(alloc: Global, command: Command<'a>) -> Result<Command<'a>, AllocError> {
+    command.subcommand(list(alloc)?)?.subcommand(export(alloc)?)
+}
+
+fn dbgrec<'a>(alloc: Global) -> Result<Command<'a>, AllocError> {
+    let command = Command::new(alloc, "dbgrec")
         .version("0.1.0")
         .about("Records traces as dbg of Erlang does, and lists what a crash has left of them")
         .subcommand_required(true)
-        .arg_required_else_help(true)
-        .subcommand(import(alloc)?)?
-        .subcommand(list)?
-        .subcommand(export)?
-        .subcommand(wipe)?
-        .subcommand(stream)?
-        .subcommand(record)?
-        .subcommand(sim)
+        .arg_required_else_help(true);
+    with_readers(alloc, command.subcommand(import(alloc)?)?)?
+        .subcommand(wipe(alloc)?)?
+        .subcommand(stream(alloc))?
+        .subcommand(record(alloc)?)?
+        .subcommand(sim(alloc))
 }
 
 /// What the options say of where a trace is.
@@ -292,9 +342,17 @@ fn rules_in(matches: &ArgMatches<'_>) -> Rules {
     Rules { flushing, ending }
 }
 
-/// What the words ask for, of which the first is the program's name.
-pub fn asked_for<'a, S: AsStr>(alloc: Global, words: &'a [S]) -> Result<Request<'a>, Misuse<'a>> {
-    let matches = dbgrec(alloc)?.try_get_matches_from(words)?;
+/// What a wipe may clear.
+fn clearing_in(matches: &ArgMatches<'_>) -> Clearing {
+    if matches.get_flag("force") {
+        Clearing::Any
+    } else {
+        Clearing::Own
+    }
+}
+
+/// What the words that were found ask for.
+fn request_in<'a>(matches: &ArgMatches<'a>) -> Result<Request<'a>, Misuse<'a>> {
     Ok(match matches.subcommand() {
         Some(("stream", _)) => Request::Stream,
         Some(("record", matches)) => Request::Record(wanted_in(matches)?),
@@ -306,12 +364,14 @@ pub fn asked_for<'a, S: AsStr>(alloc: Global, words: &'a [S]) -> Result<Request<
         Some(("export", matches)) => Request::Export(asked_in(matches)),
         Some(("wipe", matches)) => Request::Wipe {
             asked: asked_in(matches),
-            clearing: if matches.get_flag("force") {
-                Clearing::Any
-            } else {
-                Clearing::Own
-            },
+            clearing: clearing_in(matches),
         },
         _ => Request::Sim,
     })
+}
+
+/// What the words ask for, of which the first is the program's name.
+pub fn asked_for<'a, S: AsStr>(alloc: Global, words: &'a [S]) -> Result<Request<'a>, Misuse<'a>> {
+    let matches = dbgrec(alloc)?.try_get_matches_from(words)?;
+    request_in(&matches)
 }

@@ -12,14 +12,16 @@ pub fn with_bytes(
     alloc: Global,
     store: &mut MemStore,
     file: u32,
-    bytes: Vec<u8>,
+    bytes: &[u8],
 ) -> Result<MemStore, Refusal>
     requires { file < length (reads_of store.old) }
     ensures same { length (reads_of store.new) ≡ length (reads_of store.old) }
     ensures made { IfOk result (λ made. length (reads_of made) ≡ length (reads_of store.old)) }
 {
     let mut contents = contents_of(alloc, store)?;
-    contents[file as usize] = bytes;
+    let own = &mut contents[file as usize];
+    own.clear();
+    own.extend_from_slice(bytes)?;
     Ok(MemStore::from_bytes(alloc, contents)?)
 }
 

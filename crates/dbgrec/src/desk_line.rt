@@ -110,12 +110,35 @@ fn flags_of(word: &str) -> Option<Flags> {
     Some(flags)
 }
 
-/// The line for the tracee of this number.
-fn of_tracee(word: &str, line: TraceeLine) -> Option<DeskLine>
+/// The line for a tracee that hands over at most so many entries.
+fn hand(number: &str, limit: &str) -> Option<DeskLine>
     ensures { IfSome result IsNumbered }
 {
-    let number = tracee_number(word)?;
-    Some(DeskLine::OfTracee(number, line))
+    let number = tracee_number(number)?;
+    Some(DeskLine::OfTracee(number, TraceeLine::Hand(word_number(limit)?)))
+}
+
+/// The line of a moment.
+fn stamp(mega: &str, sec: &str, micro: &str) -> Option<DeskLine>
+    ensures { IfSome result IsNumbered }
+{
+    Some(DeskLine::Stamp {
+        mega: word_number(mega)?,
+        sec: word_number(sec)?,
+        micro: word_number(micro)?,
+    })
+}
+
+/// The line of a new tracee.
+fn tracee(number: &str, capacity: &str, drop_limit: &str, letters: &str) -> Option<DeskLine>
+    ensures { IfSome result IsNumbered }
+{
+    Some(DeskLine::Tracee {
+        number: tracee_number(number)?,
+        capacity: word_number(capacity)?,
+        drop_limit: word_number(drop_limit)?,
+        flags: flags_of(letters)?,
+    })
 }
 
 /// The line for a desk that these words spell, where it has no event.
@@ -123,21 +146,17 @@ pub fn desk_line(words: &[&str]) -> Option<DeskLine>
     ensures { IfSome result IsNumbered }
 {
     match words {
-        ["stamp", mega, sec, micro] => Some(DeskLine::Stamp {
-            mega: word_number(mega)?,
-            sec: word_number(sec)?,
-            micro: word_number(micro)?,
-        }),
+        ["stamp", mega, sec, micro] => stamp(mega, sec, micro),
         ["mono", nanos] => i64::try_from(number(nanos)?).ok().map(DeskLine::Mono),
-        ["tracee", number, capacity, drop_limit, letters] => Some(DeskLine::Tracee {
-            number: tracee_number(number)?,
-            capacity: word_number(capacity)?,
-            drop_limit: word_number(drop_limit)?,
-            flags: flags_of(letters)?,
-        }),
-        ["hand", number, limit] => of_tracee(number, TraceeLine::Hand(word_number(limit)?)),
-        ["flushfor", number] => of_tracee(number, TraceeLine::FlushFor),
-        ["counts", number] => of_tracee(number, TraceeLine::Counts),
+        ["tracee", number, capacity, drop_limit, letters] => {
+            tracee(number, capacity, drop_limit, letters)
+        }
+        ["hand", number, limit] => hand(number, limit),
+        ["flushfor", number] => Some(DeskLine::OfTracee(
+            tracee_number(number)?,
+            TraceeLine::FlushFor,
+        )),
+        ["counts", number] => Some(DeskLine::OfTracee(tracee_number(number)?, TraceeLine::Counts)),
         _ => None,
     }
 }
@@ -150,8 +169,11 @@ pub fn emit_line(
 ) -> Result<Option<DeskLine>, AllocError>
     ensures { IfOk result (λ found. IfSome found IsNumbered) }
 {
+    let Some(number) = tracee_number(number) else {
+        return Ok(None);
+    };
     match event(alloc, words) {
-        Ok(event) => Ok(of_tracee(number, TraceeLine::Emit(event))),
+        Ok(event) => Ok(Some(DeskLine::OfTracee(number, TraceeLine::Emit(event)))),
         Err(EventFault::BadEvent) => Ok(None),
         Err(EventFault::NoMemory) => Err(AllocError),
     }

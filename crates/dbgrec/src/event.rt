@@ -73,38 +73,85 @@ fn arity(word: &str) -> Result<u8, EventFault> {
     found.ok_or(EventFault::BadEvent)
 }
 
+/// A call of a function with these arguments.
+fn call(alloc: Global, mod_name: &str, fun_name: &str, args: &str) -> Result<Event, EventFault> {
+    Ok(Event::Call {
+        mod_name: atom(alloc, mod_name)?,
+        fun_name: atom(alloc, fun_name)?,
+        args: members(alloc, args)?,
+    })
+}
+
+/// A return of a value from a function of so many arguments.
+fn return_from(
+    alloc: Global,
+    mod_name: &str,
+    fun_name: &str,
+    count: &str,
+    value: &str,
+) -> Result<Event, EventFault> {
+    let arity = arity(count)?;
+    Ok(Event::Return {
+        mod_name: atom(alloc, mod_name)?,
+        fun_name: atom(alloc, fun_name)?,
+        arity,
+        value: term(alloc, value)?,
+    })
+}
+
+/// An exception out of a function of so many arguments: its class, and the value of that.
+fn exception_from(
+    alloc: Global,
+    mod_name: &str,
+    fun_name: &str,
+    count: &str,
+    thrown: [&str; 2],
+) -> Result<Event, EventFault> {
+    let arity = arity(count)?;
+    let [kind, value] = thrown;
+    Ok(Event::Exception {
+        mod_name: atom(alloc, mod_name)?,
+        fun_name: atom(alloc, fun_name)?,
+        arity,
+        kind: atom(alloc, kind)?,
+        value: term(alloc, value)?,
+    })
+}
+
+fn send(alloc: Global, message: &str, target: &str) -> Result<Event, EventFault> {
+    Ok(Event::Send {
+        message: term(alloc, message)?,
+        target: term(alloc, target)?,
+    })
+}
+
+/// A send to a process that isn't there.
+fn send_lost(alloc: Global, message: &str, target: &str) -> Result<Event, EventFault> {
+    Ok(Event::SendLost {
+        message: term(alloc, message)?,
+        target: term(alloc, target)?,
+    })
+}
+
+fn receive(alloc: Global, message: &str) -> Result<Event, EventFault> {
+    Ok(Event::Receive {
+        message: term(alloc, message)?,
+    })
+}
+
 /// The event that these words spell.
 pub fn event(alloc: Global, words: &[&str]) -> Result<Event, EventFault> {
     match words {
-        ["call", mod_name, fun_name, args] => Ok(Event::Call {
-            mod_name: atom(alloc, mod_name)?,
-            fun_name: atom(alloc, fun_name)?,
-            args: members(alloc, args)?,
-        }),
-        ["return", mod_name, fun_name, count, value] => Ok(Event::Return {
-            mod_name: atom(alloc, mod_name)?,
-            fun_name: atom(alloc, fun_name)?,
-            arity: arity(count)?,
-            value: term(alloc, value)?,
-        }),
-        ["exception", mod_name, fun_name, count, kind, value] => Ok(Event::Exception {
-            mod_name: atom(alloc, mod_name)?,
-            fun_name: atom(alloc, fun_name)?,
-            arity: arity(count)?,
-            kind: atom(alloc, kind)?,
-            value: term(alloc, value)?,
-        }),
-        ["send", message, target] => Ok(Event::Send {
-            message: term(alloc, message)?,
-            target: term(alloc, target)?,
-        }),
-        ["sendlost", message, target] => Ok(Event::SendLost {
-            message: term(alloc, message)?,
-            target: term(alloc, target)?,
-        }),
-        ["receive", message] => Ok(Event::Receive {
-            message: term(alloc, message)?,
-        }),
+        ["call", mod_name, fun_name, args] => call(alloc, mod_name, fun_name, args),
+        ["return", mod_name, fun_name, count, value] => {
+            return_from(alloc, mod_name, fun_name, count, value)
+        }
+        ["exception", mod_name, fun_name, count, kind, value] => {
+            exception_from(alloc, mod_name, fun_name, count, [kind, value])
+        }
+        ["send", message, target] => send(alloc, message, target),
+        ["sendlost", message, target] => send_lost(alloc, message, target),
+        ["receive", message] => receive(alloc, message),
         _ => Err(EventFault::BadEvent),
     }
 }

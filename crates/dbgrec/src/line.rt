@@ -13,6 +13,24 @@ use trace_store::Pick;
 /// Files of the largest store.
 const MOST_FILES: u32 = 1001;
 
+/// What a crash leaves of what is unsynced.
+#[derive(Clone, Copy, Debug, PartialEq, Eq)]
+pub enum Unsynced {
+    /// What a read gives.
+    Kept,
+    /// This byte at each unsynced position, at the greatest length or the least.
+    Fill { byte: u8, longest: bool },
+}
+
+impl From<Unsynced> for Pick {
+    fn from(unsynced: Unsynced) -> Pick {
+        match unsynced {
+            Unsynced::Kept => Pick::Kept,
+            Unsynced::Fill { byte, longest } => Pick::Fill { byte, longest },
+        }
+    }
+}
+
 /// A line of a script.
 #[derive(Drop)]
 pub enum Line {
@@ -38,7 +56,7 @@ pub enum Line {
     Tick(u64),
     Abandon,
     Close,
-    Crash(Pick),
+    Crash(Unsynced),
     /// The port goes into a desk.
     Desk,
     AtDesk(DeskLine),
@@ -91,9 +109,9 @@ fn drop_of(word: &str) -> Option<Entry>
 }
 
 /// A crash that fills what is unsynced with the byte of these digits.
-fn filled(word: &str, longest: bool) -> Option<Pick> {
+fn filled(word: &str, longest: bool) -> Option<Unsynced> {
     let byte = byte(word.as_bytes())?;
-    Some(Pick::Fill { byte, longest })
+    Some(Unsynced::Fill { byte, longest })
 }
 
 /// Bytes for a file, if a store may have a file of this number.
@@ -145,7 +163,7 @@ fn port_line(words: &[&str]) -> Option<Line>
         ["abandon"] => Some(Line::Abandon),
         ["close"] => Some(Line::Close),
         ["desk"] => Some(Line::Desk),
-        ["crash", "kept"] => Some(Line::Crash(Pick::Kept)),
+        ["crash", "kept"] => Some(Line::Crash(Unsynced::Kept)),
         ["crash", "low", byte] => filled(byte, false).map(Line::Crash),
         ["crash", "high", byte] => filled(byte, true).map(Line::Crash),
         _ => None,

@@ -63,17 +63,43 @@ fn input(rt: &HostRuntime) -> Result<BufReader<Stdin>, SimFault> {
 
 fn serve(rt: &HostRuntime, request: Request<'_>, output: &mut Outlet) -> Result<(), Complaint> {
     match request {
-        Request::Sim => Ok(run_sim(rt.alloc(), &mut input(rt)?, output)?),
-        Request::Stream => Ok(run_stream(rt.alloc(), &mut input(rt)?, output)?),
+        Request::Sim => run_input(rt, output),
+        Request::Stream => list_input(rt, output),
         Request::Record(wanted) => record(rt, wanted, output),
         Request::Import { wanted, rules } => import(rt, wanted, rules, output),
         Request::List(asked) => list(rt, asked, output),
         Request::Export(asked) => export(rt, asked, output),
-        Request::Wipe { asked, clearing } => {
-            let place = place_to_read(rt, asked)?;
-            Files::locked_at(*rt, asked, place)?.wipe(clearing, output)
-        }
+        Request::Wipe { asked, clearing } => wipe(rt, asked, clearing, output),
     }
+}
+
+/// Runs a script from standard input over a store in memory.
+fn run_input(rt: &HostRuntime, output: &mut Outlet) -> Result<(), Complaint> {
+    let mut reader = input(rt)?;
+    let done = run_sim(rt.alloc(), &mut reader, output);
+    drop(reader);
+    Ok(done?)
+}
+
+/// Lists an entry stream from standard input.
+fn list_input(rt: &HostRuntime, output: &mut Outlet) -> Result<(), Complaint> {
+    let mut reader = input(rt)?;
+    let done = run_stream(rt.alloc(), &mut reader, output);
+    drop(reader);
+    Ok(done?)
+}
+
+/// Clears a trace.
+fn wipe(
+    rt: &HostRuntime,
+    asked: Asked<'_>,
+    clearing: Clearing,
+    output: &mut Outlet,
+) -> Result<(), Complaint> {
+    let mut files = Files::locked_at(*rt, asked, place_to_read(rt, asked)?)?;
+    let done = files.wipe(clearing, output);
+    drop(files);
+    done
 }
 
 /// Where a trace is that the command line names. What the files say of themselves counts, and what the command line
@@ -115,10 +141,24 @@ fn files_to_write<'a>(
 fn record(rt: &HostRuntime, wanted: Wanted<'_>, output: &mut Outlet) -> Result<(), Complaint> {
     let found = find(*rt, wanted.asked)?;
     let mut files = files_to_write(rt, &wanted, &found)?;
+    let done = record_into(rt, &mut files, &wanted, &found, output);
+    drop(files);
+    done
+}
+
+fn record_into(
+    rt: &HostRuntime,
+    files: &mut Files<'_>,
+    wanted: &Wanted<'_>,
+    found: &Found,
+    output: &mut Outlet,
+) -> Result<(), Complaint> {
+    let mut reader = input(rt)?;
     let (opened, origin) = files.open(wanted.turn())?;
-    tell_own(rt, &wanted, &found, origin);
-    let done = files.record(opened, origin, &mut input(rt)?, output);
-    tell_device(rt, &files);
+    tell_own(rt, wanted, found, origin);
+    let done = files.record(opened, origin, &mut reader, output);
+    drop(reader);
+    tell_device(rt, files);
     done
 }
 
@@ -136,18 +176,39 @@ fn import(
     rules: Rules,
     output: &mut Outlet,
 ) -> Result<(), Complaint> {
-    let mut console = Console::new(*rt, false);
-    let mut reader = rt.stdin();
     let found = find(*rt, wanted.asked)?;
     let mut files = files_to_write(rt, &wanted, &found)?;
+    let done = import_into(rt, &mut files, &wanted, &found, rules, output);
+    drop(files);
+    done
+}
+
+fn import_into(
+    rt: &HostRuntime,
+    files: &mut Files<'_>,
+    wanted: &Wanted<'_>,
+    found: &Found,
+    rules: Rules,
+    output: &mut Outlet,
+) -> Result<(), Complaint> {
+    let mut console = Console::new(*rt, false);
     let (opened, origin) = files.open(wanted.turn())?;
-    tell_own(rt, &wanted, &found, origin);
-    let done = files.import(opened, origin, rules, &mut reader, output, &mut console);
+    tell_own(rt, wanted, found, origin);
+    let done = files.import(opened, origin, rules, &mut rt.stdin(), output, &mut console);
     console.clear();
-    if !matches!(&done, Err(complaint) if complaint.names_file()) {
-        tell_device(rt, &files);
+    drop(console);
+    if !is_named(&done) {
+        tell_device(rt, files);
     }
     done
+}
+
+/// Whether what came of a command names the file of a device call that failed.
+fn is_named(done: &Result<(), Complaint>) -> bool {
+    match done {
+        Ok(()) => false,
+        Err(complaint) => complaint.names_file(),
+    }
 }
 
 /// A trace to be read. Where a sync of it failed, standard error says so.
@@ -162,17 +223,21 @@ fn files_to_read<'a>(rt: &HostRuntime, asked: Asked<'a>) -> Result<Files<'a>, Co
 
 /// Lists a trace. Where the listing itself goes to a terminal, no other line is shown there.
 fn list(rt: &HostRuntime, asked: Asked<'_>, output: &mut Outlet) -> Result<(), Complaint> {
+    let mut files = files_to_read(rt, asked)?;
     let mut console = Console::new(*rt, rt.stdout().is_terminal());
-    let done = files_to_read(rt, asked)?.list(output, &mut console);
+    let done = files.list(output, &mut console);
     console.clear();
+    drop(files);
     done
 }
 
 /// Writes a trace as an entry stream, in the same way.
 fn export(rt: &HostRuntime, asked: Asked<'_>, output: &mut Outlet) -> Result<(), Complaint> {
+    let mut files = files_to_read(rt, asked)?;
     let mut console = Console::new(*rt, rt.stdout().is_terminal());
-    let done = files_to_read(rt, asked)?.export(output, &mut console);
+    let done = files.export(output, &mut console);
     console.clear();
+    drop(files);
     done
 }
 
@@ -205,17 +270,41 @@ fn correct(rt: &HostRuntime, misuse: Misuse<'_>) -> ExitCode {
     }
 }
 
-fn main(rt: HostRuntime) -> ExitCode {
-    let (Ok(words), Ok(mut output)) = (words(&rt), Outlet::new(&rt)) else {
-        return fail(&rt, &Complaint::from(SimFault::NoMemory));
-    };
-    let request = match asked_for(rt.alloc(), words.as_slice()) {
+/// Does what the words of the command line ask for.
+fn run(rt: &HostRuntime, words: &[String], output: &mut Outlet) -> ExitCode {
+    let request = match asked_for(rt.alloc(), words) {
         Ok(request) => request,
-        Err(misuse) => return correct(&rt, misuse),
+        Err(misuse) => return correct(rt, misuse),
     };
-    match serve(&rt, request, &mut output) {
+    let done = serve(rt, request, output);
+    let code = match &done {
         Ok(()) => ExitCode::SUCCESS,
         Err(complaint) if complaint.is_of_writer() && output.is_closed() => ExitCode::FAILURE,
-        Err(complaint) => fail(&rt, &complaint),
-    }
+        Err(complaint) => fail(rt, complaint),
+    };
+    drop(done);
+    code
+}
+
+fn no_memory(rt: &HostRuntime) -> ExitCode {
+    fail(rt, &Complaint::from(SimFault::NoMemory))
+}
+
+/// Does what the words ask for, with standard output.
+fn serve_words(rt: &HostRuntime, words: &[String]) -> ExitCode {
+    let Some(mut output) = Outlet::new(rt).ok() else {
+        return no_memory(rt);
+    };
+    let code = run(rt, words, &mut output);
+    drop(output);
+    code
+}
+
+fn main(rt: HostRuntime) -> ExitCode {
+    let Some(words) = words(&rt).ok() else {
+        return no_memory(&rt);
+    };
+    let code = serve_words(&rt, words.as_slice());
+    drop(words);
+    code
 }

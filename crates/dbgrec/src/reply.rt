@@ -2,9 +2,9 @@
 
 use crate::answer::Answer;
 use crate::fault::SimFault;
+use crate::line::Unsynced;
 use crate::refusal::Refusal;
 use trace_port::{CreateFault, ResumeFault};
-use trace_store::Pick;
 use wrap_port::BadSpec;
 
 /// How a port came to be held.
@@ -15,11 +15,11 @@ pub enum Origin {
 }
 
 /// Why a port is held no longer.
-#[derive(Drop)]
+#[derive(Clone, Copy, Debug, PartialEq, Eq)]
 pub enum Leave {
     Abandoned,
     Closed,
-    Crashed(Pick),
+    Crashed(Unsynced),
 }
 
 /// What comes of a line.

@@ -76,6 +76,40 @@ impl<'r, R: BufRead> Script<'r, R> {
         Ok(count > 0)
     }
 
+    /// The line, where it may stand in this script.
+    fn allowed(&self, line: Option<Line>) -> Result<Option<Line>, SimFault>
+        requires { IfSome line IsWithinLimits }
+        ensures sound { IfOk result (λ found. IfSome found IsWithinLimits) }
+        ensures of_desk { self.now.is_of_desk ≡ true → IfOk result (λ found. IfSome found IsOfRecord) }
+    {
+        let is_allowed = match &line {
+            Some(line) => !self.is_of_desk || line.is_of_desk(),
+            None => false,
+        };
+        if is_allowed {
+            return Ok(line);
+        }
+        drop(line);
+        Err(self.bad_command())
+    }
+
+    /// The line that the text spells; None where it is empty or a remark.
+    fn present(&self) -> Result<Option<Line>, SimFault>
+        ensures sound { IfOk result (λ found. IfSome found IsWithinLimits) }
+        ensures of_desk { self.now.is_of_desk ≡ true → IfOk result (λ found. IfSome found IsOfRecord) }
+    {
+        if self.text.len() > LONGEST {
+            return Err(self.bad_command());
+        }
+        let Ok(text) = str::from_utf8(&self.text) else {
+            return Err(self.bad_command());
+        };
+        if text.is_empty() || text.starts_with('#') {
+            return Ok(None);
+        }
+        self.allowed(parse(self.alloc, text)?)
+    }
+
     /// The next line that isn't empty or a remark.
     pub fn next_line(&mut self) -> Result<Option<Line>, SimFault>
         ensures sound { IfOk result (λ found. IfSome found IsWithinLimits) }
@@ -86,19 +120,11 @@ impl<'r, R: BufRead> Script<'r, R> {
             if !self.advance()? {
                 return Ok(None);
             }
-            if self.text.len() > LONGEST {
-                return Err(self.bad_command());
+            let found = self.present()?;
+            if found.is_some() {
+                return Ok(found);
             }
-            let Ok(text) = str::from_utf8(&self.text) else {
-                return Err(self.bad_command());
-            };
-            if text.is_empty() || text.starts_with('#') {
-                continue;
-            }
-            return match parse(self.alloc, text)? {
-                Some(line) if !self.is_of_desk || line.is_of_desk() => Ok(Some(line)),
-                _ => Err(self.bad_command()),
-            };
+            drop(found);
         }
         Ok(None)
     }

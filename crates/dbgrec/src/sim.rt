@@ -8,7 +8,7 @@ use crate::answers::Answers;
 use crate::contents::with_bytes;
 use crate::fault::SimFault;
 use crate::held::{hold_file, hold_wrap};
-use crate::line::Line;
+use crate::line::{Line, Unsynced};
 use crate::refusal::Refusal;
 use crate::reply::{Leave, Origin, Stop};
 use crate::script::Script;
@@ -27,11 +27,22 @@ pub fn run_sim<R: BufRead, W: Write>(
     reader: &mut R,
     writer: &mut W,
 ) -> Result<(), SimFault> {
-    let mut store = MemStore::blank(alloc, 1)?;
     let mut script = Script::new(alloc, reader)?;
+    let done = run_script(alloc, &mut script, writer);
+    drop(script);
+    done
+}
+
+fn run_script<R: BufRead, W: Write>(
+    alloc: Global,
+    script: &mut Script<'_, R>,
+    writer: &mut W,
+) -> Result<(), SimFault> {
+    let mut store = MemStore::blank(alloc, 1)?;
     let mut answers = Answers::new(writer);
-    let done = run_lines(alloc, &mut store, &mut script, &mut answers);
+    let done = run_lines(alloc, &mut store, script, &mut answers);
     let flushed = answers.finish();
+    drop(store);
     done?;
     flushed
 }
@@ -49,53 +60,95 @@ pub fn run_lines<R: BufRead, W: Write>(
             Some(Line::Bytes(file, _)) if file >= store.files() => {
                 return Err(script.bad_command());
             }
-            Some(line) => {
-                let left = run_line(alloc, store, line, script, answers);
-                finish(store, left, answers)?;
-            }
+            Some(line) => run_whole(alloc, store, line, script, answers)?,
         }
     }
     Ok(())
+}
+
+/// Runs a line with the lines that its port takes, and answers how that was left.
+fn run_whole<R: BufRead, W: Write>(
+    alloc: Global,
+    store: &mut MemStore,
+    line: Line,
+    script: &mut Script<'_, R>,
+    answers: &mut Answers<'_, W>,
+) -> Result<(), SimFault>
+    requires sound { IsWithinLimits line }
+    requires file { HasFile (reads_of store.old) line }
+{
+    let left = run_line(alloc, store, &line, script, answers);
+    drop(line);
+    finish(store, left, answers)
 }
 
 /// Runs a line and, where it makes a port, the lines behind it until that is given up.
 fn run_line<R: BufRead, W: Write>(
     alloc: Global,
     store: &mut MemStore,
-    line: Line,
+    line: &Line,
     script: &mut Script<'_, R>,
     answers: &mut Answers<'_, W>,
 ) -> Result<Option<Leave>, Stop>
-    requires sound { IsWithinLimits line }
-    requires file { HasFile (reads_of store.old) line }
+    requires sound { IsWithinLimits line.now }
+    requires file { HasFile (reads_of store.old) line.now }
 {
-    let left = match line {
-        Line::CreateFile(limit) => {
-            let opening = begin_create(alloc, &mut *store, limit)?;
-            hold_file(alloc, store, opening, Origin::Created, script, answers)?
-        }
-        Line::ResumeFile(limit) => {
-            let opening = begin_resume(alloc, &mut *store, limit)?;
-            hold_file(alloc, store, opening, Origin::Resumed, script, answers)?
-        }
+    match line {
+        Line::CreateFile(limit) => create_file(alloc, store, *limit, script, answers),
+        Line::ResumeFile(limit) => resume_file(alloc, store, *limit, script, answers),
         Line::CreateWrap { size, count } => {
-            let spec = WrapSpec::new(size, count)?;
-            create_wrap(alloc, store, spec, script, answers)?
+            create_wrap(alloc, store, WrapSpec::new(*size, *count)?, script, answers)
         }
         Line::CreateTime { millis, count } => {
-            let spec = WrapSpec::timed(millis, count)?;
-            create_wrap(alloc, store, spec, script, answers)?
+            create_wrap(
+                alloc,
+                store,
+                WrapSpec::timed(*millis, *count)?,
+                script,
+                answers,
+            )
         }
-        Line::ResumeWrap => {
-            let opening = wrap_port::begin_resume(alloc, &mut *store)?;
-            hold_wrap(alloc, store, opening, Origin::Resumed, script, answers)?
+        Line::ResumeWrap => resume_wrap(alloc, store, script, answers),
+        line => {
+            run_store_line(alloc, store, line, answers)?;
+            Ok(None)
         }
-        other => {
-            run_store_line(alloc, store, other, answers)?;
-            None
-        }
-    };
-    Ok(left)
+    }
+}
+
+/// Makes a file port over a blank store, and runs lines until it is given up.
+fn create_file<R: BufRead, W: Write>(
+    alloc: Global,
+    store: &mut MemStore,
+    limit: u64,
+    script: &mut Script<'_, R>,
+    answers: &mut Answers<'_, W>,
+) -> Result<Option<Leave>, Stop> {
+    let opening = begin_create(alloc, &mut *store, limit)?;
+    Ok(hold_file(alloc, store, opening, Origin::Created, script, answers)?)
+}
+
+/// Makes a file port that goes on with the trace that is there, and runs lines until it is given up.
+fn resume_file<R: BufRead, W: Write>(
+    alloc: Global,
+    store: &mut MemStore,
+    limit: u64,
+    script: &mut Script<'_, R>,
+    answers: &mut Answers<'_, W>,
+) -> Result<Option<Leave>, Stop> {
+    let opening = begin_resume(alloc, &mut *store, limit)?;
+    Ok(hold_file(alloc, store, opening, Origin::Resumed, script, answers)?)
+}
+
+/// Makes a wrap port that goes on with the trace that is there, and runs lines until it is given up.
+fn resume_wrap<R: BufRead, W: Write>(
+    alloc: Global,
+    store: &mut MemStore,
+    script: &mut Script<'_, R>,
+    answers: &mut Answers<'_, W>,
+) -> Result<Option<Leave>, Stop> {
+    let opening = wrap_port::begin_resume(alloc, &mut *store)?;
+    Ok(hold_wrap(alloc, store, opening, Origin::Resumed, script, answers)?)
 }
 
 /// Makes a wrap port over a blank store, and runs lines until it is given up.
@@ -114,28 +167,28 @@ fn create_wrap<R: BufRead, W: Write>(
 fn run_store_line<W: Write>(
     alloc: Global,
     store: &mut MemStore,
-    line: Line,
+    line: &Line,
     answers: &mut Answers<'_, W>,
 ) -> Result<(), SimFault>
-    requires sound { IsWithinLimits line }
-    requires file { HasFile (reads_of store.old) line }
+    requires sound { IsWithinLimits line.now }
+    requires file { HasFile (reads_of store.old) line.now }
 {
     match line {
-        Line::Store(files) => set_store(alloc, store, files, answers),
-        Line::Bytes(file, bytes) => set_bytes(alloc, store, file, bytes, answers),
+        Line::Store(files) => set_store(alloc, store, *files, answers),
+        Line::Bytes(file, bytes) => set_bytes(alloc, store, *file, bytes, answers),
         Line::Fuse(calls) => {
-            store.fuse(calls);
+            store.fuse(*calls);
             answers.tell(Answer::Done)
         }
         Line::FailOnce(calls) => {
-            store.fail_once(calls);
+            store.fail_once(*calls);
             answers.tell(Answer::Done)
         }
-        Line::Crash(pick) => crash(store, pick, answers),
+        Line::Crash(unsynced) => crash(store, *unsynced, answers),
         Line::Files => list_files(store, answers),
         Line::List => list(alloc, store, answers),
         Line::Wipe => clear(store, answers),
-        _other => answers.tell(Answer::OutOfOrder),
+        _ => answers.tell(Answer::OutOfOrder),
     }
 }
 
@@ -170,7 +223,7 @@ fn set_bytes<W: Write>(
     alloc: Global,
     store: &mut MemStore,
     file: u32,
-    bytes: Vec<u8>,
+    bytes: &[u8],
     answers: &mut Answers<'_, W>,
 ) -> Result<(), SimFault>
     requires { file < length (reads_of store.old) }
@@ -193,7 +246,7 @@ fn finish<W: Write>(
     match left {
         Ok(Some(Leave::Abandoned)) => answers.tell(Answer::Done),
         Ok(Some(Leave::Closed)) => answers.tell(Answer::Closed),
-        Ok(Some(Leave::Crashed(pick))) => crash(store, pick, answers),
+        Ok(Some(Leave::Crashed(unsynced))) => crash(store, unsynced, answers),
         Ok(None) => Ok(()),
         Err(Stop::Refused(refusal)) => answers.tell(Answer::Refused(refusal)),
         Err(Stop::Failed(fault)) => Err(fault),
@@ -203,10 +256,10 @@ fn finish<W: Write>(
 /// Leaves one of the images that a crash may leave, with nothing unsynced and no fuse.
 fn crash<W: Write>(
     store: &mut MemStore,
-    pick: Pick,
+    unsynced: Unsynced,
     answers: &mut Answers<'_, W>,
 ) -> Result<(), SimFault> {
-    answers.tell(match store.crash(pick) {
+    answers.tell(match store.crash(Pick::from(unsynced)) {
         Ok(()) => Answer::Done,
         Err(fault) => Answer::Refused(Refusal::Crash(fault)),
     })

@@ -22,23 +22,23 @@ returns-in_err-next_line-clause-run g c =
 
 pub returns-in_err-tell-in-Told-clause-run : goal.returns-in_err-tell-in-Told-clause-run
 returns-in_err-tell-in-Told-clause-run g c =
-    has_failed_behind g.P.TracePort.told (AtDesk (first_side (desk_seen g.P.TracePort c.args.desk.now))) (AtDesk (side_seen g.P.TracePort c.loop-line.desk c.loop-line.attached)) (AtDesk (side_seen g.P.TracePort c.ask.new.desk c.ask.new.attached))
-    (IsAtDesk (desk_seen g.P.TracePort c.ask.new.desk)) _ c.from_residual-in_err-tell-in-Told.result c.from_residual-in_err-tell-in-Told.ensures.0 _ c.ask.result c.in-Told.answer _ _ c.loop-line.invariant.run c.ask.ensures.step c.in-Told.is refl
+    has_failed_behind g.P.TracePort.told (AtDesk (first_side (desk_seen g.P.TracePort c.args.desk.now))) (AtDesk (side_seen g.P.TracePort c.loop-line.desk c.loop-line.attached)) (AtDesk (side_seen g.P.TracePort c.ask_owned.new.desk c.ask_owned.new.attached))
+    (IsAtDesk (desk_seen g.P.TracePort c.ask_owned.new.desk)) _ c.from_residual-in_err-tell-in-Told.result c.from_residual-in_err-tell-in-Told.ensures.0 _ c.ask_owned.result c.in-Told.answer _ _ c.loop-line.invariant.run c.ask_owned.ensures.step c.in-Told.is refl
 
 pub returns-in-Left-clause-run : goal.returns-in-Left-clause-run
 returns-in-Left-clause-run g c =
     let told = g.P.TracePort.told in
     let first = AtDesk (first_side (desk_seen g.P.TracePort c.args.desk.now)) in
-    let now = AtDesk (side_seen g.P.TracePort c.ask.new.desk c.ask.new.attached) in
-    has_run told first now (Some c.in-Left.leave) (IsAtDesk (desk_seen g.P.TracePort c.ask.new.desk)) _ _
-    (has_left told first (AtDesk (side_seen g.P.TracePort c.loop-line.desk c.loop-line.attached)) now _ c.ask.result c.in-Left.leave _ _ c.loop-line.invariant.run c.ask.ensures.step c.in-Left.is) refl
+    let now = AtDesk (side_seen g.P.TracePort c.ask_owned.new.desk c.ask_owned.new.attached) in
+    has_run told first now (Some c.in-Left.leave) (IsAtDesk (desk_seen g.P.TracePort c.ask_owned.new.desk)) _ _
+    (has_left told first (AtDesk (side_seen g.P.TracePort c.loop-line.desk c.loop-line.attached)) now _ c.ask_owned.result c.in-Left.leave _ _ c.loop-line.invariant.run c.ask_owned.ensures.step c.in-Left.is) refl
 
 pub loop-line-preserved : goal.loop-line-preserved
 loop-line-preserved g c =
     record {
-      name = c.ask.ensures.name ∙ c.loop-line.invariant.name;
-      same = c.ask.ensures.same ∙ c.loop-line.invariant.same;
+      name = c.ask_owned.ensures.name ∙ c.loop-line.invariant.name;
+      same = c.ask_owned.ensures.same ∙ c.loop-line.invariant.same;
       writer = c.in_ok-tell-in-Told.ensures.name ∙ c.loop-line.invariant.writer;
-      run = has_told g.P.TracePort.told (AtDesk (first_side (desk_seen g.P.TracePort c.args.desk.now))) (AtDesk (side_seen g.P.TracePort c.loop-line.desk c.loop-line.attached)) (AtDesk (side_seen g.P.TracePort c.ask.new.desk c.ask.new.attached))
-          _ c.ask.result c.in-Told.answer _ _ _ c.loop-line.invariant.run c.ask.ensures.step c.in-Told.is c.in_ok-tell-in-Told.ensures.text;
+      run = has_told g.P.TracePort.told (AtDesk (first_side (desk_seen g.P.TracePort c.args.desk.now))) (AtDesk (side_seen g.P.TracePort c.loop-line.desk c.loop-line.attached)) (AtDesk (side_seen g.P.TracePort c.ask_owned.new.desk c.ask_owned.new.attached))
+          _ c.ask_owned.result c.in-Told.answer _ _ _ c.loop-line.invariant.run c.ask_owned.ensures.step c.in-Told.is c.in_ok-tell-in-Told.ensures.text;
     }

@@ -21,18 +21,18 @@ returns-in-Some-Desk-clause-run g c =
 pub returns-in_err-tell-in-Told-clause-run : goal.returns-in_err-tell-in-Told-clause-run
 returns-in_err-tell-in-Told-clause-run g c =
     let told = g.P.TracePort.told in
-    has_failed_behind told (Alone c.args.port.now) (Alone c.loop-line.port) (Alone c.ask.new.port) (λ end. IsLetGo told end c.ask.new.port) _ c.from_residual-in_err-tell-in-Told.result c.from_residual-in_err-tell-in-Told.ensures.0
-    _ c.ask.result c.in-Told.answer _ _ c.loop-line.invariant.run c.ask.ensures.step c.in-Told.is refl
+    has_failed_behind told (Alone c.args.port.now) (Alone c.loop-line.port) (Alone c.ask_owned.new.port) (λ end. IsLetGo told end c.ask_owned.new.port) _ c.from_residual-in_err-tell-in-Told.result c.from_residual-in_err-tell-in-Told.ensures.0
+    _ c.ask_owned.result c.in-Told.answer _ _ c.loop-line.invariant.run c.ask_owned.ensures.step c.in-Told.is refl
 
 pub returns-in-Left-clause-run : goal.returns-in-Left-clause-run
 returns-in-Left-clause-run g c =
     let told = g.P.TracePort.told in
-    has_run told (Alone c.args.port.now) (Alone c.ask.new.port) (Some c.in-Left.leave) (λ end. IsLetGo told end c.ask.new.port) _ _
-    (has_left told (Alone c.args.port.now) (Alone c.loop-line.port) (Alone c.ask.new.port) _ c.ask.result c.in-Left.leave _ _ c.loop-line.invariant.run c.ask.ensures.step c.in-Left.is) refl
+    has_run told (Alone c.args.port.now) (Alone c.ask_owned.new.port) (Some c.in-Left.leave) (λ end. IsLetGo told end c.ask_owned.new.port) _ _
+    (has_left told (Alone c.args.port.now) (Alone c.loop-line.port) (Alone c.ask_owned.new.port) _ c.ask_owned.result c.in-Left.leave _ _ c.loop-line.invariant.run c.ask_owned.ensures.step c.in-Left.is) refl
 
 pub loop-line-preserved : goal.loop-line-preserved
 loop-line-preserved g c =
     record {
-      same = c.ask.ensures.same ∙ c.loop-line.invariant.same;
-      run = has_told g.P.TracePort.told (Alone c.args.port.now) (Alone c.loop-line.port) (Alone c.ask.new.port) _ c.ask.result c.in-Told.answer _ _ _ c.loop-line.invariant.run c.ask.ensures.step c.in-Told.is c.in_ok-tell-in-Told.ensures.text;
+      same = c.ask_owned.ensures.same ∙ c.loop-line.invariant.same;
+      run = has_told g.P.TracePort.told (Alone c.args.port.now) (Alone c.loop-line.port) (Alone c.ask_owned.new.port) _ c.ask_owned.result c.in-Told.answer _ _ _ c.loop-line.invariant.run c.ask_owned.ensures.step c.in-Told.is c.in_ok-tell-in-Told.ensures.text;
     }
