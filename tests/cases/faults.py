@@ -187,6 +187,14 @@ def a_mark_that_can_not_be_made_leaves_the_fault_told(program):
 
 
 @case
+def what_a_crash_may_leave_of_a_mark_is_one(program):
+    program.good("import", "t", "--keep-open", stdin=drop(1))
+    for left in (b"", b"A sync", b"A sync\0\0\0\0"):
+        (program.folder / "t.failed").write_bytes(left)
+        is_marked(program, "t")
+
+
+@case
 def a_file_of_the_name_of_a_mark_that_is_none_stays(program):
     (program.folder / "t.failed").write_bytes(b"notes of mine\n")
     program.good("import", "t", "--after-failure", stdin=drop(1))

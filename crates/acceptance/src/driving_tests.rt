@@ -2,13 +2,14 @@ use crate::tracees_tests::{EXAMPLE, GREATEST, MOMENT, atom, tracee};
 use entry_codec::Entry;
 use intake::{Offer, Tracee};
 use std::alloc::Global;
+use std::process::Abort;
 use std::slice;
 use std::test::*;
 use trace_message::Event;
 use trace_port::{FilePort, PortFault, TracePort};
 use trace_store::MemStore;
 use trace_terms::{NoMemory, Term};
-use tracees::{Desk, HandFault, PlainBook, Reply, Step, drive};
+use tracees::{Desk, HandFault, PlainBook, Receipt, Reply, Step, drive};
 
 /// The tracee at place 0 receives a message.
 fn receives(message: Term) -> Step {
@@ -40,55 +41,114 @@ fn run_one<P: TracePort>(
     Ok((replies, tracee))
 }
 
-#[test]
-fn a_run_answers_each_step(rt: HostRuntime) -> Result<(), Fail> {
-    let alloc = rt.alloc();
-    let mut store = MemStore::blank(alloc, 1)?;
-    let mut port = FilePort::create(alloc, &mut store, GREATEST)?;
-    let steps = [
-        receives(Term::Atom(atom(&rt, alloc, "ok"))),
-        Step::FlushFor { tracee: 0 },
-        Step::Flush { desk: 1 },
-    ];
-    let (replies, _) = run_one(alloc, &mut port, tracee(&rt, alloc, 2), &steps)?;
-    assert_eq!(rt; replies.len(), 3);
-    assert!(rt; matches!(replies[0], Reply::Offer(Offer::Kept)));
-    let Reply::Receipt(receipt) = &replies[1] else {
-        return Err("another reply".into());
-    };
+/// Whether a receipt is that of the tracee's first message, which is covered.
+fn assert_first(rt: &impl Abort, alloc: Global, receipt: &Receipt) -> Result<(), Fail> {
     assert_eq!(rt; (receipt.desk, receipt.tracee), (0, 7));
     assert_eq!(rt; (receipt.first, receipt.covered), (0, 1));
-    let example = Entry::Message(Vec::from_slice(alloc, EXAMPLE)?);
-    assert!(rt; receipt.entries.as_slice() == [example].as_slice());
-    assert!(rt; matches!(replies[2], Reply::Unknown));
+    let example = [Entry::Message(Vec::from_slice(alloc, EXAMPLE)?)];
+    assert!(rt; receipt.entries.as_slice() == example.as_slice());
+    drop(example);
     Ok(())
 }
 
-/// Two messages of 40,000 bytes don't fit one batch: the device fails when the first is committed.
+fn assert_answers(rt: &impl Abort, alloc: Global, replies: &[Reply]) -> Result<(), Fail> {
+    assert_eq!(rt; replies.len(), 3);
+    assert!(rt; matches!(replies[0], Reply::Offer(Offer::Kept)));
+    assert!(rt; matches!(replies[2], Reply::Unknown));
+    match &replies[1] {
+        Reply::Receipt(receipt) => assert_first(rt, alloc, receipt),
+        _ => Err("another reply".into()),
+    }
+}
+
+/// Runs steps at one desk over a file port, of whose device calls the one behind so many may fail.
+fn run_over_a_file(
+    rt: &impl Abort,
+    alloc: Global,
+    fails_after: Option<u64>,
+    capacity: u32,
+    steps: &[Step],
+) -> Result<(Vec<Reply>, Tracee), Fail> {
+    let mut store = MemStore::blank(alloc, 1)?;
+    if let Some(calls) = fails_after {
+        store.fail_once(calls);
+    }
+    let done = run_over(rt, alloc, &mut store, capacity, steps);
+    drop(store);
+    done
+}
+
+fn run_over(
+    rt: &impl Abort,
+    alloc: Global,
+    store: &mut MemStore,
+    capacity: u32,
+    steps: &[Step],
+) -> Result<(Vec<Reply>, Tracee), Fail> {
+    let mut port = FilePort::create(alloc, store, GREATEST)?;
+    let done = run_one(alloc, &mut port, tracee(rt, alloc, capacity), steps);
+    drop(port);
+    Ok(done?)
+}
+
+#[test]
+fn a_run_answers_each_step(rt: HostRuntime) -> Result<(), Fail> {
+    let steps = [
+        receives(Term::Atom(atom(&rt, rt.alloc(), "ok"))),
+        Step::FlushFor { tracee: 0 },
+        Step::Flush { desk: 1 },
+    ];
+    let done = run_over_a_file(&rt, rt.alloc(), None, 2, &steps);
+    drop(steps);
+    let (replies, tracee) = done?;
+    drop(tracee);
+    let answered = assert_answers(&rt, rt.alloc(), &replies);
+    drop(replies);
+    answered
+}
+
+/// A step in which the tracee receives 40,000 bytes.
+fn receives_many(alloc: Global) -> Result<Step, Fail> {
+    Ok(receives(Term::Binary(vec![in alloc; 0; 40_000]?)))
+}
+
+/// Three such steps, and a hand-over of all.
+fn many_steps(alloc: Global) -> Result<Vec<Step>, Fail> {
+    let mut steps = Vec::with_capacity(alloc, 4)?;
+    for _message in 0..3 {
+        steps.push(receives_many(alloc)?)?;
+    }
+    steps.push(Step::HandOver {
+        tracee: 0,
+        limit: 9,
+    })?;
+    Ok(steps)
+}
+
+/// The first two of the messages were moved before the device failed.
+fn assert_moved(rt: &impl Abort, replies: &[Reply]) -> Result<(), Fail> {
+    assert_eq!(rt; replies.len(), 4);
+    match &replies[3] {
+        Reply::HandRefused(HandFault::Port { fault, receipt }) => {
+            assert_eq!(rt; *fault, PortFault::Device);
+            assert_eq!(rt; (receipt.first, receipt.covered), (0, 0));
+            assert_eq!(rt; receipt.entries.len(), 2);
+            Ok(())
+        }
+        _ => Err("another reply".into()),
+    }
+}
+
 #[test]
 fn a_refusal_has_the_receipt_of_what_was_moved(rt: HostRuntime) -> Result<(), Fail> {
-    let alloc = rt.alloc();
-    let mut store = MemStore::blank(alloc, 1)?;
-    store.fail_once(10);
-    let mut port = FilePort::create(alloc, &mut store, GREATEST)?;
-    let steps = [
-        receives(Term::Binary(vec![in alloc; 0; 40_000]?)),
-        receives(Term::Binary(vec![in alloc; 0; 40_000]?)),
-        receives(Term::Binary(vec![in alloc; 0; 40_000]?)),
-        Step::HandOver {
-            tracee: 0,
-            limit: 9,
-        },
-    ];
-    let (replies, tracee) = run_one(alloc, &mut port, tracee(&rt, alloc, 3), &steps)?;
-    assert_eq!(rt; replies.len(), 4);
-    let Reply::HandRefused(HandFault::Port { fault, receipt }) = &replies[3] else {
-        return Err("another reply".into());
-    };
-    assert_eq!(rt; *fault, PortFault::Device);
-    assert_eq!(rt; (receipt.first, receipt.covered), (0, 0));
-    assert_eq!(rt; receipt.entries.len(), 2);
+    let steps = many_steps(rt.alloc())?;
+    let done = run_over_a_file(&rt, rt.alloc(), Some(10), 3, &steps);
+    drop(steps);
+    let (replies, tracee) = done?;
     let counts = tracee.counts();
+    drop(tracee);
     assert_eq!(rt; (counts.offered, counts.handed, counts.waiting), (3, 2, 1));
-    Ok(())
+    let moved = assert_moved(&rt, &replies);
+    drop(replies);
+    moved
 }

@@ -38,14 +38,19 @@ fn ports_of_either_kind_lie_in_one_slice(rt: HostRuntime) -> Result<(), Fail> {
     let mut other_store = MemStore::blank(rt.alloc(), 1)?;
     let mut one = FilePort::create(rt.alloc(), &mut one_store, GREATEST)?;
     let mut other = FilePort::create(rt.alloc(), &mut other_store, GREATEST)?;
-    assert_eq!(rt; other.accept(&Entry::Drop(7)), Ok(0));
+    let lost = Entry::Drop(7);
+    assert_eq!(rt; other.accept(&lost), Ok(0));
+    drop(lost);
     let answers = put_into_both(rt.alloc(), &mut one, &mut other)?;
     assert_eq!(rt;
         answers.as_slice(),
         [(Ok(0), Ok(1)), (Ok(1), Ok(2))].as_slice()
     );
+    drop(answers);
     assert_eq!(rt; one.status().covered, 1);
     assert_eq!(rt; other.status().covered, 2);
+    drop(one);
+    drop(other);
     Ok(())
 }
 
@@ -60,6 +65,9 @@ fn a_port_comes_back_to_its_lender(rt: HostRuntime) -> Result<(), Fail> {
     assert!(rt; file.into_wrap().is_none());
     let wrap: EitherPort<'_, Port, _> = EitherPort::wrap(&mut port);
     assert!(rt; wrap.into_file().is_none());
+    drop(lost);
     assert_eq!(rt; port.status().dropped, 14);
+    drop(port);
+    drop(store);
     Ok(())
 }

@@ -25,6 +25,7 @@ fn emit<F: Ledger + Send, U: Ledger + Send, D: Ledger + Send, N: Ledger + Send, 
     for offer in offers {
         assert_eq!(rt; traced.emit(alloc, &event, MOMENT), Ok(*offer));
     }
+    drop(event);
 }
 
 /// Two tracees at a desk: of one two messages are flushed, of the other one is handed over with two drops. The account
@@ -73,11 +74,15 @@ fn settled<
     match settle(desk, given) {
         Ok((desk, totals)) => {
             assert_eq!(rt; desk.attached(), 2);
+            drop(desk);
             Ok(Ok(totals))
         }
         Err(SettleFault::Missing { desk, accounts }) => {
             assert_eq!(rt; desk.status().accepted, 4);
-            Ok(Err(accounts.len()))
+            drop(desk);
+            let count = accounts.len();
+            drop(accounts);
+            Ok(Err(count))
         }
     }
 }

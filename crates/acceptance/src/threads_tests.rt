@@ -374,6 +374,9 @@ fn four_jobs_agree_with_what_is_recovered(rt: HostRuntime) -> Result<(), Fail> {
     for receipts in &end.receipts {
         assert_eq!(rt; audit(&found, receipts.as_slice()), Ok(()));
     }
+    drop(end);
+    drop(found);
+    drop(store);
     Ok(())
 }
 
