@@ -1,0 +1,288 @@
+// The words of a command line, and what they ask for.
+
+use crate::request::{Asked, Ending, Flushing, Misuse, Request, Rules, Shape, Wanted};
+use crate::size::bytes_in;
+use clap::{Arg, ArgAction, ArgMatches, Command, value_parser};
+use std::alloc::{AllocError, Global};
+use std::convert::AsStr;
+
+/// An option with a value.
+fn option<'a>(alloc: Global, name: &'a str, value: &'a str, about: &'a str) -> Arg<'a> {
+    Arg::new(alloc, name)
+        .long(name)
+        .value_name(value)
+        .help(about)
+}
+
+/// An option without a value.
+fn flag<'a>(alloc: Global, name: &'a str, about: &'a str) -> Arg<'a> {
+    Arg::new(alloc, name)
+        .long(name)
+        .action(ArgAction::SetTrue)
+        .help(about)
+}
+
+/// The name of a trace.
+fn base<'a>(alloc: Global) -> Arg<'a> {
+    Arg::new(alloc, "BASE")
+        .required(true)
+        .help("The file, or what the names of the wrap files begin with")
+}
+
+fn kind<'a>(alloc: Global) -> Arg<'a> {
+    option(
+        alloc,
+        "kind",
+        "KIND",
+        "One file, or wrap files BASE0SUFFIX, BASE1SUFFIX ..; unless said, what is there [default: file]",
+    )
+    .value_parser(["file", "wrap"].as_slice())
+}
+
+fn suffix<'a>(alloc: Global) -> Arg<'a> {
+    option(
+        alloc,
+        "suffix",
+        "SUFFIX",
+        "What the names of wrap files end with",
+    )
+}
+
+fn count<'a>(alloc: Global) -> Arg<'a> {
+    option(
+        alloc,
+        "count",
+        "COUNT",
+        "Runs that a wrap keeps (1 to 1000), in one file more [default: 8]",
+    )
+    .value_parser(value_parser!(u16).range(1..=1000))
+}
+
+/// A command over the files of a trace.
+fn of_files<'a>(
+    alloc: Global,
+    name: &'a str,
+    about: &'a str,
+    example: &'a str,
+) -> Result<Command<'a>, AllocError> {
+    Command::new(alloc, name)
+        .about(about)
+        .after_help(example)
+        .arg(base(alloc))?
+        .arg(kind(alloc))?
+        .arg(suffix(alloc))?
+        .arg(count(alloc))
+}
+
+fn size<'a>(alloc: Global) -> Arg<'a> {
+    option(
+        alloc,
+        "size",
+        "BYTES",
+        "A new wrap goes on to its next file after more than this; K, M, G: powers of 1,024 [default: 131072]",
+    )
+}
+
+fn time<'a>(alloc: Global) -> Arg<'a> {
+    option(
+        alloc,
+        "time",
+        "MS",
+        "A new wrap goes on to its next file after this time instead",
+    )
+    .value_parser(value_parser!(u32).range(1..))
+}
+
+fn after_failure<'a>(alloc: Global) -> Arg<'a> {
+    flag(
+        alloc,
+        "after-failure",
+        "Goes on also where the disk failed while the trace was written",
+    )
+}
+
+/// A command that makes the files where there is no trace yet.
+fn of_new_files<'a>(
+    alloc: Global,
+    name: &'a str,
+    about: &'a str,
+    example: &'a str,
+) -> Result<Command<'a>, AllocError> {
+    of_files(alloc, name, about, example)?
+        .arg(size(alloc))?
+        .arg(time(alloc))?
+        .arg(after_failure(alloc))
+}
+
+fn flush<'a>(alloc: Global) -> Arg<'a> {
+    option(
+        alloc,
+        "flush",
+        "WHEN",
+        "When what came is synced: behind each entry, when the writer pauses, or at the end",
+    )
+    .value_parser(["always", "paused", "never"].as_slice())
+    .default_value("paused")
+}
+
+fn keep_open<'a>(alloc: Global) -> Arg<'a> {
+    flag(
+        alloc,
+        "keep-open",
+        "At the end of the input flushes, and doesn't seal: the next import goes on",
+    )
+}
+
+/// The command that records an entry stream.
+fn import<'a>(alloc: Global) -> Result<Command<'a>, AllocError> {
+    of_new_files(
+        alloc,
+        "import",
+        "Records the entry stream of a node from standard input, and seals the trace at its end",
+        "A trace that is there and not sealed is gone on with. A sealed one is kept by export and cleared by wipe. A stream that is cut or broken doesn't seal.\n\nExample: nc HOST 4711 | dbgrec import trace --kind wrap",
+    )?
+    .arg(flush(alloc))?
+    .arg(keep_open(alloc))
+}
+
+/// The command that records what a script says.
+fn record<'a>(alloc: Global) -> Result<Command<'a>, AllocError> {
+    of_new_files(
+        alloc,
+        "record",
+        "Records what a script from standard input says, and seals the trace at its end",
+        "Example: dbgrec record trace < desk.script",
+    )
+}
+
+fn list<'a>(alloc: Global) -> Result<Command<'a>, AllocError> {
+    of_files(
+        alloc,
+        "list",
+        "Lists a stored trace on standard output",
+        "Example: dbgrec list trace",
+    )
+}
+
+fn export<'a>(alloc: Global) -> Result<Command<'a>, AllocError> {
+    of_files(
+        alloc,
+        "export",
+        "Writes a stored trace on standard output, as the entry stream that dbg:trace_client reads",
+        "Example: dbgrec export trace > trace.out",
+    )
+}
+
+fn wipe<'a>(alloc: Global) -> Result<Command<'a>, AllocError> {
+    of_files(
+        alloc,
+        "wipe",
+        "Clears a stored trace, for good",
+        "Example: dbgrec wipe trace",
+    )?
+    .arg(flag(alloc, "force", "Clears files that aren't of a trace too"))
+}
+
+fn stream<'a>(alloc: Global) -> Command<'a> {
+    Command::new(alloc, "stream")
+        .about(
+            "Lists an entry stream from standard input on standard output, each line as it comes",
+        )
+        .after_help("Example: nc HOST 4711 | dbgrec stream")
+}
+
+fn sim<'a>(alloc: Global) -> Command<'a> {
+    Command::new(alloc, "sim")
+        .about("Runs a script from standard input over a store in memory")
+        .after_help("Example: dbgrec sim < examples/first.script")
+}
+
+/// A command with those that read a stored trace.
+fn with_readers<'a>(alloc: Global, command: Command<'a>) -> Result<Command<'a>, AllocError> {
+    command.subcommand(list(alloc)?)?.subcommand(export(alloc)?)
+}
+
+fn dbgrec<'a>(alloc: Global) -> Result<Command<'a>, AllocError> {
+    let command = Command::new(alloc, "dbgrec")
+        .version("0.1.0")
+        .about("Records traces as dbg of Erlang does, and lists what a crash has left of them")
+        .subcommand_required(true)
+        .arg_required_else_help(true);
+    with_readers(alloc, command.subcommand(import(alloc)?)?)?
+        .subcommand(wipe(alloc)?)?
+        .subcommand(stream(alloc))?
+        .subcommand(record(alloc)?)?
+        .subcommand(sim(alloc))
+}
+
+/// What the options say of where a trace is.
+fn asked_in<'a>(matches: &ArgMatches<'a>) -> Asked<'a> {
+    let shape = match matches.get_str("kind") {
+        Some("wrap") => Some(Shape::Wrap),
+        Some(_) => Some(Shape::File),
+        None => None,
+    };
+    Asked {
+        base: matches.get_str("BASE").unwrap_or(""),
+        shape,
+        suffix: matches.get_str("suffix"),
+        count: matches.get_one::<u16>("count"),
+    }
+}
+
+/// What the options say of a trace that is made where there is none.
+fn wanted_in<'a>(matches: &ArgMatches<'a>) -> Result<Wanted<'a>, Misuse<'a>> {
+    let size = match matches.get_str("size") {
+        None => None,
+        Some(text) => match bytes_in(text) {
+            None => return Err(Misuse::Size(text)),
+            found => found,
+        },
+    };
+    Ok(Wanted {
+        asked: asked_in(matches),
+        size,
+        time: matches.get_one::<u32>("time"),
+        is_after_failure: matches.get_flag("after-failure"),
+    })
+}
+
+/// How an import goes.
+fn rules_in(matches: &ArgMatches<'_>) -> Rules {
+    let flushing = match matches.get_str("flush") {
+        Some("always") => Flushing::Always,
+        Some("never") => Flushing::Never,
+        _ => Flushing::Paused,
+    };
+    let ending = if matches.get_flag("keep-open") {
+        Ending::Keep
+    } else {
+        Ending::Seal
+    };
+    Rules { flushing, ending }
+}
+
+/// What the words that were found ask for.
+fn request_in<'a>(matches: &ArgMatches<'a>) -> Result<Request<'a>, Misuse<'a>> {
+    Ok(match matches.subcommand() {
+        Some(("stream", _)) => Request::Stream,
+        Some(("record", matches)) => Request::Record(wanted_in(matches)?),
+        Some(("import", matches)) => Request::Import {
+            wanted: wanted_in(matches)?,
+            rules: rules_in(matches),
+        },
+        Some(("list", matches)) => Request::List(asked_in(matches)),
+        Some(("export", matches)) => Request::Export(asked_in(matches)),
+        Some(("wipe", matches)) => Request::Wipe {
+            asked: asked_in(matches),
+            is_forced: matches.get_flag("force"),
+        },
+        _ => Request::Sim,
+    })
+}
+
+/// What the words ask for, of which the first is the program's name.
+pub fn asked_for<'a, S: AsStr>(alloc: Global, words: &'a [S]) -> Result<Request<'a>, Misuse<'a>> {
+    let matches = dbgrec(alloc)?.try_get_matches_from(words)?;
+    request_in(&matches)
+}

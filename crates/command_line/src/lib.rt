@@ -1,0 +1,9 @@
+//! The command line of dbgrec: what its words ask for.
+#![tactic(auto)]
+
+mod command;
+mod request;
+mod size;
+
+pub use command::asked_for;
+pub use request::{Asked, Ending, Flushing, Misuse, Request, Rules, Shape, Wanted};

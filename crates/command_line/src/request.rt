@@ -1,0 +1,107 @@
+// What a command line asks for.
+
+use clap::Error;
+use std::alloc::AllocError;
+
+/// How a trace is stored, as a command line says it.
+#[derive(Clone, Copy, Debug, PartialEq, Eq)]
+pub enum Shape {
+    File,
+    Wrap,
+}
+
+/// What a command line says of where a trace is; None stands for what it doesn't say.
+#[derive(Clone, Copy, Debug, PartialEq, Eq)]
+pub struct Asked<'a> {
+    pub base: &'a str,
+    pub shape: Option<Shape>,
+    pub suffix: Option<&'a str>,
+    /// The runs that a wrap keeps.
+    pub count: Option<u16>,
+}
+
+/// What a command line asks of a trace that is made where there is none.
+#[derive(Clone, Copy, Debug, PartialEq, Eq)]
+pub struct Wanted<'a> {
+    pub asked: Asked<'a>,
+    /// The bytes of entries that end a run of a wrap, where the command line says so.
+    pub size: Option<u32>,
+    /// The milliseconds that end a run of a wrap, where the command line says so.
+    pub time: Option<u32>,
+    /// To go on also where the disk failed.
+    pub is_after_failure: bool,
+}
+
+/// When an import flushes.
+#[derive(Clone, Copy, Debug, PartialEq, Eq)]
+pub enum Flushing {
+    /// Behind each entry.
+    Always,
+    /// Behind a read that didn't fill its buffer: the writer pauses.
+    Paused,
+    /// At the end alone.
+    Never,
+}
+
+/// What becomes of a trace where its stream ends between two entries.
+#[derive(Clone, Copy, Debug, PartialEq, Eq)]
+pub enum Ending {
+    /// It is sealed.
+    Seal,
+    /// It is flushed and stays open, as it does where the stream ends in any other way.
+    Keep,
+}
+
+/// How an import flushes and ends.
+#[derive(Clone, Copy, Debug, PartialEq, Eq)]
+pub struct Rules {
+    pub flushing: Flushing,
+    pub ending: Ending,
+}
+
+/// What a command line asks for.
+#[derive(Clone, Copy, Debug, PartialEq, Eq)]
+pub enum Request<'a> {
+    /// Run a script over a store in memory.
+    Sim,
+    /// List an entry stream.
+    Stream,
+    /// Record what a script says.
+    Record(Wanted<'a>),
+    /// Record an entry stream.
+    Import {
+        wanted: Wanted<'a>,
+        rules: Rules,
+    },
+    /// List a stored trace.
+    List(Asked<'a>),
+    /// Write a stored trace as an entry stream.
+    Export(Asked<'a>),
+    /// End a stored trace, and leave an empty store.
+    Wipe {
+        asked: Asked<'a>,
+        /// Also files that aren't of a trace.
+        is_forced: bool,
+    },
+}
+
+/// Why words aren't a command line.
+#[derive(Drop)]
+pub enum Misuse<'a> {
+    /// The words aren't of the form that the help shows, or ask for help.
+    Form(Error),
+    /// The value of `--size`.
+    Size(&'a str),
+}
+
+impl From<Error> for Misuse<'_> {
+    fn from(error: Error) -> Self {
+        Misuse::Form(error)
+    }
+}
+
+impl From<AllocError> for Misuse<'_> {
+    fn from(fault: AllocError) -> Self {
+        Misuse::Form(Error::from(fault))
+    }
+}

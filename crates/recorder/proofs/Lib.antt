@@ -1,0 +1,11 @@
+pub mod Asking
+pub mod Feeding
+pub mod Looking
+pub mod Misplaced
+pub mod Parts
+pub mod Placing
+pub mod Running
+pub mod Starting
+pub mod Storing
+pub mod Turning
+pub mod Written

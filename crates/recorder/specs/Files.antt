@@ -1,0 +1,56 @@
+-- What is done with the real files of a trace.
+use Rattle.std.specs.Prelude.{◌≡◌, ℕ, Option, Some, None, List, Result, Ok, Err, OnOk}
+use Rattle.std.specs.Io.KnownBytes.{Appends}
+use Rattle.segment.specs.Pieces.{OnlyReads}
+use Rattle.trace_store.specs.FolderStore.{honest_of, reads_of, images_of, moments_of, clock_of}
+use Rattle.trace_store.specs.declared.folder_store.FolderStore.{FolderStore}
+use Rattle.trace_store.specs.contracts.folder_store.FolderStoreStore.TheImpl as folder
+use Rattle.trace_port.specs.Device.{Device, device_of}
+use Rattle.trace_port.specs.Opened.{opened_told}
+use Rattle.trace_port.specs.FilePort.{file_told}
+use Rattle.trace_port.specs.contracts.pending.PendingRoom.TheImpl as pending
+use Rattle.wrap_port.specs.WrapOpened.{wrap_opened_told}
+use Rattle.wrap_port.specs.WrapPort.{wrap_told}
+use Rattle.command_line.specs.declared.request.Rules.{Rules}
+use Rattle.recorder.specs.Answers.{opened_answer}
+use Rattle.recorder.specs.Sides.{in_desk}
+use Rattle.recorder.specs.Texts.{line_of}
+use Rattle.recorder.specs.Held.{WasHeld}
+use Rattle.recorder.specs.Importing.{WasImported}
+use Rattle.recorder.specs.declared.answer.Answer.TheVariants.{Done}
+use Rattle.recorder.specs.declared.fault.SimFault.{SimFault}
+use Rattle.recorder.specs.declared.opening.Opened.{Opened}
+use Rattle.recorder.specs.declared.opening.Opened.TheVariants as openings
+use Rattle.recorder.specs.declared.reply.Leave.{Leave}
+use Rattle.recorder.specs.declared.reply.Origin.{Origin}
+
+-- the files were read at most
+abbrev pub OnlyLooks : FolderStore → FolderStore → Type 0
+OnlyLooks old new = OnlyReads honest_of clock_of reads_of images_of moments_of old new
+
+-- a script's lines were run at the desk of a port over this opening, which then was dropped
+abbrev pub RanAtDesk : Opened → Origin → FolderStore → FolderStore → Result (Option Leave) SimFault → (List ℕ → Type 0) → Type 0
+RanAtDesk (openings.File opening) origin old new left Writes =
+    WasHeld (file_told folder.ghosts pending.ghosts) in_desk (opened_told pending.ghosts opening (device_of folder.ghosts old)) (opened_answer origin) left (device_of folder.ghosts new) Writes
+RanAtDesk (openings.Wrap opening) origin old new left Writes =
+    WasHeld (wrap_told folder.ghosts pending.ghosts) in_desk (wrap_opened_told pending.ghosts opening (device_of folder.ghosts old)) (opened_answer origin) left (device_of folder.ghosts new) Writes
+
+-- what is answered behind the lines: one line more where the port was given up
+abbrev pub IsAnswered : Result (Option Leave) SimFault → Result Unit SimFault → Option (List ℕ) → Option (List ℕ) → Type 0
+IsAnswered (Ok None) result mid new = (result ≡ Ok tt) × (new ≡ mid)
+IsAnswered (Ok (Some leave)) result mid new = OnOk result (Appends mid new (line_of Done))
+IsAnswered (Err fault) result mid new = (result ≡ Err fault) × (new ≡ mid)
+
+-- a script was recorded so
+pub record WasRecorded (opened : Opened) (origin : Origin) (old new : FolderStore) (result : Result Unit SimFault) (was now : Option (List ℕ)) : Type 0 where
+  pub left : Result (Option Leave) SimFault
+  pub mid : Option (List ℕ)
+  pub ran : RanAtDesk opened origin old new left (λ text. Appends was mid text)
+  pub answered : IsAnswered left result mid now
+
+-- an entry stream was put into a port over this opening, which then was closed and dropped
+abbrev pub WasFed : Opened → Origin → Rules → FolderStore → FolderStore → Option (List ℕ) → Option (List ℕ) → Result Unit SimFault → (List ℕ → Type 0) → Type 0
+WasFed (openings.File opening) origin rules old new had left result Writes =
+    WasImported (file_told folder.ghosts pending.ghosts) (opened_told pending.ghosts opening (device_of folder.ghosts old)) (opened_answer origin) rules.flushing rules.ending had left result (device_of folder.ghosts new) Writes
+WasFed (openings.Wrap opening) origin rules old new had left result Writes =
+    WasImported (wrap_told folder.ghosts pending.ghosts) (wrap_opened_told pending.ghosts opening (device_of folder.ghosts old)) (opened_answer origin) rules.flushing rules.ending had left result (device_of folder.ghosts new) Writes

@@ -1,0 +1,15 @@
+pub mod Faults
+pub mod Texts
+pub mod Answers
+pub mod Sides
+pub mod DeskLines
+pub mod Asked
+pub mod Held
+pub mod Stored
+pub mod Places
+pub mod Openings
+pub mod Incoming
+pub mod Parts
+pub mod Importing
+pub mod Files
+pub mod Complaints

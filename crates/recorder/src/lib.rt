@@ -1,0 +1,39 @@
+//! The recorder: the commands over the files of a trace, and a run of a script over a store in memory.
+#![tactic(auto)]
+
+mod answer;
+mod answers;
+mod attached;
+pub mod commands;
+mod complaint;
+mod contents;
+mod desk_lines;
+mod fault;
+mod files;
+mod import;
+mod incoming;
+mod lookup;
+mod notices;
+mod opening;
+mod place;
+mod port_lines;
+mod record;
+mod refusal;
+mod reply;
+mod shown;
+mod sim;
+mod store_lines;
+
+pub use answer::Answer;
+pub use answers::Answers;
+pub use complaint::{Advice, Complaint};
+pub use fault::SimFault;
+pub use files::Files;
+pub use import::{Plan, import_file, import_wrap};
+pub use opening::{Opened, open_store};
+pub use place::{Kind, Place, Turn};
+pub use port_lines::{hold_file, hold_wrap};
+pub use record::{record_file, record_wrap};
+pub use refusal::{HandRefusal, Refusal};
+pub use reply::Origin;
+pub use sim::run_sim;

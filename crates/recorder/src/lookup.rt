@@ -1,0 +1,89 @@
+// What stands where a command line says that a trace is.
+
+use crate::place::{MOST_RUNS, Place};
+use command_line::{Asked, Shape};
+use segment::{Kind, SegHeader};
+use std::alloc::AllocError;
+use std::fs;
+use trace_files::first_header;
+use trace_store::FolderStore;
+
+/// What stands there.
+#[derive(Clone, Copy, Debug)]
+pub enum Found {
+    /// No file with bytes.
+    Nothing,
+    /// One file.
+    File,
+    /// Wrap files, and the header of the first that is open, where there is one.
+    Wrap(Option<SegHeader>),
+}
+
+impl Found {
+    /// The runs that a wrap keeps, where a file of it says so.
+    pub fn count(&self) -> Option<u16> {
+        match self {
+            Found::Wrap(Some(header)) => Some(header.wrap_count),
+            _ => None,
+        }
+    }
+}
+
+/// Whether a plain file of this name is there and isn't empty.
+pub fn has_bytes(rt: &HostRuntime, name: &str) -> bool {
+    match fs::metadata(rt, name) {
+        Ok(found) => found.is_file() && found.len() > 0,
+        Err(_) => false,
+    }
+}
+
+/// The name of the first wrap file that is there and isn't empty.
+pub fn first_wrap_file(rt: &HostRuntime, asked: Asked<'_>) -> Result<Option<String>, AllocError> {
+    let place = Place::of_wrap(&asked, Some(MOST_RUNS));
+    for k in 0..place.files() {
+        let name = place.name(rt.alloc(), k)?;
+        if has_bytes(rt, name.as_str()) {
+            return Ok(Some(name));
+        }
+    }
+    Ok(None)
+}
+
+/// The header of a file, where it is open. None also where it can't be read: who opens the trace is told.
+fn header_in(rt: HostRuntime, name: String) -> Result<Option<SegHeader>, AllocError> {
+    let mut names = Vec::new(rt.alloc());
+    names.push(name)?;
+    let mut store = FolderStore::over(rt, names)?;
+    Ok(first_header(&mut store).unwrap_or(None))
+}
+
+/// Whether a wrap with this header has it in file `k`. Two wraps may share a name: `t10` is a file of `t` and of `t1`.
+fn is_in_place(header: &SegHeader, k: u32) -> bool {
+    header.kind != Kind::File
+        && header.generation % (u64::from(header.wrap_count) + 1) == u64::from(k)
+}
+
+/// The header of the first wrap file that is open and in its place.
+fn wrap_header(rt: HostRuntime, place: Place<'_>) -> Result<Option<SegHeader>, AllocError> {
+    for k in 0..place.files() {
+        let name = place.name(rt.alloc(), k)?;
+        if has_bytes(&rt, name.as_str())
+            && let Some(header) = header_in(rt, name)?
+            && is_in_place(&header, k)
+        {
+            return Ok(Some(header));
+        }
+    }
+    Ok(None)
+}
+
+/// Looks for a trace of the shape that is asked for; where none is, for one file and then for a wrap.
+pub fn find(rt: HostRuntime, asked: Asked<'_>) -> Result<Found, AllocError> {
+    if asked.shape != Some(Shape::Wrap) && has_bytes(&rt, asked.base) {
+        return Ok(Found::File);
+    }
+    if asked.shape == Some(Shape::File) || first_wrap_file(&rt, asked)?.is_none() {
+        return Ok(Found::Nothing);
+    }
+    Ok(Found::Wrap(wrap_header(rt, Place::of_wrap(&asked, Some(MOST_RUNS)))?))
+}

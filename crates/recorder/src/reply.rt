@@ -1,0 +1,63 @@
+// How a port comes to be held, and what comes of a line then.
+
+use crate::answer::Answer;
+use crate::fault::SimFault;
+use crate::refusal::Refusal;
+use trace_port::{CreateFault, ResumeFault};
+use trace_script::Unsynced;
+use wrap_port::BadSpec;
+
+/// How a port came to be held.
+#[derive(Clone, Copy, Debug, PartialEq, Eq)]
+pub enum Origin {
+    Created,
+    Resumed,
+}
+
+/// Why a port is held no longer.
+#[derive(Clone, Copy, Debug, PartialEq, Eq)]
+pub enum Leave {
+    Abandoned,
+    Closed,
+    Crashed(Unsynced),
+}
+
+/// What comes of a line.
+#[derive(Drop)]
+pub enum Reply {
+    Told(Answer),
+    /// The port is given up, and answered of once it has been dropped.
+    Left(Leave),
+}
+
+/// Why a line's port isn't held until it is given up.
+#[derive(Drop)]
+pub enum Stop {
+    /// There is none.
+    Refused(Refusal),
+    Failed(SimFault),
+}
+
+impl From<CreateFault> for Stop {
+    fn from(fault: CreateFault) -> Stop {
+        Stop::Refused(Refusal::Create(fault))
+    }
+}
+
+impl From<ResumeFault> for Stop {
+    fn from(fault: ResumeFault) -> Stop {
+        Stop::Refused(Refusal::Resume(fault))
+    }
+}
+
+impl From<BadSpec> for Stop {
+    fn from(_fault: BadSpec) -> Stop {
+        Stop::Refused(Refusal::Create(CreateFault::BadSpec))
+    }
+}
+
+impl From<SimFault> for Stop {
+    fn from(fault: SimFault) -> Stop {
+        Stop::Failed(fault)
+    }
+}

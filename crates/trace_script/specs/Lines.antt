@@ -1,0 +1,36 @@
+-- What a line of a script may say.
+use Rattle.std.specs.Prelude.{◌≤◌, ◌<◌, ⊤, length}
+use Rattle.trace_store.specs.Disk.{Image}
+use Rattle.entry_codec.specs.Entries.{IsLawful}
+use Rattle.entry_codec.specs.Seen.{view}
+use Rattle.trace_script.specs.declared.line.Line.{Line}
+use Rattle.trace_script.specs.declared.line.Line.TheVariants as lines
+use Rattle.trace_script.specs.declared.desk_line.DeskLine.{DeskLine}
+use Rattle.trace_script.specs.declared.desk_line.DeskLine.TheVariants as desk_lines
+
+-- a tracee's number is at most 999
+abbrev pub IsNumbered : DeskLine → Type 0
+IsNumbered (desk_lines.Tracee number capacity drop_limit flags) = number ≤ 999
+IsNumbered (desk_lines.OfTracee number line) = number ≤ 999
+IsNumbered _ = ⊤
+
+-- a store can have so many files, and what is put may be stored
+abbrev pub IsWithinLimits : Line → Type 0
+IsWithinLimits (lines.Store files) = (1 ≤ files) × (files ≤ 1001)
+IsWithinLimits (lines.Put entry) = IsLawful (view entry)
+IsWithinLimits (lines.AtDesk line) = IsNumbered line
+IsWithinLimits _ = ⊤
+
+-- a line of a script for a desk alone
+abbrev pub IsOfRecord : Line → Type 0
+IsOfRecord lines.Flush = Unit {0}
+IsOfRecord lines.Seal = Unit {0}
+IsOfRecord (lines.Tick now) = Unit {0}
+IsOfRecord lines.Abandon = Unit {0}
+IsOfRecord (lines.AtDesk line) = Unit {0}
+IsOfRecord _ = ⊥
+
+-- the file that the line names is one of these
+abbrev pub HasFile : Image → Line → Type 0
+HasFile image (lines.Bytes file bytes) = file < length image
+HasFile image _ = ⊤

@@ -1,0 +1,14 @@
+//! The lines of a script, as docs/FORMATS.md has them, read one at a time.
+#![tactic(auto)]
+
+mod desk_line;
+mod event;
+mod fault;
+mod line;
+mod script;
+mod spelling;
+
+pub use desk_line::{DeskLine, TraceeLine};
+pub use fault::ScriptFault;
+pub use line::{Line, Unsynced, parse};
+pub use script::Script;
