@@ -10,7 +10,7 @@ import time
 
 from cases import Skipped, group, is_root, stored
 from entries import EXAMPLE, example_line, listing, message, split
-from program import PATIENCE, Outcome, read_some, same
+from program import PATIENCE, Outcome, read_to_end, same
 from segments import is_foreign
 
 CASES, case = group()
@@ -242,7 +242,7 @@ def a_long_import_shows_on_a_terminal_how_far_it_is(program):
         time.sleep(0.1)
     output, _ = importer.communicate(timeout=PATIENCE)
     same((importer.returncode, output), (0, b"created\nsealed 16\n"))
-    said = read_some(screen)
+    said = read_to_end(screen)
     os.close(screen)
     shown = [line.split(b" ") for line in said.split(b"\r") if b"entries" in line]
     for words in shown:

@@ -107,6 +107,19 @@ def read_some(descriptor):
     return os.read(descriptor, 65_536)
 
 
+def read_to_end(descriptor):
+    """All that is left of a terminal that nobody has open any more."""
+    parts = []
+    while True:
+        try:
+            part = os.read(descriptor, 65_536)
+        except OSError:
+            part = b""
+        if not part:
+            return b"".join(parts)
+        parts.append(part)
+
+
 def shown(data):
     """Bytes as a message shows them."""
     return repr(data if len(data) <= 400 else data[:400] + b"...")

@@ -10,7 +10,7 @@ import time
 from cases import group, stored
 from entries import EXAMPLE, drop, example_line, listing, message
 from listing import segment, wrap_header
-from program import PATIENCE, read_some, same
+from program import PATIENCE, read_to_end, same
 
 CASES, case = group()
 
@@ -222,7 +222,7 @@ def a_long_listing_shows_on_a_terminal_how_far_it_is(program):
     time.sleep(1.5)
     output, _ = lister.communicate(timeout=PATIENCE)
     same((lister.returncode, output), (0, listing(0, 0, [*listed, "8000 drop 7"])))
-    said = read_some(screen)
+    said = read_to_end(screen)
     os.close(screen)
     shown = [line.split(b" ") for line in said.split(b"\r") if b"entries" in line]
     assert shown, said

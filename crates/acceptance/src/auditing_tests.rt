@@ -1,7 +1,8 @@
 use entry_codec::Entry;
 use recovery::Recovered;
 use std::alloc::Global;
-use std::test::Fail;
+use std::process::Abort;
+use std::test::*;
 use tracees::{Mismatch, Receipt, audit};
 
 /// `{trace,<nonode@nohost.80.0.0>,'receive',ok}` in the External Term Format.
@@ -17,36 +18,37 @@ enum Part {
 
 use Part::{Example, Lost};
 
-fn entries(alloc: Global, parts: &[Part]) -> Result<Vec<Entry>, Fail> {
+fn entries(rt: &impl Abort, alloc: Global, parts: &[Part]) -> Vec<Entry> {
     let mut entries = Vec::new(alloc);
     for part in parts {
-        entries.push(match part {
-            Example => Entry::Message(Vec::from_slice(alloc, EXAMPLE)?),
+        let entry = match part {
+            Example => Entry::Message(Vec::from_slice(alloc, EXAMPLE).expect(rt, "memory")),
             Lost(count) => Entry::Drop(*count),
-        })?;
+        };
+        entries.push(entry).expect(rt, "memory");
     }
-    Ok(entries)
+    entries
 }
 
-fn receipt(alloc: Global, first: u64, parts: &[Part], covered: u64) -> Result<Receipt, Fail> {
-    Ok(Receipt {
+fn receipt(rt: &impl Abort, alloc: Global, first: u64, parts: &[Part], covered: u64) -> Receipt {
+    Receipt {
         desk: 0,
         tracee: 0,
         first,
-        entries: entries(alloc, parts)?,
+        entries: entries(rt, alloc, parts),
         covered,
-    })
+    }
 }
 
 /// A window of three entries, behind two.
-fn window(alloc: Global) -> Result<Recovered, Fail> {
-    let kept = entries(alloc, &[Example, Example, Example])?;
-    Ok(Recovered::new(None, 2, 0, kept, false).ok_or("a lawful window")?)
+fn window(rt: &impl Abort, alloc: Global) -> Recovered {
+    let kept = entries(rt, alloc, &[Example, Example, Example]);
+    Recovered::new(None, 2, 0, kept, false).expect(rt, "a lawful window")
 }
 
 #[test]
-fn a_receipt_is_held_against_the_window(rt: HostRuntime) -> Result<(), Fail> {
-    let window = window(rt.alloc())?;
+fn a_receipt_is_held_against_the_window(rt: HostRuntime) {
+    let window = window(&rt, rt.alloc());
     let table: [((u64, &[Part], u64), Result<(), Mismatch>); 7] = [
         ((3, &[Example], 5), Ok(())),
         // Number 1 fell out.
@@ -60,24 +62,23 @@ fn a_receipt_is_held_against_the_window(rt: HostRuntime) -> Result<(), Fail> {
         ((u64::MAX, &[Example, Example], u64::MAX), Ok(())),
     ];
     for ((first, parts, covered), expected) in table {
-        let receipts = [receipt(rt.alloc(), first, parts, covered)?];
-        assert_eq!(rt;
-            audit(&window, &receipts),
-            expected,
-            "at {first} of {covered}"
-        );
+        let receipts = [receipt(&rt, rt.alloc(), first, parts, covered)];
+        let audited = audit(&window, &receipts);
+        drop(receipts);
+        assert_eq!(rt; audited, expected, "at {first} of {covered}");
     }
-    Ok(())
+    drop(window);
 }
 
 #[test]
-fn each_receipt_is_held_against_the_window(rt: HostRuntime) -> Result<(), Fail> {
-    let window = window(rt.alloc())?;
+fn each_receipt_is_held_against_the_window(rt: HostRuntime) {
+    let window = window(&rt, rt.alloc());
     let receipts = [
-        receipt(rt.alloc(), 2, &[Example, Example], 5)?,
-        receipt(rt.alloc(), 4, &[Lost(7)], 5)?,
+        receipt(&rt, rt.alloc(), 2, &[Example, Example], 5),
+        receipt(&rt, rt.alloc(), 4, &[Lost(7)], 5),
     ];
     assert_eq!(rt; audit(&window, &receipts), Err(Mismatch { number: 4 }));
+    drop(receipts);
     assert_eq!(rt; audit(&window, &[]), Ok(()));
-    Ok(())
+    drop(window);
 }

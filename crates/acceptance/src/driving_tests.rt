@@ -1,6 +1,6 @@
 use crate::tracees_tests::{EXAMPLE, GREATEST, MOMENT, atom, tracee};
 use entry_codec::Entry;
-use intake::{Offer, Tracee};
+use intake::{Counts, Offer, Tracee};
 use std::alloc::Global;
 use std::process::Abort;
 use std::slice;
@@ -27,7 +27,7 @@ fn run_one<P: TracePort>(
     port: &mut P,
     tracee: Tracee,
     steps: &[Step],
-) -> Result<(Vec<Reply>, Tracee), NoMemory> {
+) -> (Result<Vec<Reply>, NoMemory>, Tracee) {
     let mut desk = Desk::new(0, port, PlainBook::new());
     let mut traced = desk.attach(tracee);
     let replies = drive(
@@ -35,10 +35,11 @@ fn run_one<P: TracePort>(
         slice::from_mut(&mut desk),
         slice::from_mut(&mut traced),
         steps,
-    )?;
+    );
     drop(desk);
-    let (tracee, _) = traced.detach();
-    Ok((replies, tracee))
+    let (tracee, account) = traced.detach();
+    drop(account);
+    (replies, tracee)
 }
 
 /// Whether a receipt is that of the tracee's first message, which is covered.
@@ -61,34 +62,26 @@ fn assert_answers(rt: &impl Abort, alloc: Global, replies: &[Reply]) -> Result<(
     }
 }
 
-/// Runs steps at one desk over a file port, of whose device calls the one behind so many may fail.
+/// Runs steps at one desk over a file port, of whose device calls the one behind so many may fail. Answers the replies,
+/// and what the tracee counts.
 fn run_over_a_file(
     rt: &impl Abort,
     alloc: Global,
     fails_after: Option<u64>,
     capacity: u32,
     steps: &[Step],
-) -> Result<(Vec<Reply>, Tracee), Fail> {
-    let mut store = MemStore::blank(alloc, 1)?;
+) -> (Vec<Reply>, Counts) {
+    let mut store = MemStore::blank(alloc, 1).expect(rt, "memory");
     if let Some(calls) = fails_after {
         store.fail_once(calls);
     }
-    let done = run_over(rt, alloc, &mut store, capacity, steps);
-    drop(store);
-    done
-}
-
-fn run_over(
-    rt: &impl Abort,
-    alloc: Global,
-    store: &mut MemStore,
-    capacity: u32,
-    steps: &[Step],
-) -> Result<(Vec<Reply>, Tracee), Fail> {
-    let mut port = FilePort::create(alloc, store, GREATEST)?;
-    let done = run_one(alloc, &mut port, tracee(rt, alloc, capacity), steps);
+    let mut port = FilePort::create(alloc, &mut store, GREATEST).expect(rt, "a port");
+    let (replies, tracee) = run_one(alloc, &mut port, tracee(rt, alloc, capacity), steps);
     drop(port);
-    Ok(done?)
+    drop(store);
+    let counts = tracee.counts();
+    drop(tracee);
+    (replies.expect(rt, "memory"), counts)
 }
 
 #[test]
@@ -98,10 +91,8 @@ fn a_run_answers_each_step(rt: HostRuntime) -> Result<(), Fail> {
         Step::FlushFor { tracee: 0 },
         Step::Flush { desk: 1 },
     ];
-    let done = run_over_a_file(&rt, rt.alloc(), None, 2, &steps);
+    let (replies, _counts) = run_over_a_file(&rt, rt.alloc(), None, 2, &steps);
     drop(steps);
-    let (replies, tracee) = done?;
-    drop(tracee);
     let answered = assert_answers(&rt, rt.alloc(), &replies);
     drop(replies);
     answered
@@ -142,11 +133,8 @@ fn assert_moved(rt: &impl Abort, replies: &[Reply]) -> Result<(), Fail> {
 #[test]
 fn a_refusal_has_the_receipt_of_what_was_moved(rt: HostRuntime) -> Result<(), Fail> {
     let steps = many_steps(rt.alloc())?;
-    let done = run_over_a_file(&rt, rt.alloc(), Some(10), 3, &steps);
+    let (replies, counts) = run_over_a_file(&rt, rt.alloc(), Some(10), 3, &steps);
     drop(steps);
-    let (replies, tracee) = done?;
-    let counts = tracee.counts();
-    drop(tracee);
     assert_eq!(rt; (counts.offered, counts.handed, counts.waiting), (3, 2, 1));
     let moved = assert_moved(&rt, &replies);
     drop(replies);

@@ -1,4 +1,5 @@
 ghost use Rattle.std.specs.Prelude.{◌≡◌, All, IfOk};
+ghost use Rattle.tracees.specs.Books.{no_totals};
 ghost use Rattle.tracees.specs.Jobs.{IsReady};
 ghost use Rattle.tracees.specs.Meanings.{KeepsMeaning};
 
@@ -6,7 +7,7 @@ use crate::tracees_tests::{GREATEST, MOMENT, RECEIVE, atom};
 use entry_codec::Entry;
 use intake::Tracee;
 use recovery::{Recovered, recover};
-use std::alloc::Global;
+use std::alloc::{AllocError, Global};
 use std::marker::Brand;
 use std::process::Abort;
 use std::sync::atomic::{AtomicU64, Ordering};
@@ -19,8 +20,8 @@ use trace_port::{FilePort, PortFault, PortState, Status, TracePort};
 use trace_store::{MemStore, Pick};
 use trace_terms::{Pid, Term};
 use tracees::{
-    Account, Act, ActFault, Desk, Gate, HandFault, Job, JobState, LedgerBook, PARTS, Receipt,
-    SettleFault, Totals, Traced, audit, run_threads, settle,
+    Account, Act, ActFault, Bookkeeping, Desk, Gate, HandFault, Job, JobState, LedgerBook, PARTS,
+    Receipt, SettleFault, SharedBook, Totals, Traced, audit, run_threads, settle,
 };
 use wrap_port::{WrapPort, WrapSpec};
 
@@ -78,32 +79,27 @@ struct Plan {
     abandons: bool,
 }
 
-fn add_acts(rt: &impl Abort, alloc: Global, acts: &mut Vec<Act>, what: &[Do]) -> Result<(), Fail> {
-    for one in what {
-        match *one {
-            Do::Emits(count) => {
-                for _ in 0..count {
-                    let message = Term::Atom(atom(rt, alloc, "ok"));
-                    let event = Event::Receive { message };
-                    acts.push(Act::Emit {
-                        event,
-                        stamp: MOMENT,
-                    })?;
-                }
-            }
-            Do::HandOver(limit) => acts.push(Act::HandOver { limit })?,
-            Do::FlushFor => acts.push(Act::FlushFor)?,
-        }
+fn add_emits(rt: &impl Abort, alloc: Global, acts: &mut Vec<Act>, count: u32) {
+    for _ in 0..count {
+        let message = Term::Atom(atom(rt, alloc, "ok"));
+        let event = Event::Receive { message };
+        let stamp = MOMENT;
+        acts.push(Act::Emit { event, stamp }).expect(rt, "memory");
     }
-    Ok(())
 }
 
-fn acts(rt: &impl Abort, alloc: Global, plan: Plan) -> Result<Vec<Act>, Fail> {
+fn acts(rt: &impl Abort, alloc: Global, plan: Plan) -> Vec<Act> {
     let mut acts = Vec::new(alloc);
     for _ in 0..plan.times {
-        add_acts(rt, alloc, &mut acts, plan.acts)?;
+        for one in plan.acts {
+            match *one {
+                Do::Emits(count) => add_emits(rt, alloc, &mut acts, count),
+                Do::HandOver(limit) => acts.push(Act::HandOver { limit }).expect(rt, "memory"),
+                Do::FlushFor => acts.push(Act::FlushFor).expect(rt, "memory"),
+            }
+        }
     }
-    Ok(acts)
+    acts
 }
 
 /// What is known at the end: the receipts of all jobs, the sums of their accounts and what the port has done.
@@ -114,49 +110,129 @@ struct End {
     status: Status,
 }
 
-fn job<F: Ledger + Send, U: Ledger + Send, D: Ledger + Send, N: Ledger + Send, R: Abort>(
-    rt: &R,
-    alloc: Global,
-    traced: Traced<LedgerBook<F, U, D, N>>,
-    plan: Plan,
-) -> Result<Job<LedgerBook<F, U, D, N>>, Fail>
-    ensures { IfOk result (λ job. IsReady job) }
+fn job<K: Bookkeeping>(rt: &impl Abort, alloc: Global, traced: Traced<K>, plan: Plan) -> Job<K>
+    ensures { IsReady result }
 {
-    let acts = acts(rt, alloc, plan)?;
-    if acts.len() > u32::MAX as usize {
-        return Err("too many acts".into());
-    }
-    Ok(Job::new(alloc, traced, acts))
+    let acts = acts(rt, alloc, plan);
+    assert!(rt; acts.len() <= u32::MAX as usize);
+    Job::new(alloc, traced, acts)
 }
 
 /// The jobs of a plan, over one desk.
-fn jobs<
-    F: Ledger + Send,
-    U: Ledger + Send,
-    D: Ledger + Send,
-    N: Ledger + Send,
-    P: TracePort,
-    R: Abort,
->(
-    rt: &R,
+fn jobs<P: TracePort, K: Bookkeeping>(
+    rt: &impl Abort,
     alloc: Global,
-    desk: &mut Desk<'_, P, LedgerBook<F, U, D, N>>,
+    desk: &mut Desk<'_, P, K>,
     plan: Plan,
-) -> Result<Vec<Job<LedgerBook<F, U, D, N>>>, Fail>
+) -> Result<Vec<Job<K>>, AllocError>
     ensures { IfOk result (λ jobs. All (λ job. IsReady job) jobs.items) }
 {
     let mut jobs = Vec::new(alloc);
     for number in 0..plan.jobs {
-        if desk.attached() == u32::MAX {
-            return Err("too many tracees".into());
-        }
+        assert!(rt; desk.attached() != u32::MAX);
         let traced = desk.attach(tracee(rt, alloc, number, plan.capacity));
-        jobs.push(job(rt, alloc, traced, plan)?)?;
+        let job = job(rt, alloc, traced, plan);
+        jobs.push(job)?;
     }
     Ok(jobs)
 }
 
+/// The receipts of a job that has finished, and the account of its tracee.
+fn finished_one<K: Bookkeeping>(rt: &impl Abort, job: Job<K>) -> (Vec<Receipt>, Account<K>) {
+    let Job {
+        traced,
+        acts,
+        receipts,
+        state,
+    } = job;
+    drop(acts);
+    assert!(rt; matches!(&state, JobState::Finished));
+    drop(state);
+    let (tracee, account) = traced.detach();
+    drop(tracee);
+    (receipts, account)
+}
+
+/// The receipts of jobs, which have all finished, and the accounts of their tracees.
+fn finished<K: Bookkeeping>(
+    rt: &impl Abort,
+    alloc: Global,
+    jobs: Vec<Job<K>>,
+) -> (Vec<Vec<Receipt>>, Vec<Account<K>>) {
+    let mut receipts = Vec::new(alloc);
+    let mut accounts = Vec::new(alloc);
+    for job in jobs {
+        let (given, account) = finished_one(rt, job);
+        receipts.push(given).expect(rt, "memory");
+        accounts.push(account).expect(rt, "memory");
+    }
+    (receipts, accounts)
+}
+
+/// A desk, and the sums of its accounts, of which none is missing.
+fn sums_of<'p, P: TracePort, K: SharedBook>(
+    rt: &impl Abort,
+    desk: Desk<'p, P, K>,
+    accounts: Vec<Account<K>>,
+) -> (Desk<'p, P, K>, Totals) {
+    match settle(desk, accounts) {
+        Ok(settled) => settled,
+        Err(SettleFault::Missing { desk, accounts }) => {
+            drop(desk);
+            drop(accounts);
+            panic!(rt; "an account is missing")
+        }
+    }
+}
+
+/// Runs the jobs of a plan on threads, over one desk, which comes back with them.
+fn run_jobs<'p, P: TracePort, K: SharedBook, G: Gate, R: Threads + Wait + Abort + Sync>(
+    rt: &R,
+    alloc: Global,
+    mut desk: Desk<'p, P, K>,
+    plan: Plan,
+    gate: &G,
+) -> (Desk<'p, P, K>, Vec<Job<K>>) {
+    let mut jobs = jobs(rt, alloc, &mut desk, plan).expect(rt, "memory");
+    let desk = Mutex::new(desk);
+    assert!(rt; run_threads(rt, alloc, &desk, jobs.as_mut_slice(), gate).is_ok());
+    (desk.into_inner(), jobs)
+}
+
 /// Runs the jobs of a plan on threads, over one desk, and settles their accounts.
+fn run_by<P: TracePort, K: SharedBook, R: Threads + Wait + Abort + Sync>(
+    rt: &R,
+    alloc: Global,
+    port: &mut P,
+    book: K,
+    plan: Plan,
+) -> End
+    requires totals { K.totals_of book ≡ no_totals }
+    requires fits { KeepsMeaning (P.told port.old) }
+{
+    let gate = Meeting {
+        jobs: u64::from(plan.jobs),
+        come: AtomicU64::new(0),
+    };
+    let desk = Desk::new(7, port, book);
+    let (desk, jobs) = run_jobs(rt, alloc, desk, plan, &gate);
+    drop(gate);
+    let status = desk.status();
+    let (receipts, accounts) = finished(rt, alloc, jobs);
+    let (mut desk, totals) = sums_of(rt, desk, accounts);
+    if plan.abandons {
+        desk.abandon();
+    }
+    drop(desk);
+    End {
+        receipts,
+        totals,
+        status,
+    }
+}
+
+/// The same over a book of ledgers. Only its type is known where the jobs are run: so its parts, which are many, aren't
+/// looked at there.
 fn run<
     F: Ledger + Send,
     U: Ledger + Send,
@@ -173,7 +249,7 @@ fn run<
     unflushed: Blank,
     drops: Blank,
     accounts: Blank,
-) -> Result<End, Fail>
+) -> End
     requires flushed { (flushed.name ≡ F.name) × (flushed.parts ≡ F.parts) × (flushed.parts ≡ PARTS) }
     requires unflushed { (unflushed.name ≡ U.name) × (unflushed.parts ≡ U.parts) × (unflushed.parts ≡ PARTS) }
     requires drops { (drops.name ≡ D.name) × (drops.parts ≡ D.parts) × (drops.parts ≡ PARTS) }
@@ -181,67 +257,17 @@ fn run<
     requires fits { KeepsMeaning (P.told port.old) }
 {
     let book: LedgerBook<F, U, D, N> = LedgerBook::new(flushed, unflushed, drops, accounts);
-    let mut desk = Desk::new(7, port, book);
-    let mut jobs = jobs(rt, alloc, &mut desk, plan)?;
-    let desk = Mutex::new(desk);
-    let gate = Meeting {
-        jobs: u64::from(plan.jobs),
-        come: AtomicU64::new(0),
-    };
-    run_threads(rt, alloc, &desk, jobs.as_mut_slice(), &gate)?;
-    let desk = desk.into_inner();
-    let status = desk.status();
-    let (receipts, accounts) = finished(rt, alloc, jobs)?;
-    match settle(desk, accounts) {
-        Ok((mut desk, totals)) => {
-            if plan.abandons {
-                desk.abandon();
-            }
-            Ok(End {
-                receipts,
-                totals,
-                status,
-            })
-        }
-        Err(
-            SettleFault::Missing {
-                desk: _,
-                accounts: _,
-            },
-        ) => Err("an account is missing".into()),
-    }
+    run_by(rt, alloc, port, book, plan)
 }
 
-/// The receipts of jobs, which have all finished, and the accounts of their tracees.
-fn finished<F: Ledger + Send, U: Ledger + Send, D: Ledger + Send, N: Ledger + Send, R: Abort>(
-    rt: &R,
-    alloc: Global,
-    jobs: Vec<Job<LedgerBook<F, U, D, N>>>,
-) -> Result<(Vec<Vec<Receipt>>, Vec<Account<LedgerBook<F, U, D, N>>>), Fail> {
-    let mut receipts = Vec::new(alloc);
-    let mut accounts = Vec::new(alloc);
-    for job in jobs {
-        let Job {
-            traced,
-            acts: _,
-            receipts: given,
-            state,
-        } = job;
-        assert!(rt; matches!(state, JobState::Finished));
-        receipts.push(given)?;
-        accounts.push(traced.detach().1)?;
-    }
-    Ok((receipts, accounts))
-}
-
-/// A plan over a file port, and what its store has behind it.
+/// What a plan over a file port comes to.
 fn over_a_file<R: Threads + Wait + Abort + Sync>(
     rt: &R,
     alloc: Global,
+    store: &mut MemStore,
     plan: Plan,
-) -> Result<(End, Recovered), Fail> {
-    let mut store = MemStore::blank(alloc, 1)?;
-    let mut port = FilePort::create(alloc, &mut store, GREATEST)?;
+) -> Result<End, Fail> {
+    let mut port = FilePort::create(alloc, store, GREATEST)?;
     let end = run::<Brand, Brand, Brand, Brand, _, _>(
         rt,
         alloc,
@@ -251,17 +277,43 @@ fn over_a_file<R: Threads + Wait + Abort + Sync>(
         Blank::new(PARTS),
         Blank::new(PARTS),
         Blank::new(PARTS),
-    )?;
+    );
     drop(port);
-    let found = recover(alloc, &mut store)?;
+    Ok(end)
+}
+
+/// Each job's receipts are held against what is recovered.
+fn assert_audited(rt: &impl Abort, end: &End, found: &Recovered) {
     for receipts in &end.receipts {
-        assert_eq!(rt; audit(&found, receipts.as_slice()), Ok(()));
+        assert_eq!(rt; audit(found, receipts.as_slice()), Ok(()));
     }
-    Ok((end, found))
+}
+
+/// A plan over a file port, and how many entries its store has behind it.
+fn recovered_behind<R: Threads + Wait + Abort + Sync>(
+    rt: &R,
+    alloc: Global,
+    plan: Plan,
+) -> Result<(End, usize), Fail> {
+    let mut store = MemStore::blank(alloc, 1)?;
+    let end = over_a_file(rt, alloc, &mut store, plan)?;
+    let found = recover(alloc, &mut store).expect(rt, "a trace");
+    drop(store);
+    assert_audited(rt, &end, &found);
+    let entries = found.entries.len();
+    drop(found);
+    Ok((end, entries))
 }
 
 fn assert_sums(rt: &impl Abort, sums: Totals, expected: [u64; 3]) {
     assert_eq!(rt; [sums.messages, sums.drops, sums.flushed], expected);
+}
+
+/// These are one receipt of one entry, which is covered.
+fn assert_flushed(rt: &impl Abort, receipts: &[Receipt]) {
+    assert_eq!(rt; receipts.len(), 1);
+    assert_eq!(rt; receipts[0].entries.len(), 1);
+    assert!(rt; receipts[0].covered > receipts[0].first);
 }
 
 /// Each of the jobs waits for the other, so both are on their way at once.
@@ -274,16 +326,24 @@ fn two_jobs_meet(rt: HostRuntime) -> Result<(), Fail> {
         acts: &[Do::Emits(1), Do::FlushFor],
         abandons: false,
     };
-    let (end, found) = over_a_file(&rt, rt.alloc(), plan)?;
+    let (end, entries) = recovered_behind(&rt, rt.alloc(), plan)?;
     assert_sums(&rt, end.totals, [2, 0, 2]);
     assert_eq!(rt; end.status.covered, 2);
-    assert_eq!(rt; found.entries.len(), 2);
+    assert_eq!(rt; entries, 2);
     for receipts in &end.receipts {
-        assert_eq!(rt; receipts.len(), 1);
-        assert_eq!(rt; receipts[0].entries.len(), 1);
-        assert!(rt; receipts[0].covered > receipts[0].first);
+        assert_flushed(&rt, receipts.as_slice());
     }
+    drop(end);
     Ok(())
+}
+
+/// These are a receipt of one message, and one of a Drop.
+fn assert_message_and_drop(rt: &impl Abort, receipts: &[Receipt]) {
+    assert_eq!(rt; receipts.len(), 2);
+    assert_eq!(rt; receipts[0].entries.len(), 1);
+    assert!(rt; matches!(&receipts[0].entries[0], Entry::Message(_)));
+    assert_eq!(rt; receipts[1].entries.len(), 1);
+    assert!(rt; matches!(&receipts[1].entries[0], Entry::Drop(1)));
 }
 
 #[test]
@@ -295,16 +355,13 @@ fn four_jobs_meet(rt: HostRuntime) -> Result<(), Fail> {
         acts: &[Do::Emits(2), Do::HandOver(1), Do::FlushFor],
         abandons: false,
     };
-    let (end, found) = over_a_file(&rt, rt.alloc(), plan)?;
+    let (end, entries) = recovered_behind(&rt, rt.alloc(), plan)?;
     assert_sums(&rt, end.totals, [4, 4, 4]);
-    assert_eq!(rt; found.entries.len(), 8);
+    assert_eq!(rt; entries, 8);
     for receipts in &end.receipts {
-        assert_eq!(rt; receipts.len(), 2);
-        assert_eq!(rt; receipts[0].entries.len(), 1);
-        assert!(rt; matches!(receipts[0].entries[0], Entry::Message(_)));
-        assert_eq!(rt; receipts[1].entries.len(), 1);
-        assert!(rt; matches!(receipts[1].entries[0], Entry::Drop(1)));
+        assert_message_and_drop(&rt, receipts.as_slice());
     }
+    drop(end);
     Ok(())
 }
 
@@ -343,7 +400,7 @@ fn rush_over_a_wrap<R: Threads + Wait + Abort + Sync>(
 ) -> Result<End, Fail> {
     let spec = WrapSpec::standard();
     let mut port = WrapPort::create(alloc, store, spec)?;
-    run::<Brand, Brand, Brand, Brand, _, _>(
+    let end = run::<Brand, Brand, Brand, Brand, _, _>(
         rt,
         alloc,
         &mut port,
@@ -352,7 +409,18 @@ fn rush_over_a_wrap<R: Threads + Wait + Abort + Sync>(
         Blank::new(PARTS),
         Blank::new(PARTS),
         Blank::new(PARTS),
-    )
+    );
+    drop(port);
+    Ok(end)
+}
+
+fn assert_rush_is_told(rt: &impl Abort, end: &End) {
+    assert_sums(rt, end.totals, [80_000, 20_000, 80_000]);
+    assert_eq!(rt; named(end.receipts.as_slice()), [80_000, 20_000, 80_080]);
+    assert_eq!(rt; end.status.accepted, 80_080);
+    assert_eq!(rt; end.status.dropped, 20_000);
+    assert_eq!(rt; end.status.covered, 80_080);
+    assert_eq!(rt; end.status.state, PortState::Live);
 }
 
 /// The sums of the accounts, the port's counts, the receipts and what is recovered behind a crash tell the same.
@@ -361,22 +429,15 @@ fn four_jobs_agree_with_what_is_recovered(rt: HostRuntime) -> Result<(), Fail> {
     let alloc = rt.alloc();
     let mut store = MemStore::blank(alloc, 9)?;
     let end = rush_over_a_wrap(&rt, alloc, &mut store)?;
-    store.crash(Pick::Kept)?;
-    let found = recover(alloc, &mut store)?;
-    assert_sums(&rt, end.totals, [80_000, 20_000, 80_000]);
-    assert_eq!(rt; named(end.receipts.as_slice()), [80_000, 20_000, 80_080]);
-    assert_eq!(rt; end.status.accepted, 80_080);
-    assert_eq!(rt; end.status.dropped, 20_000);
-    assert_eq!(rt; end.status.covered, 80_080);
-    assert_eq!(rt; end.status.state, PortState::Live);
+    assert!(rt; store.crash(Pick::Kept).is_ok());
+    let found = recover(alloc, &mut store).expect(&rt, "a trace");
+    drop(store);
+    assert_rush_is_told(&rt, &end);
     assert_eq!(rt; found.total(), 80_080);
     assert_eq!(rt; found.drops(), 20_000);
-    for receipts in &end.receipts {
-        assert_eq!(rt; audit(&found, receipts.as_slice()), Ok(()));
-    }
+    assert_audited(&rt, &end, &found);
     drop(end);
     drop(found);
-    drop(store);
     Ok(())
 }
 
@@ -393,7 +454,52 @@ impl Gate for Until {
     fn after(&self, _tracee: u32, _act: u32) {}
 }
 
+/// How far the one job came that was run, and how many receipts it has.
+fn only<K: Bookkeeping>(rt: &impl Abort, mut jobs: Vec<Job<K>>) -> (JobState, usize) {
+    let job = jobs.pop().expect(rt, "a job");
+    drop(jobs);
+    let Job {
+        traced,
+        acts,
+        receipts,
+        state,
+    } = job;
+    drop(traced);
+    drop(acts);
+    let count = receipts.len();
+    drop(receipts);
+    (state, count)
+}
+
 /// One job over a desk that may be sealed: how far it came, and how many receipts it has.
+fn run_one_by<P: TracePort, K: SharedBook, R: Threads + Wait + Abort + Sync>(
+    rt: &R,
+    alloc: Global,
+    port: &mut P,
+    book: K,
+    gate: &Until,
+    seals: bool,
+) -> (JobState, usize)
+    requires totals { K.totals_of book ≡ no_totals }
+    requires fits { KeepsMeaning (P.told port.old) }
+{
+    let plan = Plan {
+        jobs: 1,
+        capacity: 1,
+        times: 1,
+        acts: &[Do::Emits(1), Do::HandOver(1), Do::FlushFor],
+        abandons: false,
+    };
+    let mut desk = Desk::new(7, port, book);
+    if seals {
+        assert_eq!(rt; desk.seal(), Ok(()));
+    }
+    let (desk, jobs) = run_jobs(rt, alloc, desk, plan, gate);
+    drop(desk);
+    only(rt, jobs)
+}
+
+/// The same over a book of ledgers.
 fn run_one<
     F: Ledger + Send,
     U: Ledger + Send,
@@ -411,40 +517,15 @@ fn run_one<
     unflushed: Blank,
     drops: Blank,
     accounts: Blank,
-) -> Result<(JobState, usize), Fail>
+) -> (JobState, usize)
     requires flushed { (flushed.name ≡ F.name) × (flushed.parts ≡ F.parts) × (flushed.parts ≡ PARTS) }
     requires unflushed { (unflushed.name ≡ U.name) × (unflushed.parts ≡ U.parts) × (unflushed.parts ≡ PARTS) }
     requires drops { (drops.name ≡ D.name) × (drops.parts ≡ D.parts) × (drops.parts ≡ PARTS) }
     requires accounts { (accounts.name ≡ N.name) × (accounts.parts ≡ N.parts) × (accounts.parts ≡ PARTS) }
     requires fits { KeepsMeaning (P.told port.old) }
 {
-    let plan = Plan {
-        jobs: 1,
-        capacity: 1,
-        times: 1,
-        acts: &[Do::Emits(1), Do::HandOver(1), Do::FlushFor],
-        abandons: false,
-    };
     let book: LedgerBook<F, U, D, N> = LedgerBook::new(flushed, unflushed, drops, accounts);
-    let mut desk = Desk::new(7, port, book);
-    if seals {
-        assert_eq!(rt; desk.seal(), Ok(()));
-    }
-    let mut jobs = jobs(rt, alloc, &mut desk, plan)?;
-    let desk = Mutex::new(desk);
-    run_threads(rt, alloc, &desk, jobs.as_mut_slice(), gate)?;
-    match jobs.pop() {
-        None => Err("no job".into()),
-        Some(job) => {
-            let Job {
-                traced: _,
-                acts: _,
-                receipts,
-                state,
-            } = job;
-            Ok((state, receipts.len()))
-        }
-    }
+    run_one_by(rt, alloc, port, book, gate, seals)
 }
 
 fn one_over_a_file<R: Threads + Wait + Abort + Sync>(
@@ -455,7 +536,7 @@ fn one_over_a_file<R: Threads + Wait + Abort + Sync>(
 ) -> Result<(JobState, usize), Fail> {
     let mut store = MemStore::blank(alloc, 1)?;
     let mut port = FilePort::create(alloc, &mut store, GREATEST)?;
-    run_one::<Brand, Brand, Brand, Brand, _, _>(
+    let ended = run_one::<Brand, Brand, Brand, Brand, _, _>(
         rt,
         alloc,
         &mut port,
@@ -465,26 +546,37 @@ fn one_over_a_file<R: Threads + Wait + Abort + Sync>(
         Blank::new(PARTS),
         Blank::new(PARTS),
         Blank::new(PARTS),
-    )
+    );
+    drop(port);
+    drop(store);
+    Ok(ended)
+}
+
+/// A job whose hand-over found the port sealed.
+fn assert_refused(rt: &impl Abort, state: &JobState) {
+    match state {
+        JobState::Failed {
+            act,
+            fault: ActFault::Hand(HandFault::Port { fault, receipt }),
+        } => {
+            assert_eq!(rt; *act, 1);
+            assert_eq!(rt; *fault, PortFault::Sealed);
+            assert_eq!(rt; receipt.entries.len(), 0);
+        }
+        _ => panic!(rt; "another end"),
+    }
 }
 
 #[test]
 fn a_job_ends_where_it_is_shut_or_refused(rt: HostRuntime) -> Result<(), Fail> {
     let alloc = rt.alloc();
     let (state, receipts) = one_over_a_file(&rt, alloc, &Until { act: 2 }, false)?;
-    assert!(rt; matches!(state, JobState::Shut { act: 2 }));
+    assert!(rt; matches!(&state, JobState::Shut { act: 2 }));
     assert_eq!(rt; receipts, 1);
+    drop(state);
     let (state, receipts) = one_over_a_file(&rt, alloc, &Until { act: 9 }, true)?;
-    let JobState::Failed {
-        act,
-        fault: ActFault::Hand(HandFault::Port { fault, receipt }),
-    } = state
-    else {
-        return Err("another end".into());
-    };
-    assert_eq!(rt; act, 1);
-    assert_eq!(rt; fault, PortFault::Sealed);
-    assert_eq!(rt; receipt.entries.len(), 0);
+    assert_refused(&rt, &state);
     assert_eq!(rt; receipts, 0);
+    drop(state);
     Ok(())
 }

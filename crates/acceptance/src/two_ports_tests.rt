@@ -1,18 +1,20 @@
-ghost use Rattle.std.specs.Prelude.{◌≡◌, IfOk};
+ghost use Rattle.std.specs.Prelude.{◌≡◌};
 
+use crate::tracees_tests::{GREATEST, RECEIVE, atom};
 use entry_codec::Entry;
 use intake::{Offer, Tracee};
-use recovery::{Recovered, recover};
+use recovery::recover;
 use std::alloc::Global;
+use std::process::Abort;
 use std::test::*;
-use trace_message::{Event, Flags, Stamp};
+use trace_message::{Event, Stamp};
 use trace_port::{FilePort, TracePort};
 use trace_store::MemStore;
-use trace_terms::{Atom, Pid, Term};
-use tracees::{Desk, EitherPort, PlainBook, Receipt, Reply, Step, Traced, audit, drive};
+use trace_terms::{NoMemory, Pid, Term};
+use tracees::{
+    Bookkeeping, Desk, EitherPort, PlainBook, Receipt, Reply, Step, Traced, audit, drive,
+};
 use wrap_port::{WrapPort, WrapSpec};
-
-const GREATEST: u64 = 1_099_511_627_776;
 
 /// What is to be replied to a step. Of a receipt: the desk, the tracee, the number of the first entry, how many messages
 /// each entry tells as lost, and what is covered.
@@ -26,103 +28,129 @@ enum Expected {
 }
 
 /// A tracee of this number whose receipts are asked for, with room for two messages.
-fn tracee(alloc: Global, number: u32) -> Result<Tracee, Fail> {
+fn tracee(rt: &impl Abort, alloc: Global, number: u32) -> Tracee {
     let pid = Pid {
-        node: Atom::new(alloc, "nonode@nohost")?,
+        node: atom(rt, alloc, "nonode@nohost"),
         id: number,
         serial: 0,
         creation: 0,
     };
-    let flags = Flags {
-        call: false,
-        send: false,
-        receive: true,
-        arity: false,
-        timestamp: false,
-        monotonic: false,
-    };
-    Ok(Tracee::new(alloc, number, pid, flags, 2, 100)?)
+    Tracee::new(alloc, number, pid, RECEIVE, 2, 100).expect(rt, "a tracee")
 }
 
 /// The tracee at this place receives the atom `ok`.
-fn receives(alloc: Global, tracee: u32) -> Result<Step, Fail> {
-    let message = Term::Atom(Atom::new(alloc, "ok")?);
+fn receives(rt: &impl Abort, alloc: Global, tracee: u32) -> Step {
+    let message = Term::Atom(atom(rt, alloc, "ok"));
     let stamp = Stamp {
         mega: 0,
         sec: 0,
         micro: 0,
         mono: 0,
     };
-    Ok(Step::Emit {
+    Step::Emit {
         tracee,
         event: Event::Receive { message },
         stamp,
-    })
+    }
 }
 
 /// Attaches a tracee whose number is its place.
-fn attach_one<P: TracePort>(
+fn attach_one<P: TracePort, K: Bookkeeping>(
+    rt: &impl Abort,
     alloc: Global,
-    desk: &mut Desk<'_, P, PlainBook>,
-    traced: &mut Vec<Traced<PlainBook>>,
-) -> Result<(), Fail>
+    desk: &mut Desk<'_, P, K>,
+    traced: &mut Vec<Traced<K>>,
+)
     ensures { desk.new.number ≡ desk.old.number }
 {
-    if desk.attached() == u32::MAX {
-        return Err("no account is left".into());
-    }
-    let number = u32::try_from(traced.len())?;
-    traced.push(desk.attach(tracee(alloc, number)?))?;
-    Ok(())
+    assert!(rt; desk.attached() != u32::MAX);
+    let number = u32::try_from(traced.len()).expect(rt, "a number");
+    let one = desk.attach(tracee(rt, alloc, number));
+    traced.push(one).expect(rt, "memory");
 }
 
 /// A desk with its tracees: two at the desk 0, and one at another.
 fn opened<'p, P: TracePort>(
+    rt: &impl Abort,
     alloc: Global,
     number: u32,
     port: &'p mut P,
     traced: &mut Vec<Traced<PlainBook>>,
-) -> Result<Desk<'p, P, PlainBook>, Fail>
-    ensures { IfOk result (λ desk. desk.number ≡ number) }
+) -> Desk<'p, P, PlainBook>
+    ensures { result.number ≡ number }
 {
     let mut desk = Desk::new(number, port, PlainBook::new());
     if number == 0 {
-        attach_one(alloc, &mut desk, traced)?;
+        attach_one(rt, alloc, &mut desk, traced);
     }
-    attach_one(alloc, &mut desk, traced)?;
-    Ok(desk)
+    attach_one(rt, alloc, &mut desk, traced);
+    desk
 }
 
 /// Steps over a desk for each port, numbered in their order.
 fn run_all<P: TracePort>(
+    rt: &impl Abort,
     alloc: Global,
     ports: &mut [P],
     steps: &[Step],
-) -> Result<Vec<Reply>, Fail> {
+) -> Result<Vec<Reply>, NoMemory> {
     let mut desks = Vec::new(alloc);
     let mut traced = Vec::new(alloc);
     let each = ports.iter_mut();
     for port in each {
-        let number = u32::try_from(desks.len())?;
-        let desk = opened(alloc, number, port, &mut traced)?;
-        desks.push(desk)?;
+        let number = u32::try_from(desks.len()).expect(rt, "a number");
+        let desk = opened(rt, alloc, number, port, &mut traced);
+        desks.push(desk).expect(rt, "memory");
     }
-    Ok(drive(alloc, &mut desks, &mut traced, steps)?)
+    let replies = drive(alloc, &mut desks, &mut traced, steps);
+    drop(traced);
+    drop(desks);
+    replies
+}
+
+/// The same over a port of each kind.
+fn run_each<F: TracePort, W: TracePort>(
+    rt: &impl Abort,
+    alloc: Global,
+    file: &mut F,
+    wrap: &mut W,
+    steps: &[Step],
+) -> Vec<Reply> {
+    let mut ports = Vec::new(alloc);
+    ports.push(EitherPort::file(file)).expect(rt, "memory");
+    ports.push(EitherPort::wrap(wrap)).expect(rt, "memory");
+    let replies = run_all(rt, alloc, ports.as_mut_slice(), steps);
+    drop(ports);
+    replies.expect(rt, "memory")
+}
+
+/// The same over this port and a wrap port, whose drop finishes it.
+fn run_beside_a_wrap<F: TracePort>(
+    rt: &impl Abort,
+    alloc: Global,
+    file: &mut F,
+    wrap_store: &mut MemStore,
+    steps: &[Step],
+) -> Vec<Reply> {
+    let spec = WrapSpec::new(100, 2).expect(rt, "a lawful specification");
+    let mut wrap = WrapPort::create(alloc, wrap_store, spec).expect(rt, "a wrap");
+    let replies = run_each(rt, alloc, file, &mut wrap, steps);
+    drop(wrap);
+    replies
 }
 
 /// The same over a file port and a wrap port, whose drops finish them.
 fn run_both(
+    rt: &impl Abort,
     alloc: Global,
     file_store: &mut MemStore,
     wrap_store: &mut MemStore,
     steps: &[Step],
-) -> Result<Vec<Reply>, Fail> {
-    let mut file = FilePort::create(alloc, file_store, GREATEST)?;
-    let mut wrap = WrapPort::create(alloc, wrap_store, WrapSpec::new(100, 2)?)?;
-    let mut ports = Vec::new(alloc);
-    ports.push(EitherPort::file(&mut file))?;
-    ports.push(EitherPort::wrap(&mut wrap))?;
-    run_all(alloc, &mut ports, steps)
+) -> Vec<Reply> {
+    let mut file = FilePort::create(alloc, file_store, GREATEST).expect(rt, "a file");
+    let replies = run_beside_a_wrap(rt, alloc, &mut file, wrap_store, steps);
+    drop(file);
+    replies
 }
 
 fn is_as_expected(reply: &Reply, expected: Expected) -> bool {
@@ -140,46 +168,43 @@ fn is_as_expected(reply: &Reply, expected: Expected) -> bool {
     }
 }
 
+/// Puts the receipt of a desk, where that is what was replied, behind those of the same desk.
+fn put_receipt(rt: &impl Abort, reply: Reply, first: &mut Vec<Receipt>, second: &mut Vec<Receipt>) {
+    if let Reply::Receipt(receipt) = reply {
+        let receipts = if receipt.desk == 0 { first } else { second };
+        receipts.push(receipt).expect(rt, "memory");
+    }
+}
+
 /// The receipts of each of the two desks.
-fn receipts(alloc: Global, replies: Vec<Reply>) -> Result<[Vec<Receipt>; 2], Fail> {
+fn receipts(rt: &impl Abort, alloc: Global, replies: Vec<Reply>) -> (Vec<Receipt>, Vec<Receipt>) {
     let mut first = Vec::new(alloc);
     let mut second = Vec::new(alloc);
     for reply in replies {
-        if let Reply::Receipt(receipt) = reply {
-            let receipts = if receipt.desk == 0 {
-                &mut first
-            } else {
-                &mut second
-            };
-            receipts.push(receipt)?;
-        }
+        put_receipt(rt, reply, &mut first, &mut second);
     }
-    Ok([first, second])
+    (first, second)
 }
 
-/// How many entries there are, and whether a seal ended them.
-fn left(window: &Recovered) -> (usize, bool) {
-    (window.entries.len(), window.sealed)
-}
-
-fn steps(alloc: Global) -> Result<Vec<Step>, Fail> {
+fn steps(rt: &impl Abort, alloc: Global) -> Vec<Step> {
     let hand_over = |tracee| Step::HandOver { tracee, limit: 9 };
     let flush_for = |tracee| Step::FlushFor { tracee };
-    Ok(vec![in alloc;
-        receives(alloc, 0)?,
-        receives(alloc, 1)?,
-        receives(alloc, 2)?,
+    let steps = [
+        receives(rt, alloc, 0),
+        receives(rt, alloc, 1),
+        receives(rt, alloc, 2),
         hand_over(0),
         flush_for(2),
         flush_for(1),
-        receives(alloc, 2)?,
-        receives(alloc, 2)?,
-        receives(alloc, 2)?,
+        receives(rt, alloc, 2),
+        receives(rt, alloc, 2),
+        receives(rt, alloc, 2),
         flush_for(2),
         Step::Flush { desk: 1 },
         Step::Seal { desk: 0 },
         hand_over(3),
-    ]?)
+    ];
+    Vec::from_array(alloc, steps).expect(rt, "memory")
 }
 
 const EXPECTED: [Expected; 13] = [
@@ -198,22 +223,45 @@ const EXPECTED: [Expected; 13] = [
     Expected::Unknown,
 ];
 
-#[test]
-fn desks_over_ports_of_two_kinds_take_steps_in_order(rt: HostRuntime) -> Result<(), Fail> {
-    let alloc = rt.alloc();
-    let mut file_store = MemStore::blank(alloc, 1)?;
-    let mut wrap_store = MemStore::blank(alloc, 3)?;
-    let replies = run_both(alloc, &mut file_store, &mut wrap_store, &steps(alloc)?)?;
+fn assert_expected(rt: &impl Abort, replies: &[Reply]) {
     assert_eq!(rt; replies.len(), EXPECTED.len());
     for (place, (reply, expected)) in replies.iter().zip(EXPECTED).enumerate() {
         assert!(rt; is_as_expected(reply, expected), "at {place}: {reply:?}");
     }
-    let [file_receipts, wrap_receipts] = receipts(alloc, replies)?;
-    let file_window = recover(alloc, &mut file_store)?;
-    assert_eq!(rt; left(&file_window), (2, true));
-    assert_eq!(rt; audit(&file_window, &file_receipts), Ok(()));
-    let wrap_window = recover(alloc, &mut wrap_store)?;
-    assert!(rt; wrap_window.sealed);
-    assert_eq!(rt; audit(&wrap_window, &wrap_receipts), Ok(()));
-    Ok(())
+}
+
+/// How many entries are left of which these are receipts, and whether a seal ended them.
+fn left(
+    rt: &impl Abort,
+    alloc: Global,
+    store: &mut MemStore,
+    receipts: &[Receipt],
+) -> (usize, bool) {
+    let window = recover(alloc, store).expect(rt, "a trace");
+    assert_eq!(rt; audit(&window, receipts), Ok(()));
+    let left = (window.entries.len(), window.sealed);
+    drop(window);
+    left
+}
+
+#[test]
+fn desks_over_ports_of_two_kinds_take_steps_in_order(rt: HostRuntime) {
+    let alloc = rt.alloc();
+    let steps = steps(&rt, alloc);
+    let mut file_store = MemStore::blank(alloc, 1).expect(&rt, "memory");
+    let mut wrap_store = MemStore::blank(alloc, 3).expect(&rt, "memory");
+    let replies = run_both(&rt, alloc, &mut file_store, &mut wrap_store, &steps);
+    drop(steps);
+    assert_expected(&rt, &replies);
+    let (file_receipts, wrap_receipts) = receipts(&rt, alloc, replies);
+    assert_eq!(rt;
+        left(&rt, alloc, &mut file_store, &file_receipts),
+        (2, true)
+    );
+    let (_, sealed) = left(&rt, alloc, &mut wrap_store, &wrap_receipts);
+    assert!(rt; sealed);
+    drop(file_receipts);
+    drop(wrap_receipts);
+    drop(wrap_store);
+    drop(file_store);
 }

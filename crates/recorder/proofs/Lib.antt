@@ -5,6 +5,7 @@ pub mod Misplaced
 pub mod Parts
 pub mod Placing
 pub mod Running
+pub mod Simulating
 pub mod Starting
 pub mod Storing
 pub mod Turning

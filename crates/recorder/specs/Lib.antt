@@ -13,3 +13,4 @@ pub mod Parts
 pub mod Importing
 pub mod Files
 pub mod Complaints
+pub mod Simulated

@@ -1,7 +1,18 @@
 // A script over a store in memory.
-ghost use Rattle.std.specs.Prelude.{◌<◌, ◌≤◌, length};
+ghost use Rattle.std.specs.Prelude.{◌≡◌, ◌≢◌, ◌<◌, ◌≤◌, ℕ, List, length, OnOk, IfErr};
+ghost use Rattle.std.specs.Io.KnownBytes.{Appends};
 ghost use Rattle.trace_store.specs.MemStore.{reads_of};
 ghost use Rattle.trace_script.specs.Lines.{IsWithinLimits, HasFile};
+ghost use Rattle.segment.specs.Specification.{Spec, File};
+ghost use Rattle.wrap_port.specs.WrapSpecs.{wrap_seen};
+ghost use Rattle.recorder.specs.Simulated.{ended_so, ComesOf, Crashes, Does, DoesAlone, Runs, IsOver, IsItsFault, OnlyLooked};
+ghost use Rattle.recorder.specs.Texts.{line_of};
+ghost use Rattle.trace_port.specs.declared.create.CreateFault.TheVariants as creating;
+ghost use Rattle.recorder.specs.declared.fault.SimFault.TheVariants as faults;
+ghost use Rattle.recorder.specs.declared.refusal.Refusal.TheVariants as refusals;
+ghost use Rattle.recorder.specs.declared.reply.Stop.TheVariants as stops;
+ghost use Rattle.trace_script.specs.declared.line.Line.TheVariants as lines;
+ghost use Rattle.recorder.specs.declared.reply.Origin.TheVariants.{Created, Resumed};
 
 use crate::answer::Answer;
 use crate::answers::Answers;
@@ -14,10 +25,10 @@ use crate::store_lines::{list, list_files};
 use recovery::wipe;
 use std::alloc::Global;
 use std::io::{BufRead, Write};
-use trace_port::{begin_create, begin_resume};
+use trace_port::{CreateFault, begin_create, begin_resume};
 use trace_script::{Line, Script, Unsynced};
-use trace_store::{MemStore, Pick, Store};
-use wrap_port::WrapSpec;
+use trace_store::{DeviceFault, MemStore, Pick, Store};
+use wrap_port::{BadSpec, WrapSpec};
 
 /// Runs a script over a store in memory, at first a blank one of one file. What was answered before a fault has been
 /// written. A run that fails of several causes answers the first.
@@ -91,27 +102,59 @@ fn run_line<R: BufRead, W: Write>(
 ) -> Result<Option<Leave>, Stop>
     requires sound { IsWithinLimits line.now }
     requires file { HasFile (reads_of store.old) line.now }
+    ensures { Runs line.now store.old store.new result (λ text. Appends (W.contents answers.old.writer.now) (W.contents answers.new.writer.now) text) }
 {
     match line {
         Line::CreateFile(limit) => create_file(alloc, store, *limit, script, answers),
         Line::ResumeFile(limit) => resume_file(alloc, store, *limit, script, answers),
         Line::CreateWrap { size, count } => {
-            create_wrap(alloc, store, WrapSpec::new(*size, *count)?, script, answers)
+            match WrapSpec::new(*size, *count) {
+                Ok(spec) => create_wrap(alloc, store, spec, script, answers),
+                Err(BadSpec) => Err(no_wrap()),
+            }
         }
         Line::CreateTime { millis, count } => {
-            create_wrap(
-                alloc,
-                store,
-                WrapSpec::timed(*millis, *count)?,
-                script,
-                answers,
-            )
+            match WrapSpec::timed(*millis, *count) {
+                Ok(spec) => create_wrap(alloc, store, spec, script, answers),
+                Err(BadSpec) => Err(no_wrap()),
+            }
         }
         Line::ResumeWrap => resume_wrap(alloc, store, script, answers),
-        line => {
-            run_store_line(alloc, store, line, answers)?;
-            Ok(None)
-        }
+        line => run_alone(alloc, store, line, answers),
+    }
+}
+
+/// The refusal of a wrap that can't be.
+fn no_wrap() -> Stop
+    ensures { result ≡ stops.Refused (refusals.Create creating.BadSpec) }
+{
+    Stop::Refused(Refusal::Create(CreateFault::BadSpec))
+}
+
+/// Runs a line that makes no port, as a line whose port is no more.
+fn run_alone<W: Write>(
+    alloc: Global,
+    store: &mut MemStore,
+    line: &Line,
+    answers: &mut Answers<'_, W>,
+) -> Result<Option<Leave>, Stop>
+    requires sound { IsWithinLimits line.now }
+    requires file { HasFile (reads_of store.old) line.now }
+    ensures { DoesAlone line.now store.old store.new result (λ text. Appends (W.contents answers.old.writer.now) (W.contents answers.new.writer.now) text) }
+{
+    match run_store_line(alloc, store, line, &mut *answers) {
+        Ok(()) => Ok(None),
+        Err(fault) => Err(Stop::Failed(fault)),
+    }
+}
+
+/// What comes of a line whose port was run.
+fn ended(left: Result<Option<Leave>, SimFault>) -> Result<Option<Leave>, Stop>
+    ensures { result ≡ ended_so left }
+{
+    match left {
+        Ok(leave) => Ok(leave),
+        Err(fault) => Err(Stop::Failed(fault)),
     }
 }
 
@@ -122,9 +165,23 @@ fn create_file<R: BufRead, W: Write>(
     limit: u64,
     script: &mut Script<'_, R>,
     answers: &mut Answers<'_, W>,
-) -> Result<Option<Leave>, Stop> {
-    let opening = begin_create(alloc, &mut *store, limit)?;
-    Ok(hold_file(alloc, store, opening, Origin::Created, script, answers)?)
+) -> Result<Option<Leave>, Stop>
+    ensures { ComesOf Created File store.old store.new result (λ text. Appends (W.contents answers.old.writer.now) (W.contents answers.new.writer.now) text) }
+{
+    match begin_create(alloc, &mut *store, limit) {
+        Ok(opening) => {
+            let left = hold_file(
+                alloc,
+                &mut *store,
+                opening,
+                Origin::Created,
+                script,
+                &mut *answers,
+            );
+            ended(left)
+        }
+        Err(fault) => Err(Stop::Refused(Refusal::Create(fault))),
+    }
 }
 
 /// Makes a file port that goes on with the trace that is there, and runs lines until it is given up.
@@ -134,9 +191,23 @@ fn resume_file<R: BufRead, W: Write>(
     limit: u64,
     script: &mut Script<'_, R>,
     answers: &mut Answers<'_, W>,
-) -> Result<Option<Leave>, Stop> {
-    let opening = begin_resume(alloc, &mut *store, limit)?;
-    Ok(hold_file(alloc, store, opening, Origin::Resumed, script, answers)?)
+) -> Result<Option<Leave>, Stop>
+    ensures { ComesOf Resumed File store.old store.new result (λ text. Appends (W.contents answers.old.writer.now) (W.contents answers.new.writer.now) text) }
+{
+    match begin_resume(alloc, &mut *store, limit) {
+        Ok(opening) => {
+            let left = hold_file(
+                alloc,
+                &mut *store,
+                opening,
+                Origin::Resumed,
+                script,
+                &mut *answers,
+            );
+            ended(left)
+        }
+        Err(fault) => Err(Stop::Refused(Refusal::Resume(fault))),
+    }
 }
 
 /// Makes a wrap port that goes on with the trace that is there, and runs lines until it is given up.
@@ -145,9 +216,23 @@ fn resume_wrap<R: BufRead, W: Write>(
     store: &mut MemStore,
     script: &mut Script<'_, R>,
     answers: &mut Answers<'_, W>,
-) -> Result<Option<Leave>, Stop> {
-    let opening = wrap_port::begin_resume(alloc, &mut *store)?;
-    Ok(hold_wrap(alloc, store, opening, Origin::Resumed, script, answers)?)
+) -> Result<Option<Leave>, Stop>
+    ensures { (spec : Spec) → ComesOf Resumed spec store.old store.new result (λ text. Appends (W.contents answers.old.writer.now) (W.contents answers.new.writer.now) text) }
+{
+    match wrap_port::begin_resume(alloc, &mut *store) {
+        Ok(opening) => {
+            let left = hold_wrap(
+                alloc,
+                &mut *store,
+                opening,
+                Origin::Resumed,
+                script,
+                &mut *answers,
+            );
+            ended(left)
+        }
+        Err(fault) => Err(Stop::Refused(Refusal::Resume(fault))),
+    }
 }
 
 /// Makes a wrap port over a blank store, and runs lines until it is given up.
@@ -157,9 +242,23 @@ fn create_wrap<R: BufRead, W: Write>(
     spec: WrapSpec,
     script: &mut Script<'_, R>,
     answers: &mut Answers<'_, W>,
-) -> Result<Option<Leave>, Stop> {
-    let opening = wrap_port::begin_create(alloc, &mut *store, spec)?;
-    Ok(hold_wrap(alloc, store, opening, Origin::Created, script, answers)?)
+) -> Result<Option<Leave>, Stop>
+    ensures { ComesOf Created (wrap_seen spec) store.old store.new result (λ text. Appends (W.contents answers.old.writer.now) (W.contents answers.new.writer.now) text) }
+{
+    match wrap_port::begin_create(alloc, &mut *store, spec) {
+        Ok(opening) => {
+            let left = hold_wrap(
+                alloc,
+                &mut *store,
+                opening,
+                Origin::Created,
+                script,
+                &mut *answers,
+            );
+            ended(left)
+        }
+        Err(fault) => Err(Stop::Refused(Refusal::Create(fault))),
+    }
 }
 
 /// Runs a line that makes no port.
@@ -171,69 +270,74 @@ fn run_store_line<W: Write>(
 ) -> Result<(), SimFault>
     requires sound { IsWithinLimits line.now }
     requires file { HasFile (reads_of store.old) line.now }
+    ensures does { OnOk result (line.now ≢ lines.Files → (text : List ℕ) × Does store.old store.new line.now text × Appends (W.contents answers.old.writer.now) (W.contents answers.new.writer.now) text) }
+    ensures looks { line.now ≡ lines.Files → OnlyLooked store.old store.new }
 {
     match line {
-        Line::Store(files) => set_store(alloc, store, *files, answers),
-        Line::Bytes(file, bytes) => set_bytes(alloc, store, *file, bytes, answers),
-        Line::Fuse(calls) => {
-            store.fuse(*calls);
-            answers.tell(Answer::Done)
-        }
-        Line::FailOnce(calls) => {
-            store.fail_once(*calls);
-            answers.tell(Answer::Done)
-        }
+        Line::Store(files) => answers.tell(set_store(alloc, store, *files)),
+        Line::Bytes(file, bytes) => answers.tell(set_bytes(alloc, store, *file, bytes)),
+        Line::Fuse(calls) => answers.tell(set_fuse(store, *calls)),
+        Line::FailOnce(calls) => answers.tell(set_fail_once(store, *calls)),
         Line::Crash(unsynced) => crash(store, *unsynced, answers),
         Line::Files => list_files(store, answers),
         Line::List => list(alloc, store, answers),
-        Line::Wipe => clear(store, answers),
+        Line::Wipe => answers.tell(cleared(store)),
         _ => answers.tell(Answer::OutOfOrder),
     }
 }
 
 /// Closes each open file for good.
-fn clear<W: Write>(store: &mut MemStore, answers: &mut Answers<'_, W>) -> Result<(), SimFault> {
-    answers.tell(match wipe(store) {
+fn cleared(store: &mut MemStore) -> Answer
+    ensures { Does store.old store.new lines.Wipe (line_of result) }
+{
+    match wipe(store) {
         Ok(()) => Answer::Done,
-        Err(fault) => Answer::Refused(Refusal::from(fault)),
-    })
+        Err(DeviceFault) => Answer::Refused(Refusal::Device),
+    }
 }
 
 /// Puts a blank store in the place of this one.
-fn set_store<W: Write>(
-    alloc: Global,
-    store: &mut MemStore,
-    files: u32,
-    answers: &mut Answers<'_, W>,
-) -> Result<(), SimFault>
+fn set_store(alloc: Global, store: &mut MemStore, files: u32) -> Answer
     requires { (1 ≤ files) × (files ≤ 1001) }
+    ensures { Does store.old store.new (lines.Store files) (line_of result) }
 {
     match MemStore::blank(alloc, files) {
         Ok(blank) => {
             *store = blank;
-            answers.tell(Answer::Done)
+            Answer::Done
         }
-        Err(_) => answers.tell(Answer::Refused(Refusal::NoMemory)),
+        Err(_) => Answer::Refused(Refusal::NoMemory),
     }
 }
 
 /// Puts a store in the place of this one, in which this file holds these bytes.
-fn set_bytes<W: Write>(
-    alloc: Global,
-    store: &mut MemStore,
-    file: u32,
-    bytes: &[u8],
-    answers: &mut Answers<'_, W>,
-) -> Result<(), SimFault>
+fn set_bytes(alloc: Global, store: &mut MemStore, file: u32, bytes: &Vec<u8>) -> Answer
     requires { file < length (reads_of store.old) }
+    ensures { Does store.old store.new (lines.Bytes file bytes.now) (line_of result) }
 {
     match with_bytes(alloc, &mut *store, file, bytes) {
         Ok(changed) => {
             *store = changed;
-            answers.tell(Answer::Done)
+            Answer::Done
         }
-        Err(refusal) => answers.tell(Answer::Refused(refusal)),
+        Err(refusal) => Answer::Refused(refusal),
     }
+}
+
+/// Lets the store's device calls fail after so many.
+fn set_fuse(store: &mut MemStore, calls: u64) -> Answer
+    ensures { Does store.old store.new (lines.Fuse calls) (line_of result) }
+{
+    store.fuse(calls);
+    Answer::Done
+}
+
+/// Lets one of the store's device calls fail, after so many.
+fn set_fail_once(store: &mut MemStore, calls: u64) -> Answer
+    ensures { Does store.old store.new (lines.FailOnce calls) (line_of result) }
+{
+    store.fail_once(calls);
+    Answer::Done
 }
 
 /// Answers how a line's port was left, which has been dropped, or why there is none.
@@ -241,7 +345,10 @@ fn finish<W: Write>(
     store: &mut MemStore,
     left: Result<Option<Leave>, Stop>,
     answers: &mut Answers<'_, W>,
-) -> Result<(), SimFault> {
+) -> Result<(), SimFault>
+    ensures over { OnOk result ((text : List ℕ) × IsOver left store.old store.new text × Appends (W.contents answers.old.writer.now) (W.contents answers.new.writer.now) text) }
+    ensures fault { IfErr result (IsItsFault left) }
+{
     match left {
         Ok(Some(Leave::Abandoned)) => answers.tell(Answer::Done),
         Ok(Some(Leave::Closed)) => answers.tell(Answer::Closed),
@@ -253,13 +360,23 @@ fn finish<W: Write>(
 }
 
 /// Leaves one of the images that a crash may leave, with nothing unsynced and no fuse.
+fn crashed(store: &mut MemStore, unsynced: Unsynced) -> Answer
+    ensures { Crashes unsynced store.old store.new (line_of result) }
+{
+    match store.crash(Pick::from(unsynced)) {
+        Ok(()) => Answer::Done,
+        Err(fault) => Answer::Refused(Refusal::Crash(fault)),
+    }
+}
+
+/// Crashes the store, and answers of that.
 fn crash<W: Write>(
     store: &mut MemStore,
     unsynced: Unsynced,
     answers: &mut Answers<'_, W>,
-) -> Result<(), SimFault> {
-    answers.tell(match store.crash(Pick::from(unsynced)) {
-        Ok(()) => Answer::Done,
-        Err(fault) => Answer::Refused(Refusal::Crash(fault)),
-    })
+) -> Result<(), SimFault>
+    ensures crashes { OnOk result ((text : List ℕ) × Crashes unsynced store.old store.new text × Appends (W.contents answers.old.writer.now) (W.contents answers.new.writer.now) text) }
+    ensures fault { IfErr result (λ fault. fault ≡ faults.Write) }
+{
+    answers.tell(crashed(store, unsynced))
 }

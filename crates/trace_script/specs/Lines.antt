@@ -3,6 +3,10 @@ use Rattle.std.specs.Prelude.{◌≤◌, ◌<◌, ⊤, length}
 use Rattle.trace_store.specs.Disk.{Image}
 use Rattle.entry_codec.specs.Entries.{IsLawful}
 use Rattle.entry_codec.specs.Seen.{view}
+use Rattle.trace_store.specs.declared.pick.Pick.{Pick}
+use Rattle.trace_store.specs.declared.pick.Pick.TheVariants as picks
+use Rattle.trace_script.specs.declared.line.Unsynced.{Unsynced}
+use Rattle.trace_script.specs.declared.line.Unsynced.TheVariants as unsynced
 use Rattle.trace_script.specs.declared.line.Line.{Line}
 use Rattle.trace_script.specs.declared.line.Line.TheVariants as lines
 use Rattle.trace_script.specs.declared.desk_line.DeskLine.{DeskLine}
@@ -34,3 +38,8 @@ IsOfRecord _ = ⊥
 abbrev pub HasFile : Image → Line → Type 0
 HasFile image (lines.Bytes file bytes) = file < length image
 HasFile image _ = ⊤
+
+-- what a crash is asked to leave of what is unsynced
+abbrev pub pick_of : Unsynced → Pick
+pick_of unsynced.Kept = picks.Kept
+pick_of (unsynced.Fill byte longest) = picks.Fill byte longest

@@ -1,8 +1,8 @@
 // What a line of a script says.
-ghost use Rattle.std.specs.Prelude.{IfOk, IfSome};
+ghost use Rattle.std.specs.Prelude.{◌≡◌, IfOk, IfSome};
 ghost use Rattle.entry_codec.specs.Entries.{IsLawful};
 ghost use Rattle.entry_codec.specs.Seen.{view};
-ghost use Rattle.trace_script.specs.Lines.{IsWithinLimits};
+ghost use Rattle.trace_script.specs.Lines.{IsWithinLimits, pick_of};
 
 use crate::desk_line::{DeskLine, desk_line, emit_line};
 use crate::spelling::{byte, bytes, number, within};
@@ -23,6 +23,8 @@ pub enum Unsynced {
 }
 
 impl From<Unsynced> for Pick {
+    ghost from_gives = { λ unsynced pick. pick ≡ pick_of unsynced };
+
     fn from(unsynced: Unsynced) -> Pick {
         match unsynced {
             Unsynced::Kept => Pick::Kept,

@@ -1,4 +1,4 @@
-use Rattle.std.proofs.Common.{◌≡◌, ℕ, zero, suc, ◌+◌, ◌++◌, List, [], ◌∷◌, length, map, slice_get, Some, ap, sym, subst, ◌∙◌, arith, rules}
+use Rattle.std.proofs.Common.{◌≡◌, ℕ, zero, suc, ◌+◌, ◌++◌, List, [], ◌∷◌, length, map, slice_get, Some, is_ok, if◌then◌else◌, ap, sym, subst, ◌∙◌, arith, rules}
 use Rattle.std.proofs.lemmas.Option.{same_Some}
 use Rattle.tracees.specs.Desks.{Place}
 use Rattle.tracees.specs.States.{place_of}
@@ -24,6 +24,8 @@ numbered_more f xs ys x pushed before is i p e =
 
 pub loop-port-preserved : goal.loop-port-preserved
 loop-port-preserved g c =
-    let number : c.in_ok-desk.desk.number ≡ length c.loop-port.desks.items = search rules in
-    numbered_more (place_of g.P.TracePort Rattle.tracees.specs.contracts.book.PlainBookBookkeeping.TheImpl.ghosts) c.loop-port.desks.items c.push.new.self.items c.in_ok-desk.desk c.in_ok-push.ensures.items
-    c.loop-port.invariant number
+    let desks = c.loop-port.desks.items in
+    let desk = c.opened-desk.result in
+    let number : desk.number ≡ length desks = search rules in
+    let pushed : c.push.new.self.items ≡ desks ++ desk ∷ [] = c.push.ensures.items ∙ ap (λ r. if is_ok r then desks ++ desk ∷ [] else desks) c.expect.ensures in
+    numbered_more (place_of g.P.TracePort Rattle.tracees.specs.contracts.book.PlainBookBookkeeping.TheImpl.ghosts) desks c.push.new.self.items desk pushed c.loop-port.invariant number

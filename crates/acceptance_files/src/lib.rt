@@ -1,0 +1,28 @@
+//! Tests of stores, of segments, of recovery and of the client that lists what it finds, through what each crate offers to
+//! others. They stand on no port and on no desk: a function's check costs by what its crate loads.
+#![tactic(auto)]
+
+#[cfg(test)]
+mod folder_store_tests;
+#[cfg(test)]
+mod line_tests;
+#[cfg(test)]
+mod live_listing_tests;
+#[cfg(test)]
+mod mem_store_tests;
+#[cfg(test)]
+mod recovery_tests;
+#[cfg(test)]
+mod segment_entries_tests;
+#[cfg(test)]
+mod segment_header_tests;
+#[cfg(test)]
+mod segment_pieces_tests;
+#[cfg(test)]
+mod segment_reading_tests;
+#[cfg(test)]
+mod segment_tests;
+#[cfg(test)]
+mod trace_client_tests;
+#[cfg(test)]
+mod wiping_tests;

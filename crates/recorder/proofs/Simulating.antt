@@ -1,0 +1,32 @@
+-- What comes of a line of a script while no port is held.
+use Rattle.std.proofs.Common.{ℕ, Option, List, Result, Ok, Err, OnOk, inl}
+use Rattle.trace_store.specs.Disk.{Image}
+use Rattle.trace_store.specs.declared.mem_store.MemStore.{MemStore}
+use Rattle.segment.specs.Specification.{Spec}
+use Rattle.trace_port.specs.Device.{Leaves}
+use Rattle.trace_port.specs.Openings.{IsKept, ReadsAlike}
+use Rattle.trace_port.proofs.Leaving.{weaker}
+use Rattle.recorder.specs.Simulated.{device, LeavesSo, WasRun, ComesOf, ended_so}
+use Rattle.recorder.specs.declared.fault.SimFault.{SimFault}
+use Rattle.recorder.specs.declared.reply.Leave.{Leave}
+use Rattle.recorder.specs.declared.reply.Origin.{Origin}
+use Rattle.recorder.specs.declared.reply.Origin.TheVariants.{Resumed}
+
+-- its port was run
+pub was_run : (origin : Origin) (spec : Spec) (old new : MemStore) (left : Result (Option Leave) SimFault) (Writes : List ℕ → Type 0) → WasRun origin spec old new left Writes → ComesOf origin spec old new (ended_so left) Writes
+was_run origin spec old new (Ok left) Writes run = run
+was_run origin spec old new (Err fault) Writes run = run
+
+-- nothing was written to make it
+pub only_kept : (spec : Spec) (old new : MemStore) → IsKept (device old) (device new) → LeavesSo Resumed spec old new
+only_kept spec old new kept = weaker (device old) (device new) (device old).images _ (λ image was. inl was) (kept.moments tt)
+
+-- what was written, told in another way
+pub told_so : {E : Type 0} (result : Result Unit E) (P Q Writes : List ℕ → Type 0) (N : Type 0) → ((text : List ℕ) → P text → Q text) → OnOk result ((text : List ℕ) × P text × Writes text) → OnOk result (N → (text : List ℕ) × Q text × Writes text)
+told_so (Ok done) P Q Writes N f wrote = λ none. (wrote.0, f wrote.0 wrote.1, wrote.2)
+told_so (Err fault) P Q Writes N f wrote = wrote
+
+-- one answer was
+pub answered_so : {E : Type 0} (result : Result Unit E) (text : List ℕ) (Q Writes : List ℕ → Type 0) (N : Type 0) → Q text → OnOk result (Writes text) → OnOk result (N → (text : List ℕ) × Q text × Writes text)
+answered_so (Ok done) text Q Writes N is wrote = λ none. (text, is, wrote)
+answered_so (Err fault) text Q Writes N is wrote = wrote

@@ -1,0 +1,20 @@
+use Rattle.std.proofs.Common.{Ok, refl, ap}
+use Rattle.recovery.specs.Stores.{Reads, is_blank}
+use Rattle.wrap_port.specs.WrapSpecs.{wrap_seen}
+use Rattle.recorder.specs.Openings.{begins}
+use Rattle.recorder.specs.Simulated.{ComesOf}
+use Rattle.recorder.specs.declared.opening.Opened.TheVariants as openings
+use Rattle.recorder.specs.declared.reply.Origin.TheVariants.{Created}
+use Rattle.recorder.proofs.Simulating.{was_run}
+use Rattle.recorder.proofs.sim.create_wrap.Goals as goal
+
+pub returns-in-Ok : goal.returns-in-Ok
+returns-in-Ok g c =
+    let e = c.in-Ok.ensures in
+    rw c.ended.ensures (was_run Created _ c.args.store.now c.hold_wrap-left.new.store c.hold_wrap-left.result _ (record {
+      mid = c.begin_create.new.store;
+      opening = openings.Wrap c.in-Ok.opening;
+      opens = begins (is_blank (e.blank tt)) (ap wrap_seen e.spec) (e.fits tt);
+      moments = (c.begin_create.ensures.any_moment tt, c.begin_create.ensures.not_blank_stays tt);
+      ran = c.hold_wrap-left.ensures;
+    }))

@@ -1,0 +1,17 @@
+use Rattle.recorder.specs.Openings.{goes_on}
+use Rattle.recorder.specs.declared.opening.Opened.TheVariants as openings
+use Rattle.recorder.specs.declared.reply.Origin.TheVariants.{Resumed}
+use Rattle.recorder.proofs.Simulating.{was_run}
+use Rattle.recorder.proofs.sim.resume_wrap.Goals as goal
+
+pub returns-in-Ok : goal.returns-in-Ok
+returns-in-Ok g c = λ spec.
+    let e = c.in-Ok.ensures in
+    let found = e.fits tt in
+    rw c.ended.ensures (was_run Resumed spec c.args.store.now c.hold_wrap-left.new.store c.hold_wrap-left.result _ (record {
+      mid = c.begin_resume.new.store;
+      opening = openings.Wrap c.in-Ok.opening;
+      opens = goes_on found.0 found.1 found.2;
+      moments = c.begin_resume.ensures.any_moment tt;
+      ran = c.hold_wrap-left.ensures;
+    }))

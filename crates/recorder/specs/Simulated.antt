@@ -1,0 +1,139 @@
+-- What a line of a script does to the store in memory while no port is held.
+use Rattle.std.specs.Prelude.{◌≡◌, ◌≢◌, ◌⊎◌, ℕ, Option, Some, None, List, [], length, replicate, Result, Ok, Err, false}
+use Rattle.trace_store.specs.Disk.{Image}
+use Rattle.trace_store.specs.Moments.{Rose, LeavesOnly}
+use Rattle.trace_store.specs.MemStore.{honest_of, disk_of, reads_of, images_of, moments_of, clock_of, failures_of, fuse_of, SameButFuse, IsPossible, IsSettled}
+use Rattle.trace_store.specs.Crashes.{image_of}
+use Rattle.trace_store.specs.declared.fuse.Fuse.TheVariants.{Whole, After, Once}
+use Rattle.trace_store.specs.declared.mem_store.MemStore.{MemStore}
+use Rattle.trace_store.specs.declared.pick.CrashFault.{CrashFault}
+use Rattle.trace_store.specs.declared.pick.CrashFault.TheVariants.{NotImage}
+use Rattle.trace_store.specs.contracts.mem_store.MemStoreStore.TheImpl as mem
+use Rattle.segment.specs.Pieces.{OnlyReads}
+use Rattle.segment.specs.Specification.{Spec, File, Wrap, Timed}
+use Rattle.recovery.specs.Views.{empty}
+use Rattle.recovery.specs.Stores.{readings, IsBlank}
+use Rattle.recovery.specs.Wiping.{IsWiped, IsWiping}
+use Rattle.trace_port.specs.Device.{Device, device_of, Leaves}
+use Rattle.trace_port.specs.declared.create.CreateFault.TheVariants.{BadSpec}
+use Rattle.trace_port.specs.Openings.{ReadsAlike}
+use Rattle.trace_port.specs.Opened.{opened_told}
+use Rattle.trace_port.specs.Sound.{ReadsAs}
+use Rattle.trace_port.specs.FilePort.{file_told}
+use Rattle.trace_port.specs.contracts.pending.PendingRoom.TheImpl as pending
+use Rattle.wrap_port.specs.WrapOpened.{wrap_opened_told}
+use Rattle.wrap_port.specs.WrapPort.{wrap_told}
+use Rattle.trace_script.specs.declared.line.Line.{Line}
+use Rattle.trace_script.specs.declared.line.Line.TheVariants as lines
+use Rattle.trace_script.specs.declared.line.Unsynced.{Unsynced}
+use Rattle.trace_script.specs.Lines.{pick_of}
+use Rattle.recorder.specs.Sides.{Alone}
+use Rattle.recorder.specs.Held.{WasHeld}
+use Rattle.recorder.specs.Openings.{told_of, Opens, IsNoSpec}
+use Rattle.recorder.specs.Stored.{TellsStore}
+use Rattle.recorder.specs.Texts.{greeting, line_of}
+use Rattle.recorder.specs.declared.answer.Answer.TheVariants as answers
+use Rattle.recorder.specs.declared.fault.SimFault.{SimFault}
+use Rattle.recorder.specs.declared.fault.SimFault.TheVariants as faults
+use Rattle.recorder.specs.declared.opening.Opened.{Opened}
+use Rattle.recorder.specs.declared.opening.Opened.TheVariants as openings
+use Rattle.recorder.specs.declared.refusal.Refusal.{Refusal}
+use Rattle.recorder.specs.declared.refusal.Refusal.TheVariants as refusals
+use Rattle.recorder.specs.declared.reply.Leave.{Leave}
+use Rattle.recorder.specs.declared.reply.Leave.TheVariants as leaving
+use Rattle.recorder.specs.declared.reply.Origin.{Origin}
+use Rattle.recorder.specs.declared.reply.Origin.TheVariants.{Created, Resumed}
+use Rattle.recorder.specs.declared.reply.Stop.{Stop}
+use Rattle.recorder.specs.declared.reply.Stop.TheVariants as stops
+
+-- a store in memory as a device
+abbrev pub device : MemStore → Device
+device m = device_of mem.ghosts m
+
+-- each moment of making a port leaves what was there; a creation over a blank store also an empty trace, and a resumption what reads alike
+abbrev pub LeavesSo : Origin → Spec → MemStore → MemStore → Type 0
+LeavesSo Created spec old new =
+    Leaves (device old) (device new) (λ image. (device old).images image ⊎ ReadsAs spec empty false image) × ((IsBlank (readings (reads_of old)) → ⊥) → Leaves (device old) (device new) (device old).images)
+LeavesSo Resumed spec old new = Leaves (device old) (device new) (λ image. (device old).images image ⊎ ReadsAlike (reads_of old) image)
+
+-- lines were run on a port over this opening, which then was dropped
+abbrev pub RanOn : Opened → Origin → MemStore → MemStore → Result (Option Leave) SimFault → (List ℕ → Type 0) → Type 0
+RanOn (openings.File opening) origin old new left Writes =
+    WasHeld (file_told mem.ghosts pending.ghosts) Alone (opened_told pending.ghosts opening (device old)) (greeting origin) left (device new) Writes
+RanOn (openings.Wrap opening) origin old new left Writes =
+    WasHeld (wrap_told mem.ghosts pending.ghosts) Alone (wrap_opened_told pending.ghosts opening (device old)) (greeting origin) left (device new) Writes
+
+-- a port was made over the store, and the lines behind this one were run on it until it was given up
+pub record WasRun (origin : Origin) (spec : Spec) (old new : MemStore) (left : Result (Option Leave) SimFault) (Writes : List ℕ → Type 0) : Type 0 where
+  pub mid : MemStore
+  pub opening : Opened
+  pub opens : Opens (reads_of old) (told_of opening (device mid)) spec origin
+  pub moments : LeavesSo origin spec old mid
+  pub ran : RanOn opening origin mid new left Writes
+
+-- a run that a fault ended, as what came of its line
+abbrev pub ended_so : Result (Option Leave) SimFault → Result (Option Leave) Stop
+ended_so (Ok left) = Ok left
+ended_so (Err fault) = Err (stops.Failed fault)
+
+-- what comes of a line that makes a port: it was run so, or there is no port
+abbrev pub ComesOf : Origin → Spec → MemStore → MemStore → Result (Option Leave) Stop → (List ℕ → Type 0) → Type 0
+ComesOf origin spec old new (Ok left) Writes = WasRun origin spec old new (Ok left) Writes
+ComesOf origin spec old new (Err (stops.Failed fault)) Writes = WasRun origin spec old new (Err fault) Writes
+ComesOf origin spec old new (Err (stops.Refused refusal)) Writes = LeavesSo origin spec old new × Writes []
+
+-- a crash left what was picked of the store and is answered of, or it can't leave that and the store stays as it is
+pub data Crashes (unsynced : Unsynced) (old new : MemStore) : List ℕ → Type 0 where
+  leaves : IsPossible (pick_of unsynced) old → IsSettled new (image_of (pick_of unsynced) (disk_of old)) → fuse_of new ≡ Whole → Crashes unsynced old new (line_of answers.Done)
+  refuses : (fault : CrashFault) → (fault ≡ NotImage → IsPossible (pick_of unsynced) old → ⊥) → new ≡ old → Crashes unsynced old new (line_of (answers.Refused (refusals.Crash fault)))
+
+-- how it is answered that a port was left, or that there is none: the text, and what is left of the store
+abbrev pub IsOver : Result (Option Leave) Stop → MemStore → MemStore → List ℕ → Type 0
+IsOver (Ok (Some leaving.Abandoned)) old new text = (new ≡ old) × (text ≡ line_of answers.Done)
+IsOver (Ok (Some leaving.Closed)) old new text = (new ≡ old) × (text ≡ line_of answers.Closed)
+IsOver (Ok (Some (leaving.Crashed unsynced))) old new text = Crashes unsynced old new text
+IsOver (Ok None) old new text = (new ≡ old) × (text ≡ [])
+IsOver (Err (stops.Refused refusal)) old new text = (new ≡ old) × (text ≡ line_of (answers.Refused refusal))
+IsOver (Err (stops.Failed fault)) old new text = ⊥
+
+-- a fault that ended a run ends it, and no other
+abbrev pub IsItsFault : Result (Option Leave) Stop → SimFault → Type 0
+IsItsFault (Err (stops.Failed ended)) fault = fault ≡ ended
+IsItsFault _ fault = fault ≡ faults.Write
+
+-- the calls of a look at its files changed nothing
+abbrev pub OnlyLooked : MemStore → MemStore → Type 0
+OnlyLooked old new = OnlyReads honest_of clock_of reads_of images_of moments_of old new
+
+-- what a line that makes no port does to the store, and what is written of it
+pub data Does (old new : MemStore) : Line → List ℕ → Type 0 where
+  blanks : {files : ℕ} → IsSettled new (replicate files []) → fuse_of new ≡ Whole → Does old new (lines.Store files) (line_of answers.Done)
+  no_memory : {files : ℕ} → new ≡ old → Does old new (lines.Store files) (line_of (answers.Refused refusals.NoMemory))
+  holds : {file : ℕ} {bytes : _} → length (reads_of new) ≡ length (reads_of old) → Does old new (lines.Bytes file bytes) (line_of answers.Done)
+  holds_not : {file : ℕ} {bytes : _} (refusal : Refusal) → length (reads_of new) ≡ length (reads_of old) → Does old new (lines.Bytes file bytes) (line_of (answers.Refused refusal))
+  fuses : {calls : ℕ} → fuse_of new ≡ After (clock_of old) calls → SameButFuse old new → Does old new (lines.Fuse calls) (line_of answers.Done)
+  fails_once : {calls : ℕ} → fuse_of new ≡ Once (clock_of old) calls → SameButFuse old new → Does old new (lines.FailOnce calls) (line_of answers.Done)
+  crashes : {unsynced : Unsynced} {text : List ℕ} → Crashes unsynced old new text → Does old new (lines.Crash unsynced) text
+  lists : {text : List ℕ} → TellsStore (reads_of old) (Rose (failures_of old) (failures_of new)) text → OnlyLooked old new → Does old new lines.List text
+  wipes : IsWiped (reads_of old) (reads_of new) → ((c : Image) → images_of new c → IsBlank (readings c)) → LeavesOnly clock_of moments_of old new (IsWiping (images_of old)) → Does old new lines.Wipe (line_of answers.Done)
+  wipes_not : Rose (failures_of old) (failures_of new) → LeavesOnly clock_of moments_of old new (IsWiping (images_of old)) → Does old new lines.Wipe (line_of (answers.Refused refusals.Device))
+  out_of_order : {line : Line} → new ≡ old → Does old new line (line_of answers.OutOfOrder)
+
+-- what comes of a line that makes no port; of what it writes of the files nothing is said
+abbrev pub DoesAlone : Line → MemStore → MemStore → Result (Option Leave) Stop → (List ℕ → Type 0) → Type 0
+DoesAlone line old new (Ok left) Writes = (left ≡ None) × (line ≢ lines.Files → (text : List ℕ) × Does old new line text × Writes text)
+DoesAlone line old new (Err (stops.Failed fault)) Writes = Unit {0}
+DoesAlone line old new (Err (stops.Refused refusal)) Writes = ⊥
+
+-- there is no such wrap, and nothing was done
+abbrev pub IsNoWrap : MemStore → MemStore → Result (Option Leave) Stop → (List ℕ → Type 0) → Type 0
+IsNoWrap old new result Writes = (new ≡ old) × (result ≡ Err (stops.Refused (refusals.Create BadSpec))) × Writes []
+
+-- what comes of a line
+abbrev pub Runs : Line → MemStore → MemStore → Result (Option Leave) Stop → (List ℕ → Type 0) → Type 0
+Runs (lines.CreateFile limit) old new result Writes = ComesOf Created File old new result Writes
+Runs (lines.ResumeFile limit) old new result Writes = ComesOf Resumed File old new result Writes
+Runs (lines.CreateWrap size count) old new result Writes = ComesOf Created (Wrap size count) old new result Writes ⊎ (IsNoSpec (Wrap size count) × IsNoWrap old new result Writes)
+Runs (lines.CreateTime millis count) old new result Writes = ComesOf Created (Timed millis count) old new result Writes ⊎ (IsNoSpec (Timed millis count) × IsNoWrap old new result Writes)
+Runs lines.ResumeWrap old new result Writes = (spec : Spec) → ComesOf Resumed spec old new result Writes
+Runs line old new result Writes = DoesAlone line old new result Writes
