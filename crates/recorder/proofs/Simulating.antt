@@ -1,10 +1,8 @@
 -- What comes of a line of a script while no port is held.
 use Rattle.std.proofs.Common.{ℕ, Option, List, Result, Ok, Err, OnOk, inl}
-use Rattle.trace_store.specs.Disk.{Image}
 use Rattle.trace_store.specs.declared.mem_store.MemStore.{MemStore}
 use Rattle.segment.specs.Specification.{Spec}
-use Rattle.trace_port.specs.Device.{Leaves}
-use Rattle.trace_port.specs.Openings.{IsKept, ReadsAlike}
+use Rattle.trace_port.specs.Openings.{IsKept}
 use Rattle.trace_port.proofs.Leaving.{weaker}
 use Rattle.recorder.specs.Simulated.{device, LeavesSo, WasRun, ComesOf, ended_so}
 use Rattle.recorder.specs.declared.fault.SimFault.{SimFault}

@@ -5,7 +5,7 @@ use Rattle.segment.specs.Pieces.{OnlyReads}
 use Rattle.trace_store.specs.FolderStore.{honest_of, reads_of, images_of, moments_of, clock_of}
 use Rattle.trace_store.specs.declared.folder_store.FolderStore.{FolderStore}
 use Rattle.trace_store.specs.contracts.folder_store.FolderStoreStore.TheImpl as folder
-use Rattle.trace_port.specs.Device.{Device, device_of}
+use Rattle.trace_port.specs.Device.{device_of}
 use Rattle.trace_port.specs.Opened.{opened_told}
 use Rattle.trace_port.specs.FilePort.{file_told}
 use Rattle.trace_port.specs.contracts.pending.PendingRoom.TheImpl as pending

@@ -1,5 +1,6 @@
 -- What a line of a script does to the store in memory while no port is held.
-use Rattle.std.specs.Prelude.{◌≡◌, ◌≢◌, ◌⊎◌, ℕ, Option, Some, None, List, [], length, replicate, Result, Ok, Err, false}
+use Rattle.std.specs.Prelude.{◌≡◌, ◌≢◌, ◌⊎◌, ℕ, Option, Some, None, List, [], ◌∷◌, ◌++◌, length, replicate, Result, Ok, Err, OnOk, IfErr, false}
+use Rattle.std.specs.Io.KnownBytes.{Appends}
 use Rattle.trace_store.specs.Disk.{Image}
 use Rattle.trace_store.specs.Moments.{Rose, LeavesOnly}
 use Rattle.trace_store.specs.MemStore.{honest_of, disk_of, reads_of, images_of, moments_of, clock_of, failures_of, fuse_of, SameButFuse, IsPossible, IsSettled}
@@ -27,6 +28,8 @@ use Rattle.trace_script.specs.declared.line.Line.{Line}
 use Rattle.trace_script.specs.declared.line.Line.TheVariants as lines
 use Rattle.trace_script.specs.declared.line.Unsynced.{Unsynced}
 use Rattle.trace_script.specs.Lines.{pick_of}
+use Rattle.trace_script.specs.declared.fault.ScriptFault.{ScriptFault}
+use Rattle.recorder.specs.Faults.{script_fault}
 use Rattle.recorder.specs.Sides.{Alone}
 use Rattle.recorder.specs.Held.{WasHeld}
 use Rattle.recorder.specs.Openings.{told_of, Opens, IsNoSpec}
@@ -137,3 +140,23 @@ Runs (lines.CreateWrap size count) old new result Writes = ComesOf Created (Wrap
 Runs (lines.CreateTime millis count) old new result Writes = ComesOf Created (Timed millis count) old new result Writes ⊎ (IsNoSpec (Timed millis count) × IsNoWrap old new result Writes)
 Runs lines.ResumeWrap old new result Writes = (spec : Spec) → ComesOf Resumed spec old new result Writes
 Runs line old new result Writes = DoesAlone line old new result Writes
+
+-- a line was run whole: with its port, if it made one, and what is answered once that is no more
+pub record IsRunWhole (line : Line) (old new : MemStore) (result : Result Unit SimFault) (was now : Option (List ℕ)) : Type 0 where
+  pub mid : MemStore
+  pub between : Option (List ℕ)
+  pub left : Result (Option Leave) Stop
+  pub runs : Runs line old mid left (λ text. Appends was between text)
+  pub over : OnOk result ((text : List ℕ) × IsOver left mid new text × Appends between now text)
+  pub fault : IfErr result (IsItsFault left)
+
+-- lines were run whole one after another, each on the store that the one before it left
+pub data AreRun (first : MemStore) (out : Option (List ℕ)) : List Line → MemStore → Option (List ℕ) → Type 0 where
+  none : AreRun first out [] first out
+  more : {before : List Line} {mid new : MemStore} {was now : Option (List ℕ)} (line : Line) → AreRun first out before mid was → IsRunWhole line mid new (Ok tt) was now → AreRun first out (before ++ line ∷ []) new now
+
+-- the lines of a script were run; where a fault ended that, it is the script's, or that of the line which came next
+pub data Simulates (old new : MemStore) (was now : Option (List ℕ)) : Result Unit SimFault → Type 0 where
+  to_end : (done : List Line) → AreRun old was done new now → Simulates old new was now (Ok tt)
+  no_line : (done : List Line) (fault : ScriptFault) → AreRun old was done new now → Simulates old new was now (Err (script_fault fault))
+  broken_off : {mid : MemStore} {between : Option (List ℕ)} (done : List Line) (line : Line) (fault : SimFault) → AreRun old was done mid between → IsRunWhole line mid new (Err fault) between now → Simulates old new was now (Err fault)

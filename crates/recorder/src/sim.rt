@@ -5,7 +5,7 @@ ghost use Rattle.trace_store.specs.MemStore.{reads_of};
 ghost use Rattle.trace_script.specs.Lines.{IsWithinLimits, HasFile};
 ghost use Rattle.segment.specs.Specification.{Spec, File};
 ghost use Rattle.wrap_port.specs.WrapSpecs.{wrap_seen};
-ghost use Rattle.recorder.specs.Simulated.{ended_so, ComesOf, Crashes, Does, DoesAlone, Runs, IsOver, IsItsFault, OnlyLooked};
+ghost use Rattle.recorder.specs.Simulated.{ended_so, ComesOf, Crashes, Does, DoesAlone, Runs, IsRunWhole, Simulates, IsOver, IsItsFault, OnlyLooked};
 ghost use Rattle.recorder.specs.Texts.{line_of};
 ghost use Rattle.trace_port.specs.declared.create.CreateFault.TheVariants as creating;
 ghost use Rattle.recorder.specs.declared.fault.SimFault.TheVariants as faults;
@@ -63,7 +63,9 @@ pub fn run_lines<R: BufRead, W: Write>(
     store: &mut MemStore,
     script: &mut Script<'_, R>,
     answers: &mut Answers<'_, W>,
-) -> Result<(), SimFault> {
+) -> Result<(), SimFault>
+    ensures { Simulates store.old store.new (W.contents answers.old.writer.now) (W.contents answers.new.writer.now) result }
+{
     for _line in 0..u64::MAX {
         match script.next_line()? {
             None => return Ok(()),
@@ -86,8 +88,9 @@ fn run_whole<R: BufRead, W: Write>(
 ) -> Result<(), SimFault>
     requires sound { IsWithinLimits line }
     requires file { HasFile (reads_of store.old) line }
+    ensures { IsRunWhole line store.old store.new result (W.contents answers.old.writer.now) (W.contents answers.new.writer.now) }
 {
-    let left = run_line(alloc, store, &line, script, answers);
+    let left = run_line(alloc, &mut *store, &line, script, &mut *answers);
     drop(line);
     finish(store, left, answers)
 }

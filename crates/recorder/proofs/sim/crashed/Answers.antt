@@ -1,4 +1,4 @@
-use Rattle.std.proofs.Common.{◌≡◌, Err, ap, sym, subst}
+use Rattle.std.proofs.Common.{Err, ap, sym, subst}
 use Rattle.trace_store.specs.MemStore.{disk_of, IsPossible, IsSettled}
 use Rattle.trace_store.specs.Crashes.{image_of}
 use Rattle.trace_store.specs.declared.pick.Pick.{Pick}
