@@ -3,9 +3,7 @@
 use crate::answer::Answer;
 use crate::fault::SimFault;
 use crate::refusal::Refusal;
-use trace_port::{CreateFault, ResumeFault};
 use trace_script::Unsynced;
-use wrap_port::BadSpec;
 
 /// How a port came to be held.
 #[derive(Clone, Copy, Debug, PartialEq, Eq)]
@@ -36,28 +34,4 @@ pub enum Stop {
     /// There is none.
     Refused(Refusal),
     Failed(SimFault),
-}
-
-impl From<CreateFault> for Stop {
-    fn from(fault: CreateFault) -> Stop {
-        Stop::Refused(Refusal::Create(fault))
-    }
-}
-
-impl From<ResumeFault> for Stop {
-    fn from(fault: ResumeFault) -> Stop {
-        Stop::Refused(Refusal::Resume(fault))
-    }
-}
-
-impl From<BadSpec> for Stop {
-    fn from(_fault: BadSpec) -> Stop {
-        Stop::Refused(Refusal::Create(CreateFault::BadSpec))
-    }
-}
-
-impl From<SimFault> for Stop {
-    fn from(fault: SimFault) -> Stop {
-        Stop::Failed(fault)
-    }
 }
