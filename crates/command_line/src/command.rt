@@ -1,6 +1,8 @@
 // The words of a command line, and what they ask for.
 
-use crate::request::{Asked, Ending, Flushing, Misuse, Request, Rules, Shape, Wanted};
+use crate::request::{
+    Asked, Ending, Flushing, Misuse, Request, Rules, Shape, TraceRequest, Wanted,
+};
 use crate::size::bytes_in;
 use clap::{Arg, ArgAction, ArgMatches, Command, value_parser};
 use std::alloc::{AllocError, Global};
@@ -262,22 +264,36 @@ fn rules_in(matches: &ArgMatches<'_>) -> Rules {
     Rules { flushing, ending }
 }
 
-/// What the words that were found ask for.
-fn request_in<'a>(matches: &ArgMatches<'a>) -> Result<Request<'a>, Misuse<'a>> {
-    Ok(match matches.subcommand() {
-        Some(("stream", _)) => Request::Stream,
-        Some(("record", matches)) => Request::Record(wanted_in(matches)?),
-        Some(("import", matches)) => Request::Import {
+/// What a subcommand of this name asks of a stored trace, if it is one for that.
+fn trace_request_in<'a>(
+    name: &str,
+    matches: &ArgMatches<'a>,
+) -> Result<Option<TraceRequest<'a>>, Misuse<'a>> {
+    Ok(match name {
+        "record" => Some(TraceRequest::Record(wanted_in(matches)?)),
+        "import" => Some(TraceRequest::Import {
             wanted: wanted_in(matches)?,
             rules: rules_in(matches),
-        },
-        Some(("list", matches)) => Request::List(asked_in(matches)),
-        Some(("export", matches)) => Request::Export(asked_in(matches)),
-        Some(("wipe", matches)) => Request::Wipe {
+        }),
+        "list" => Some(TraceRequest::List(asked_in(matches))),
+        "export" => Some(TraceRequest::Export(asked_in(matches))),
+        "wipe" => Some(TraceRequest::Wipe {
             asked: asked_in(matches),
             is_forced: matches.get_flag("force"),
-        },
-        _ => Request::Sim,
+        }),
+        _ => None,
+    })
+}
+
+/// What the words that were found ask for.
+fn request_in<'a>(matches: &ArgMatches<'a>) -> Result<Request<'a>, Misuse<'a>> {
+    let Some((name, matches)) = matches.subcommand() else {
+        return Ok(Request::Sim);
+    };
+    Ok(match trace_request_in(name, matches)? {
+        Some(asked) => Request::OfTrace(asked),
+        None if name == "stream" => Request::Stream,
+        None => Request::Sim,
     })
 }
 

@@ -6,4 +6,4 @@ mod request;
 mod size;
 
 pub use command::asked_for;
-pub use request::{Asked, Ending, Flushing, Misuse, Request, Rules, Shape, Wanted};
+pub use request::{Asked, Ending, Flushing, Misuse, Request, Rules, Shape, TraceRequest, Wanted};

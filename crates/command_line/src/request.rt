@@ -66,6 +66,13 @@ pub enum Request<'a> {
     Sim,
     /// List an entry stream.
     Stream,
+    /// What is done with the files of a trace.
+    OfTrace(TraceRequest<'a>),
+}
+
+/// What a command line asks of a stored trace.
+#[derive(Clone, Copy, Debug, PartialEq, Eq)]
+pub enum TraceRequest<'a> {
     /// Record what a script says.
     Record(Wanted<'a>),
     /// Record an entry stream.
@@ -73,11 +80,11 @@ pub enum Request<'a> {
         wanted: Wanted<'a>,
         rules: Rules,
     },
-    /// List a stored trace.
+    /// List it.
     List(Asked<'a>),
-    /// Write a stored trace as an entry stream.
+    /// Write it as an entry stream.
     Export(Asked<'a>),
-    /// End a stored trace, and leave an empty store.
+    /// End it, and leave an empty store.
     Wipe {
         asked: Asked<'a>,
         /// Also files that aren't of a trace.

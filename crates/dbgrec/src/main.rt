@@ -5,42 +5,51 @@ mod console;
 mod outlet;
 
 use clap::error::ErrorKind;
-use command_line::{Misuse, Request, asked_for};
+use command_line::{Misuse, Request, TraceRequest, asked_for};
 use console::Console;
 use outlet::Outlet;
-use recorder::{Complaint, SimFault, commands};
+use recorder::{Complaint, SimFault, files_for, serve_sim, serve_stream, serve_trace};
 use std::io::IsTerminal;
 use std::process::ExitCode;
 use std::{env, io};
-use trace_reader::Clearing;
+use trace_reader::Watched;
 
 /// Standard error beside standard output: where the output itself goes to a terminal, no other line is shown there.
 fn beside_output(rt: &HostRuntime) -> Console {
     Console::new(*rt, rt.stdout().is_terminal())
 }
 
-fn clearing(is_forced: bool) -> Clearing {
-    if is_forced {
-        Clearing::Any
-    } else {
-        Clearing::Own
+/// The clock and standard error, for what is done with a trace. Beside a listing nothing else is shown on a terminal.
+fn console_for(rt: &HostRuntime, request: &TraceRequest<'_>) -> Console {
+    match request {
+        TraceRequest::List(_) => beside_output(rt),
+        TraceRequest::Export(_) => beside_output(rt),
+        _ => Console::new(*rt, false),
     }
 }
 
-/// Does what is asked for: each request by the command of its name.
+/// Does with a trace what is asked.
+fn serve_files(
+    rt: &HostRuntime,
+    request: TraceRequest<'_>,
+    output: &mut Outlet,
+) -> Result<(), Complaint> {
+    let mut files = files_for(rt, &request)?;
+    let mut console = console_for(rt, &request);
+    let mut watched = Watched::new(output, &mut console);
+    let done = serve_trace(rt, request, &mut files, rt.stdin(), &mut watched);
+    drop(watched);
+    drop(console);
+    drop(files);
+    done
+}
+
+/// Does what is asked for.
 fn serve(rt: &HostRuntime, request: Request<'_>, output: &mut Outlet) -> Result<(), Complaint> {
     match request {
-        Request::Sim => commands::sim(rt, output),
-        Request::Stream => commands::stream(rt, output),
-        Request::Record(wanted) => commands::record(rt, wanted, output),
-        Request::Import { wanted, rules } => {
-            commands::import(rt, wanted, rules, output, &mut Console::new(*rt, false))
-        }
-        Request::List(asked) => commands::list(rt, asked, output, &mut beside_output(rt)),
-        Request::Export(asked) => commands::export(rt, asked, output, &mut beside_output(rt)),
-        Request::Wipe { asked, is_forced } => {
-            commands::wipe(rt, asked, clearing(is_forced), output)
-        }
+        Request::Sim => serve_sim(rt.alloc(), rt.stdin(), output),
+        Request::Stream => serve_stream(rt.alloc(), rt.stdin(), output),
+        Request::OfTrace(request) => serve_files(rt, request, output),
     }
 }
 

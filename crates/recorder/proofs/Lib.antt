@@ -10,3 +10,4 @@ pub mod Starting
 pub mod Storing
 pub mod Turning
 pub mod Written
+pub mod Commanding

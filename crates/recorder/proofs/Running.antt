@@ -144,6 +144,7 @@ is_held {P} told still start starts opened first let_go end last done leave move
       lets_go = lets_go;
       drops = drops;
       over = over;
+      was_honest = λ h. moved (λ d. d.honest) (subst (λ (p : P). (told p).device.honest) (starts first) ((run_calls told still (start first) end done leave run).was_honest (over.was_honest h)));
       whole = λ h v0 c f. moved (λ d. Leaves d last (Sound opened.spec v0 (accepted done) c))
           (subst (λ (spec : Spec). Leaves (told first).device last (Sound spec v0 (accepted done) c)) as_opened.spec
           (subst (λ (p : P). Leaves (told p).device last (Sound (told p).spec v0 (accepted done) c)) (starts first)

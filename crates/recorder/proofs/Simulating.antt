@@ -1,10 +1,14 @@
 -- What comes of a line of a script while no port is held.
-use Rattle.std.proofs.Common.{ℕ, Option, List, Result, Ok, Err, OnOk, inl}
+use Rattle.std.proofs.Common.{◌≡◌, ℕ, Option, List, [], replicate, Result, Ok, Err, OnOk, IfErr, inl, sym, subst}
+use Rattle.std.specs.Io.KnownBytes.{Keeps}
 use Rattle.trace_store.specs.declared.mem_store.MemStore.{MemStore}
 use Rattle.segment.specs.Specification.{Spec}
 use Rattle.trace_port.specs.Openings.{IsKept}
 use Rattle.trace_port.proofs.Leaving.{weaker}
-use Rattle.recorder.specs.Simulated.{device, LeavesSo, WasRun, ComesOf, ended_so}
+use Rattle.trace_store.specs.MemStore.{fuse_of, IsSettled}
+use Rattle.trace_store.specs.declared.fuse.Fuse.TheVariants.{Whole}
+use Rattle.recorder.specs.Simulated.{device, LeavesSo, WasRun, ComesOf, ended_so, Simulates, IsRun, runs, not_written_out, first_of}
+use Rattle.recorder.specs.declared.fault.SimFault.TheVariants as faults
 use Rattle.recorder.specs.declared.fault.SimFault.{SimFault}
 use Rattle.recorder.specs.declared.reply.Leave.{Leave}
 use Rattle.recorder.specs.declared.reply.Origin.{Origin}
@@ -20,11 +24,18 @@ pub only_kept : (spec : Spec) (old new : MemStore) → IsKept (device old) (devi
 only_kept spec old new kept = weaker (device old) (device new) (device old).images _ (λ image was. inl was) (kept.moments tt)
 
 -- what was written, told in another way
-pub told_so : {E : Type 0} (result : Result Unit E) (P Q Writes : List ℕ → Type 0) (N : Type 0) → ((text : List ℕ) → P text → Q text) → OnOk result ((text : List ℕ) × P text × Writes text) → OnOk result (N → (text : List ℕ) × Q text × Writes text)
-told_so (Ok done) P Q Writes N f wrote = λ none. (wrote.0, f wrote.0 wrote.1, wrote.2)
-told_so (Err fault) P Q Writes N f wrote = wrote
+pub told_so : {E : Type 0} (result : Result Unit E) (P Q Writes : List ℕ → Type 0) → ((text : List ℕ) → P text → Q text) → OnOk result ((text : List ℕ) × P text × Writes text) → OnOk result ((text : List ℕ) × Q text × Writes text)
+told_so (Ok done) P Q Writes f wrote = (wrote.0, f wrote.0 wrote.1, wrote.2)
+told_so (Err fault) P Q Writes f wrote = wrote
 
 -- one answer was
-pub answered_so : {E : Type 0} (result : Result Unit E) (text : List ℕ) (Q Writes : List ℕ → Type 0) (N : Type 0) → Q text → OnOk result (Writes text) → OnOk result (N → (text : List ℕ) × Q text × Writes text)
-answered_so (Ok done) text Q Writes N is wrote = λ none. (text, is, wrote)
-answered_so (Err fault) text Q Writes N is wrote = wrote
+pub answered_so : {E : Type 0} (result : Result Unit E) (text : List ℕ) (Q Writes : List ℕ → Type 0) → Q text → OnOk result (Writes text) → OnOk result ((text : List ℕ) × Q text × Writes text)
+answered_so (Ok done) text Q Writes is wrote = (text, is, wrote)
+answered_so (Err fault) text Q Writes is wrote = wrote
+
+-- a script was run, and what it wrote was written out or not
+pub is_run : (old new : MemStore) (was mid now : Option (List ℕ)) (done flushed : Result Unit SimFault) → IsSettled old (replicate 1 []) → fuse_of old ≡ Whole → Simulates old new was mid done → Keeps mid now → IfErr flushed (λ fault. fault ≡ faults.Write)
+    → IsRun was now (first_of done flushed)
+is_run old new was mid now (Ok done) (Ok out) blank whole run keeps written = runs blank whole run keeps
+is_run old new was mid now (Ok done) (Err fault) blank whole run keeps written = subst (λ (f : SimFault). IsRun was now (Err f)) (sym written) (not_written_out blank whole run keeps)
+is_run old new was mid now (Err fault) flushed blank whole run keeps written = runs blank whole run keeps

@@ -106,6 +106,7 @@ pub record IsHeld {P : Type 0} (told : P → Told) (start : P → Held P) (opene
   pub drops : Ends (told let_go) last
   -- the end of the desk and the drop of its port are the end of what was held
   pub over : Ends (told (port_of end)) last
+  pub was_honest : last.honest → opened.device.honest
   pub whole : last.honest → (v0 : View) (c : ℕ) → Fits opened v0 [] c → Leaves opened.device last (Sound opened.spec v0 (accepted asked) c)
   pub lines : last.honest → (v0 : View) (c : ℕ) → Fits opened v0 [] c → IsSoundThroughout told (start first) asked leave end last v0 c
 

@@ -14,3 +14,4 @@ pub mod Importing
 pub mod Files
 pub mod Complaints
 pub mod Simulated
+pub mod Commands

@@ -1,6 +1,8 @@
 -- What a line of a script does to the store in memory while no port is held.
-use Rattle.std.specs.Prelude.{◌≡◌, ◌≢◌, ◌⊎◌, ℕ, Option, Some, None, List, [], ◌∷◌, ◌++◌, length, replicate, Result, Ok, Err, OnOk, IfErr, false}
-use Rattle.std.specs.Io.KnownBytes.{Appends}
+use Rattle.std.specs.Prelude.{◌≡◌, ◌⊎◌, ℕ, Option, Some, None, List, [], ◌∷◌, ◌++◌, set, replicate, Result, Ok, Err, OnOk, IfErr, false}
+use Rattle.std.specs.Io.KnownBytes.{Appends, Keeps}
+use Rattle.std.specs.declared.vec.Vec.{Vec}
+use Rattle.std.specs.declared.alloc.Global.{Global}
 use Rattle.trace_store.specs.Disk.{Image}
 use Rattle.trace_store.specs.Moments.{Rose, LeavesOnly}
 use Rattle.trace_store.specs.MemStore.{honest_of, disk_of, reads_of, images_of, moments_of, clock_of, failures_of, fuse_of, SameButFuse, IsPossible, IsSettled}
@@ -33,7 +35,7 @@ use Rattle.recorder.specs.Faults.{script_fault}
 use Rattle.recorder.specs.Sides.{Alone}
 use Rattle.recorder.specs.Held.{WasHeld}
 use Rattle.recorder.specs.Openings.{told_of, Opens, IsNoSpec}
-use Rattle.recorder.specs.Stored.{TellsStore}
+use Rattle.recorder.specs.Stored.{TellsStore, TellsFiles}
 use Rattle.recorder.specs.Texts.{greeting, line_of}
 use Rattle.recorder.specs.declared.answer.Answer.TheVariants as answers
 use Rattle.recorder.specs.declared.fault.SimFault.{SimFault}
@@ -112,19 +114,20 @@ OnlyLooked old new = OnlyReads honest_of clock_of reads_of images_of moments_of 
 pub data Does (old new : MemStore) : Line → List ℕ → Type 0 where
   blanks : {files : ℕ} → IsSettled new (replicate files []) → fuse_of new ≡ Whole → Does old new (lines.Store files) (line_of answers.Done)
   no_memory : {files : ℕ} → new ≡ old → Does old new (lines.Store files) (line_of (answers.Refused refusals.NoMemory))
-  holds : {file : ℕ} {bytes : _} → length (reads_of new) ≡ length (reads_of old) → Does old new (lines.Bytes file bytes) (line_of answers.Done)
-  holds_not : {file : ℕ} {bytes : _} (refusal : Refusal) → length (reads_of new) ≡ length (reads_of old) → Does old new (lines.Bytes file bytes) (line_of (answers.Refused refusal))
+  holds : {file : ℕ} {bytes : Vec ℕ Global} → IsSettled new (set (reads_of old) file bytes.items) → fuse_of new ≡ Whole → Does old new (lines.Bytes file bytes) (line_of answers.Done)
+  holds_not : {file : ℕ} {bytes : Vec ℕ Global} (refusal : Refusal) → OnlyLooked old new → Does old new (lines.Bytes file bytes) (line_of (answers.Refused refusal))
   fuses : {calls : ℕ} → fuse_of new ≡ After (clock_of old) calls → SameButFuse old new → Does old new (lines.Fuse calls) (line_of answers.Done)
   fails_once : {calls : ℕ} → fuse_of new ≡ Once (clock_of old) calls → SameButFuse old new → Does old new (lines.FailOnce calls) (line_of answers.Done)
   crashes : {unsynced : Unsynced} {text : List ℕ} → Crashes unsynced old new text → Does old new (lines.Crash unsynced) text
   lists : {text : List ℕ} → TellsStore (reads_of old) (Rose (failures_of old) (failures_of new)) text → OnlyLooked old new → Does old new lines.List text
+  tells_files : {text : List ℕ} → TellsFiles (reads_of old) (Rose (failures_of old) (failures_of new)) text → OnlyLooked old new → Does old new lines.Files text
   wipes : IsWiped (reads_of old) (reads_of new) → ((c : Image) → images_of new c → IsBlank (readings c)) → LeavesOnly clock_of moments_of old new (IsWiping (images_of old)) → Does old new lines.Wipe (line_of answers.Done)
   wipes_not : Rose (failures_of old) (failures_of new) → LeavesOnly clock_of moments_of old new (IsWiping (images_of old)) → Does old new lines.Wipe (line_of (answers.Refused refusals.Device))
   out_of_order : {line : Line} → new ≡ old → Does old new line (line_of answers.OutOfOrder)
 
--- what comes of a line that makes no port; of what it writes of the files nothing is said
+-- what comes of a line that makes no port
 abbrev pub DoesAlone : Line → MemStore → MemStore → Result (Option Leave) Stop → (List ℕ → Type 0) → Type 0
-DoesAlone line old new (Ok left) Writes = (left ≡ None) × (line ≢ lines.Files → (text : List ℕ) × Does old new line text × Writes text)
+DoesAlone line old new (Ok left) Writes = (left ≡ None) × ((text : List ℕ) × Does old new line text × Writes text)
 DoesAlone line old new (Err (stops.Failed fault)) Writes = Unit {0}
 DoesAlone line old new (Err (stops.Refused refusal)) Writes = ⊥
 
@@ -160,3 +163,15 @@ pub data Simulates (old new : MemStore) (was now : Option (List ℕ)) : Result U
   to_end : (done : List Line) → AreRun old was done new now → Simulates old new was now (Ok tt)
   no_line : (done : List Line) (fault : ScriptFault) → AreRun old was done new now → Simulates old new was now (Err (script_fault fault))
   broken_off : {mid : MemStore} {between : Option (List ℕ)} (done : List Line) (line : Line) (fault : SimFault) → AreRun old was done mid between → IsRunWhole line mid new (Err fault) between now → Simulates old new was now (Err fault)
+
+-- of two causes the first
+abbrev pub first_of : Result Unit SimFault → Result Unit SimFault → Result Unit SimFault
+first_of (Ok done) later = later
+first_of (Err fault) later = Err fault
+
+-- a script was run over a store that was blank at first and had one file, and what was written was written out
+pub data IsRun (was now : Option (List ℕ)) : Result Unit SimFault → Type 0 where
+  runs : {old new : MemStore} {mid : Option (List ℕ)} {done : Result Unit SimFault} → IsSettled old (replicate 1 []) → fuse_of old ≡ Whole → Simulates old new was mid done → Keeps mid now → IsRun was now done
+  not_written_out : {old new : MemStore} {mid : Option (List ℕ)} → IsSettled old (replicate 1 []) → fuse_of old ≡ Whole → Simulates old new was mid (Ok tt) → Keeps mid now → IsRun was now (Err faults.Write)
+  -- there was no memory for the script or its store
+  no_memory : Keeps was now → IsRun was now (Err faults.NoMemory)

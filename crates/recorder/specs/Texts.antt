@@ -1,5 +1,5 @@
 -- The texts of answers.
-use Rattle.std.specs.Prelude.{ℕ, List, [], ◌∷◌, ◌++◌, codes}
+use Rattle.std.specs.Prelude.{ℕ, ◌+◌, ◌/◌, ◌%◌, Option, Some, None, List, [], ◌∷◌, ◌++◌, nat_lt, if◌then◌else◌, codes}
 use Rattle.std.specs.Fmt.{decimal}
 use Rattle.recovery.specs.declared.fault.RecoverFault.{RecoverFault}
 use Rattle.recovery.specs.declared.fault.RecoverFault.TheVariants as recovering
@@ -118,6 +118,19 @@ answer_text (answers.Refused refusal) = codes "refused " ++ refusal_text refusal
 -- an answer and a line feed
 abbrev pub line_of : Answer → List ℕ
 line_of answer = answer_text answer ++ 10 ∷ []
+
+-- the digit of a number below 16, in lower case
+abbrev pub digit_of : ℕ → ℕ
+digit_of number = if nat_lt number 10 then 48 + number else 87 + number
+
+-- a file's first byte in two hexadecimal digits, and a line feed
+abbrev pub gate_text : Option ℕ → List ℕ
+gate_text None = codes "--\n"
+gate_text (Some gate) = digit_of (gate / 16) ∷ digit_of (gate % 16) ∷ 10 ∷ []
+
+-- the line of a file with its length and its first byte, if it has one
+abbrev pub state_text : ℕ → ℕ → Option ℕ → List ℕ
+state_text file length gate = codes "file " ++ decimal file ++ codes " length " ++ decimal length ++ codes " gate " ++ gate_text gate
 
 -- what is answered once a port is held that has accepted so many entries
 abbrev pub greeting : Origin → ℕ → Answer

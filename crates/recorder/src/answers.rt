@@ -1,4 +1,6 @@
 // The answers of a run.
+ghost use Rattle.std.specs.Prelude.{◌≡◌, ◌<◌};
+ghost use Rattle.recorder.specs.Texts.{digit_of, gate_text};
 
 use crate::answer::Answer;
 use crate::fault::SimFault;
@@ -6,6 +8,28 @@ use recovery::Recovered;
 use std::alloc::Global;
 use std::io::Write;
 use trace_client::list;
+
+/// The last word of a file's line, with its line feed: two hexadecimal digits, or `--` where there is no byte.
+fn last_word(gate: Option<u8>) -> [u8; 3]
+    ensures { result ≡ gate_text gate }
+{
+    match gate {
+        Some(gate) => [digit(gate / 16), digit(gate % 16), b'\n'],
+        None => *b"--\n",
+    }
+}
+
+/// A hexadecimal digit.
+fn digit(number: u8) -> u8
+    requires { number < 16 }
+    ensures { result ≡ digit_of number }
+{
+    if number < 10 {
+        b'0' + number
+    } else {
+        b'a' + (number - 10)
+    }
+}
 
 #[derive(Drop)]
 pub struct Answers<'w, W: Write> {
@@ -19,10 +43,13 @@ impl<'w, W: Write> Answers<'w, W> {
     ghost use Rattle.std.specs.Io.KnownBytes.{Appends, Keeps};
     ghost use Rattle.entry_codec.specs.Seen.{views};
     ghost use Rattle.trace_client.specs.Lines.{IsListing};
-    ghost use Rattle.recorder.specs.Texts.{line_of};
+    ghost use Rattle.recorder.specs.Texts.{line_of, state_text};
     ghost use Rattle.recorder.specs.declared.fault.SimFault.TheVariants as faults;
 
-    pub fn new(writer: &'w mut W) -> Answers<'w, W> {
+    pub fn new(writer: &'w mut W) -> Answers<'w, W>
+        ensures name { result.writer.ghost_name ≡ writer.entry.ghost_name }
+        ensures now { result.writer.now ≡ writer.entry.now }
+    {
         Answers {
             writer,
             at_once: false,
@@ -55,19 +82,22 @@ impl<'w, W: Write> Answers<'w, W> {
 
     /// The listing of what a store holds.
     pub fn listing(&mut self, alloc: Global, found: &Recovered) -> Result<(), SimFault>
-        ensures { OnOk result ((text : List ℕ) × IsListing found.now.first found.now.lost (views found.now.entries.items) text
+        ensures name { self.new.writer.ghost_name ≡ self.old.writer.ghost_name }
+        ensures text { OnOk result ((text : List ℕ) × IsListing found.now.first found.now.lost (views found.now.entries.items) text
             × Appends (W.contents self.old.writer.now) (W.contents self.new.writer.now) text) }
     {
         Ok(list(alloc, found, &mut *self.writer)?)
     }
 
     /// A file with its length and, unless it is empty, its first byte.
-    pub fn file(&mut self, file: u32, length: u64, gate: Option<u8>) -> Result<(), SimFault> {
-        let told = match gate {
-            Some(gate) => writeln!(self.writer, "file {file} length {length} gate {gate:02x}"),
-            None => writeln!(self.writer, "file {file} length {length} gate --"),
-        };
-        told.map_err(|_| SimFault::Write)
+    pub fn file(&mut self, file: u32, length: u64, gate: Option<u8>) -> Result<(), SimFault>
+        ensures name { self.new.writer.ghost_name ≡ self.old.writer.ghost_name }
+        ensures text { OnOk result (Appends (W.contents self.old.writer.now) (W.contents self.new.writer.now) (state_text file length gate)) }
+        ensures fault { IfErr result (λ fault. fault ≡ faults.Write) }
+    {
+        write!(self.writer, "file {file} length {length} gate ").map_err(|_| SimFault::Write)?;
+        let last = last_word(gate);
+        self.writer.write_all(&last).map_err(|_| SimFault::Write)
     }
 
     /// Writes out what is still in a buffer.

@@ -1,6 +1,6 @@
 // Where a trace is stored.
-ghost use Rattle.std.specs.Prelude.{◌≤◌};
-ghost use Rattle.recorder.specs.Places.{file_count};
+ghost use Rattle.std.specs.Prelude.{◌≡◌, ◌≤◌};
+ghost use Rattle.recorder.specs.Places.{file_count, turn_of};
 
 use crate::lookup::Found;
 use command_line::{Asked, Shape, Wanted};
@@ -36,7 +36,9 @@ const STANDARD_SIZE: u32 = 131_072;
 
 impl Turn {
     /// What ends a run of a new wrap, as the command line asks for it.
-    pub fn of(wanted: &Wanted<'_>) -> Turn {
+    pub fn of(wanted: &Wanted<'_>) -> Turn
+        ensures { result ≡ turn_of wanted.now }
+    {
         match wanted.time {
             Some(millis) => Turn::Time(millis),
             None => Turn::Size(wanted.size.unwrap_or(STANDARD_SIZE)),

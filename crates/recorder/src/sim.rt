@@ -5,7 +5,7 @@ ghost use Rattle.trace_store.specs.MemStore.{reads_of};
 ghost use Rattle.trace_script.specs.Lines.{IsWithinLimits, HasFile};
 ghost use Rattle.segment.specs.Specification.{Spec, File};
 ghost use Rattle.wrap_port.specs.WrapSpecs.{wrap_seen};
-ghost use Rattle.recorder.specs.Simulated.{ended_so, ComesOf, Crashes, Does, DoesAlone, Runs, IsRunWhole, Simulates, IsOver, IsItsFault, OnlyLooked};
+ghost use Rattle.recorder.specs.Simulated.{ended_so, ComesOf, Crashes, Does, DoesAlone, Runs, IsRunWhole, Simulates, IsOver, IsItsFault, IsRun, first_of as first_told};
 ghost use Rattle.recorder.specs.Texts.{line_of};
 ghost use Rattle.trace_port.specs.declared.create.CreateFault.TheVariants as creating;
 ghost use Rattle.recorder.specs.declared.fault.SimFault.TheVariants as faults;
@@ -36,25 +36,46 @@ pub fn run_sim<R: BufRead, W: Write>(
     alloc: Global,
     reader: &mut R,
     writer: &mut W,
-) -> Result<(), SimFault> {
-    let mut script = Script::new(alloc, reader)?;
+) -> Result<(), SimFault>
+    ensures { IsRun (W.contents writer.old) (W.contents writer.new) result }
+{
+    let Ok(mut script) = Script::new(alloc, reader) else {
+        return Err(SimFault::NoMemory);
+    };
     let done = run_script(alloc, &mut script, writer);
     drop(script);
     done
 }
 
+/// Runs the lines of a script over a blank store of one file.
 fn run_script<R: BufRead, W: Write>(
     alloc: Global,
     script: &mut Script<'_, R>,
     writer: &mut W,
-) -> Result<(), SimFault> {
-    let mut store = MemStore::blank(alloc, 1)?;
+) -> Result<(), SimFault>
+    ensures { IsRun (W.contents writer.old) (W.contents writer.new) result }
+{
+    let Ok(mut store) = MemStore::blank(alloc, 1) else {
+        return Err(SimFault::NoMemory);
+    };
     let mut answers = Answers::new(writer);
     let done = run_lines(alloc, &mut store, script, &mut answers);
     let flushed = answers.finish();
     drop(store);
-    done?;
-    flushed
+    first_of(done, flushed)
+}
+
+/// The fault of a run, or else that of writing out what it wrote.
+fn first_of(done: Result<(), SimFault>, flushed: Result<(), SimFault>) -> Result<(), SimFault>
+    ensures { result ≡ first_told done flushed }
+{
+    match done {
+        Ok(()) => flushed,
+        Err(fault) => {
+            drop(flushed);
+            Err(fault)
+        }
+    }
 }
 
 /// Runs lines while no port is held.
@@ -64,7 +85,8 @@ pub fn run_lines<R: BufRead, W: Write>(
     script: &mut Script<'_, R>,
     answers: &mut Answers<'_, W>,
 ) -> Result<(), SimFault>
-    ensures { Simulates store.old store.new (W.contents answers.old.writer.now) (W.contents answers.new.writer.now) result }
+    ensures name { answers.new.writer.ghost_name ≡ answers.old.writer.ghost_name }
+    ensures simulates { Simulates store.old store.new (W.contents answers.old.writer.now) (W.contents answers.new.writer.now) result }
 {
     for _line in 0..u64::MAX {
         match script.next_line()? {
@@ -88,7 +110,8 @@ fn run_whole<R: BufRead, W: Write>(
 ) -> Result<(), SimFault>
     requires sound { IsWithinLimits line }
     requires file { HasFile (reads_of store.old) line }
-    ensures { IsRunWhole line store.old store.new result (W.contents answers.old.writer.now) (W.contents answers.new.writer.now) }
+    ensures name { answers.new.writer.ghost_name ≡ answers.old.writer.ghost_name }
+    ensures run { IsRunWhole line store.old store.new result (W.contents answers.old.writer.now) (W.contents answers.new.writer.now) }
 {
     let left = run_line(alloc, &mut *store, &line, script, &mut *answers);
     drop(line);
@@ -105,7 +128,8 @@ fn run_line<R: BufRead, W: Write>(
 ) -> Result<Option<Leave>, Stop>
     requires sound { IsWithinLimits line.now }
     requires file { HasFile (reads_of store.old) line.now }
-    ensures { Runs line.now store.old store.new result (λ text. Appends (W.contents answers.old.writer.now) (W.contents answers.new.writer.now) text) }
+    ensures name { answers.new.writer.ghost_name ≡ answers.old.writer.ghost_name }
+    ensures runs { Runs line.now store.old store.new result (λ text. Appends (W.contents answers.old.writer.now) (W.contents answers.new.writer.now) text) }
 {
     match line {
         Line::CreateFile(limit) => create_file(alloc, store, *limit, script, answers),
@@ -143,7 +167,8 @@ fn run_alone<W: Write>(
 ) -> Result<Option<Leave>, Stop>
     requires sound { IsWithinLimits line.now }
     requires file { HasFile (reads_of store.old) line.now }
-    ensures { DoesAlone line.now store.old store.new result (λ text. Appends (W.contents answers.old.writer.now) (W.contents answers.new.writer.now) text) }
+    ensures name { answers.new.writer.ghost_name ≡ answers.old.writer.ghost_name }
+    ensures does { DoesAlone line.now store.old store.new result (λ text. Appends (W.contents answers.old.writer.now) (W.contents answers.new.writer.now) text) }
 {
     match run_store_line(alloc, store, line, &mut *answers) {
         Ok(()) => Ok(None),
@@ -169,7 +194,8 @@ fn create_file<R: BufRead, W: Write>(
     script: &mut Script<'_, R>,
     answers: &mut Answers<'_, W>,
 ) -> Result<Option<Leave>, Stop>
-    ensures { ComesOf Created File store.old store.new result (λ text. Appends (W.contents answers.old.writer.now) (W.contents answers.new.writer.now) text) }
+    ensures name { answers.new.writer.ghost_name ≡ answers.old.writer.ghost_name }
+    ensures comes { ComesOf Created File store.old store.new result (λ text. Appends (W.contents answers.old.writer.now) (W.contents answers.new.writer.now) text) }
 {
     match begin_create(alloc, &mut *store, limit) {
         Ok(opening) => {
@@ -195,7 +221,8 @@ fn resume_file<R: BufRead, W: Write>(
     script: &mut Script<'_, R>,
     answers: &mut Answers<'_, W>,
 ) -> Result<Option<Leave>, Stop>
-    ensures { ComesOf Resumed File store.old store.new result (λ text. Appends (W.contents answers.old.writer.now) (W.contents answers.new.writer.now) text) }
+    ensures name { answers.new.writer.ghost_name ≡ answers.old.writer.ghost_name }
+    ensures comes { ComesOf Resumed File store.old store.new result (λ text. Appends (W.contents answers.old.writer.now) (W.contents answers.new.writer.now) text) }
 {
     match begin_resume(alloc, &mut *store, limit) {
         Ok(opening) => {
@@ -220,7 +247,8 @@ fn resume_wrap<R: BufRead, W: Write>(
     script: &mut Script<'_, R>,
     answers: &mut Answers<'_, W>,
 ) -> Result<Option<Leave>, Stop>
-    ensures { (spec : Spec) → ComesOf Resumed spec store.old store.new result (λ text. Appends (W.contents answers.old.writer.now) (W.contents answers.new.writer.now) text) }
+    ensures name { answers.new.writer.ghost_name ≡ answers.old.writer.ghost_name }
+    ensures comes { (spec : Spec) → ComesOf Resumed spec store.old store.new result (λ text. Appends (W.contents answers.old.writer.now) (W.contents answers.new.writer.now) text) }
 {
     match wrap_port::begin_resume(alloc, &mut *store) {
         Ok(opening) => {
@@ -246,7 +274,8 @@ fn create_wrap<R: BufRead, W: Write>(
     script: &mut Script<'_, R>,
     answers: &mut Answers<'_, W>,
 ) -> Result<Option<Leave>, Stop>
-    ensures { ComesOf Created (wrap_seen spec) store.old store.new result (λ text. Appends (W.contents answers.old.writer.now) (W.contents answers.new.writer.now) text) }
+    ensures name { answers.new.writer.ghost_name ≡ answers.old.writer.ghost_name }
+    ensures comes { ComesOf Created (wrap_seen spec) store.old store.new result (λ text. Appends (W.contents answers.old.writer.now) (W.contents answers.new.writer.now) text) }
 {
     match wrap_port::begin_create(alloc, &mut *store, spec) {
         Ok(opening) => {
@@ -273,8 +302,8 @@ fn run_store_line<W: Write>(
 ) -> Result<(), SimFault>
     requires sound { IsWithinLimits line.now }
     requires file { HasFile (reads_of store.old) line.now }
-    ensures does { OnOk result (line.now ≢ lines.Files → (text : List ℕ) × Does store.old store.new line.now text × Appends (W.contents answers.old.writer.now) (W.contents answers.new.writer.now) text) }
-    ensures looks { line.now ≡ lines.Files → OnlyLooked store.old store.new }
+    ensures name { answers.new.writer.ghost_name ≡ answers.old.writer.ghost_name }
+    ensures does { OnOk result ((text : List ℕ) × Does store.old store.new line.now text × Appends (W.contents answers.old.writer.now) (W.contents answers.new.writer.now) text) }
 {
     match line {
         Line::Store(files) => answers.tell(set_store(alloc, store, *files)),
@@ -349,6 +378,7 @@ fn finish<W: Write>(
     left: Result<Option<Leave>, Stop>,
     answers: &mut Answers<'_, W>,
 ) -> Result<(), SimFault>
+    ensures name { answers.new.writer.ghost_name ≡ answers.old.writer.ghost_name }
     ensures over { OnOk result ((text : List ℕ) × IsOver left store.old store.new text × Appends (W.contents answers.old.writer.now) (W.contents answers.new.writer.now) text) }
     ensures fault { IfErr result (IsItsFault left) }
 {
@@ -378,6 +408,7 @@ fn crash<W: Write>(
     unsynced: Unsynced,
     answers: &mut Answers<'_, W>,
 ) -> Result<(), SimFault>
+    ensures name { answers.new.writer.ghost_name ≡ answers.old.writer.ghost_name }
     ensures crashes { OnOk result ((text : List ℕ) × Crashes unsynced store.old store.new text × Appends (W.contents answers.old.writer.now) (W.contents answers.new.writer.now) text) }
     ensures fault { IfErr result (λ fault. fault ≡ faults.Write) }
 {

@@ -1,8 +1,11 @@
-use Rattle.std.proofs.Common.{◌≡◌, length}
+use Rattle.std.proofs.Common.{◌≡◌, take, length}
+use Rattle.trace_store.specs.Calls.{contents_of}
+use Rattle.segment.specs.Pieces.{OnlyReads}
 use Rattle.recorder.proofs.contents.contents_of.Given as goal
 
 abbrev pub invariant-loop-file : goal.invariant-loop-file
 invariant-loop-file g l = record {
-  same : length (g.S.Store.reads l.store) ≡ length (g.S.Store.reads l.fn.store);
+  only_reads : OnlyReads g.S.Store.honest g.S.Store.clock_of g.S.Store.reads g.S.Store.images g.S.Store.moments l.fn.store l.store;
   count : length l.contents.items ≡ l.file;
+  read : g.S.Store.honest l.store → contents_of l.contents.items ≡ take l.file (g.S.Store.reads l.fn.store);
 }

@@ -8,8 +8,8 @@ use Rattle.recorder.proofs.Running.{was_held}
 use Rattle.recorder.proofs.Turning.{no_file}
 use Rattle.recorder.proofs.port_lines.hold_wrap.Goals as goal
 
-pub returns : goal.returns
-returns g c =
+pub returns-clause-held : goal.returns-clause-held
+returns-clause-held g c =
     let device = device_of g.S.Store in
     let told = wrap_told g.S.Store Rattle.trace_port.specs.contracts.pending.PendingRoom.TheImpl.ghosts in
     let laws = g.met.S.Store g.world.𝓛 g.world.𝓜 g.world.𝓡 (λ s h. h, λ p. p, λ f. f, λ p. p) in

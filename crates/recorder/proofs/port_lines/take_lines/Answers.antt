@@ -5,7 +5,7 @@ use Rattle.recorder.proofs.Written.{nothing_yet, has_told, has_left, has_run, ha
 use Rattle.recorder.proofs.port_lines.take_lines.Goals as goal
 
 pub loop-line-init : goal.loop-line-init
-loop-line-init g c = record { same = refl; run = nothing_yet g.P.TracePort.told (Alone c.args.port.now) (g.W.Write.contents c.args.answers.now.writer.now) }
+loop-line-init g c = record { same = refl; name = refl; run = nothing_yet g.P.TracePort.told (Alone c.args.port.now) (g.W.Write.contents c.args.answers.now.writer.now) }
 
 pub returns-in_err-next_line-clause-run : goal.returns-in_err-next_line-clause-run
 returns-in_err-next_line-clause-run g c =
@@ -34,5 +34,6 @@ pub loop-line-preserved : goal.loop-line-preserved
 loop-line-preserved g c =
     record {
       same = c.ask_owned.ensures.same ∙ c.loop-line.invariant.same;
+      name = c.in_ok-tell-in-Told.ensures.name ∙ c.loop-line.invariant.name;
       run = has_told g.P.TracePort.told (Alone c.args.port.now) (Alone c.loop-line.port) (Alone c.ask_owned.new.port) _ c.ask_owned.result c.in-Told.answer _ _ _ c.loop-line.invariant.run c.ask_owned.ensures.step c.in-Told.is c.in_ok-tell-in-Told.ensures.text;
     }

@@ -6,8 +6,8 @@ use Rattle.recorder.specs.declared.reply.Origin.TheVariants.{Resumed}
 use Rattle.recorder.proofs.Simulating.{was_run, only_kept}
 use Rattle.recorder.proofs.sim.resume_file.Goals as goal
 
-pub returns-in-Ok : goal.returns-in-Ok
-returns-in-Ok g c =
+pub returns-in-Ok-clause-comes : goal.returns-in-Ok-clause-comes
+returns-in-Ok-clause-comes g c =
     let e = c.in-Ok.ensures in
     let found = e.fits tt in
     rw c.ended.ensures (was_run Resumed File c.args.store.now c.hold_file-left.new.store c.hold_file-left.result _ (record {
@@ -15,8 +15,8 @@ returns-in-Ok g c =
       opening = openings.File c.in-Ok.opening;
       opens = goes_on found.0 found.1 found.2;
       moments = only_kept File c.args.store.now c.begin_resume.new.store c.begin_resume.ensures.kept;
-      ran = c.hold_file-left.ensures;
+      ran = c.hold_file-left.ensures.held;
     }))
 
-pub returns-in-Err : goal.returns-in-Err
-returns-in-Err g c = (only_kept File c.args.store.now c.begin_resume.new.store c.begin_resume.ensures.kept, Appends-nil _)
+pub returns-in-Err-clause-comes : goal.returns-in-Err-clause-comes
+returns-in-Err-clause-comes g c = (only_kept File c.args.store.now c.begin_resume.new.store c.begin_resume.ensures.kept, Appends-nil _)

@@ -4,8 +4,8 @@ use Rattle.recorder.specs.declared.reply.Origin.TheVariants.{Resumed}
 use Rattle.recorder.proofs.Simulating.{was_run}
 use Rattle.recorder.proofs.sim.resume_wrap.Goals as goal
 
-pub returns-in-Ok : goal.returns-in-Ok
-returns-in-Ok g c = λ spec.
+pub returns-in-Ok-clause-comes : goal.returns-in-Ok-clause-comes
+returns-in-Ok-clause-comes g c = λ spec.
     let e = c.in-Ok.ensures in
     let found = e.fits tt in
     rw c.ended.ensures (was_run Resumed spec c.args.store.now c.hold_wrap-left.new.store c.hold_wrap-left.result _ (record {
@@ -13,5 +13,5 @@ returns-in-Ok g c = λ spec.
       opening = openings.Wrap c.in-Ok.opening;
       opens = goes_on found.0 found.1 found.2;
       moments = c.begin_resume.ensures.any_moment tt;
-      ran = c.hold_wrap-left.ensures;
+      ran = c.hold_wrap-left.ensures.held;
     }))

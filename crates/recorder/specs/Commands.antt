@@ -1,0 +1,122 @@
+-- What a command does with the files of a trace.
+use Rattle.std.specs.Prelude.{◌≡◌, ◌⊎◌, ℕ, Bool, true, false, Option, List, [], Result, Ok, Err}
+use Rattle.std.specs.Io.KnownBytes.{Appends, Keeps}
+use Rattle.trace_store.specs.Disk.{Image}
+use Rattle.trace_store.specs.Moments.{LeavesOnly}
+use Rattle.trace_store.specs.FolderStore.{honest_of, reads_of, images_of, moments_of, clock_of}
+use Rattle.trace_store.specs.declared.folder_store.FolderStore.{FolderStore}
+use Rattle.trace_store.specs.contracts.folder_store.FolderStoreStore.TheImpl as folder
+use Rattle.segment.specs.Specification.{Spec}
+use Rattle.recovery.specs.Stores.{readings, IsBlank}
+use Rattle.trace_port.specs.Device.{Device, device_of}
+use Rattle.trace_client.specs.Forms.{Form, as_lines, as_bytes}
+use Rattle.trace_files.specs.Clearing.{AreCleared, IsClearing, HasNoForeign}
+use Rattle.trace_files.specs.Standing.{IsStanding}
+use Rattle.trace_files.specs.declared.standing.Standing.TheVariants as standings
+use Rattle.trace_reader.specs.Listings.{ListsStore, ExportsStore}
+use Rattle.trace_reader.specs.Reading.{IsWhyNotRead, IsWrittenOf}
+use Rattle.trace_reader.specs.Wiping.{HasForeign, IsWhyNotWiped, IsNotToWipe}
+use Rattle.trace_reader.specs.declared.fault.ReadFault.{ReadFault}
+use Rattle.trace_reader.specs.declared.fault.WipeFault.{WipeFault}
+use Rattle.trace_reader.specs.declared.wiping.Clearing.{Clearing}
+use Rattle.trace_reader.specs.declared.wiping.Clearing.TheVariants.{Own, Any}
+use Rattle.command_line.specs.declared.request.Rules.{Rules}
+use Rattle.command_line.specs.declared.request.TraceRequest.{TraceRequest}
+use Rattle.command_line.specs.declared.request.TraceRequest.TheVariants as requests
+use Rattle.recorder.specs.Complaints.{status_told}
+use Rattle.recorder.specs.Faults.{status_of, read_fault, wipe_fault}
+use Rattle.recorder.specs.Files.{OnlyLooks, WasRecorded, WasFed}
+use Rattle.recorder.specs.Openings.{wanted, told_of, Suits, Opens, IsOpenedSo, IsWhyNotOpened}
+use Rattle.recorder.specs.Places.{turn_of}
+use Rattle.recorder.specs.Texts.{line_of}
+use Rattle.recorder.specs.declared.answer.Answer.TheVariants.{Done}
+use Rattle.recorder.specs.declared.complaint.Complaint.{Complaint}
+use Rattle.recorder.specs.declared.fault.SimFault.{SimFault}
+use Rattle.recorder.specs.declared.files.Files.{Files}
+use Rattle.recorder.specs.declared.opening.Opened.{Opened}
+use Rattle.recorder.specs.declared.reply.Origin.{Origin}
+
+-- the files of a trace as a device
+abbrev pub device : FolderStore → Device
+device store = device_of folder.ghosts store
+
+-- a fault is told with its exit status, and nothing else is
+abbrev pub IsToldAs : Result Unit SimFault → Result Unit Complaint → Type 0
+IsToldAs (Ok done) result = result ≡ Ok tt
+IsToldAs (Err fault) (Ok done) = ⊥
+IsToldAs (Err fault) (Err complaint) = status_told complaint ≡ status_of fault
+
+-- what is told of a fault has its exit status, or, where there was no memory for more words, that of this
+abbrev pub IsToldOf : SimFault → Complaint → Type 0
+IsToldOf fault complaint = (status_told complaint ≡ status_of fault) ⊎ (status_told complaint ≡ 1)
+
+-- the same of a call
+abbrev pub IsExplained : Result Unit SimFault → Result Unit Complaint → Type 0
+IsExplained (Ok done) result = result ≡ Ok tt
+IsExplained (Err fault) (Ok done) = ⊥
+IsExplained (Err fault) (Err complaint) = IsToldOf fault complaint
+
+-- how a reading of a trace ended, and what was written is written out: it was written whole; or so much of it as stands before a fault, or as could be written out
+pub data IsRead (Tells : Image → List ℕ → Type 0) (form : Form) (image : Image) (was now : Option (List ℕ)) : Result Unit Complaint → Type 0 where
+  whole : (text : List ℕ) (mid : Option (List ℕ)) → IsStanding standings.Ours image → Tells image text → Appends was mid text → Keeps mid now → IsRead Tells form image was now (Ok tt)
+  not_written_out : (text : List ℕ) (mid : Option (List ℕ)) (complaint : Complaint) → IsStanding standings.Ours image → Tells image text → Appends was mid text → Keeps mid now → status_told complaint ≡ 1 → IsRead Tells form image was now (Err complaint)
+  refused : (fault : ReadFault) (entries : ℕ) (mid : Option (List ℕ)) (complaint : Complaint) → IsWhyNotRead fault image → IsWrittenOf form fault image was mid entries → Keeps mid now → IsToldOf (read_fault fault) complaint → IsRead Tells form image was now (Err complaint)
+
+-- a trace was cleared for good: whatever a crash leaves of it is blank
+pub record IsCleared (clearing : Clearing) (old new : FolderStore) : Type 0 where
+  pub is_due : IsNotToWipe clearing (reads_of old) → ⊥
+  pub files : AreCleared (reads_of old) (reads_of new)
+  pub closed : (c : Image) → images_of new c → IsBlank (readings c)
+  pub none_foreign : (c : Image) → images_of new c → HasNoForeign c
+
+-- how a clearing ended: it is said to be done where it is; or it is done, and that couldn't be told or the mark of a failed sync stays; or it isn't done
+pub data Clears (clearing : Clearing) (old new : FolderStore) (was now : Option (List ℕ)) : Result Unit Complaint → Type 0 where
+  done : IsCleared clearing old new → Appends was now (line_of Done) → Clears clearing old new was now (Ok tt)
+  not_told : (complaint : Complaint) → IsCleared clearing old new → status_told complaint ≡ 1 → Clears clearing old new was now (Err complaint)
+  refused : (fault : WipeFault) (complaint : Complaint) → IsWhyNotWiped clearing fault (reads_of old) → Appends was now [] → IsToldOf (wipe_fault fault) complaint → Clears clearing old new was now (Err complaint)
+
+-- a port was opened for a trace of this kind
+pub record IsOpened (spec : Spec) (old new : FolderStore) (opened : Opened) (origin : Origin) : Type 0 where
+  pub suits : Suits folder.ghosts opened new
+  pub opens : honest_of new → Opens (reads_of old) (told_of opened (device new)) spec origin
+  pub ours : honest_of new → HasNoForeign (reads_of old)
+  pub moments : honest_of new → IsOpenedSo (device old) (device new) spec
+
+-- none was
+pub record IsNotOpened (spec : Spec) (old new : FolderStore) (fault : SimFault) : Type 0 where
+  pub why : honest_of new → IsWhyNotOpened spec fault (reads_of old)
+  pub untouched : honest_of new → HasForeign (reads_of old) → OnlyLooks old new
+  pub moments : honest_of new → IsOpenedSo (device old) (device new) spec
+
+-- a trace was opened and a script's lines were run at its port; or nothing was done but the opening, or not even that
+pub data Records (spec : Spec) (old new : FolderStore) (was now : Option (List ℕ)) : Result Unit Complaint → Type 0 where
+  runs : {mid : FolderStore} {opened : Opened} {origin : Origin} {result : Result Unit Complaint} (done : Result Unit SimFault) → IsOpened spec old mid opened origin → WasRecorded opened origin mid new done was now → IsToldAs done result
+      → Records spec old new was now result
+  not_opened : {mid : FolderStore} (fault : SimFault) (complaint : Complaint) → IsNotOpened spec old mid fault → OnlyLooks mid new → Keeps was now → IsToldOf fault complaint → Records spec old new was now (Err complaint)
+  no_memory : (complaint : Complaint) → new ≡ old → Keeps was now → status_told complaint ≡ 1 → Records spec old new was now (Err complaint)
+
+-- a trace was opened and a stream put into its port; or nothing was done but the opening
+pub data Feeds (spec : Spec) (rules : Rules) (old new : FolderStore) (had was now : Option (List ℕ)) : Result Unit Complaint → Type 0 where
+  feeds : {mid last : FolderStore} {opened : Opened} {origin : Origin} {result : Result Unit Complaint} (left : Option (List ℕ)) (done : Result Unit SimFault) → IsOpened spec old mid opened origin
+      → WasFed opened origin rules mid last had left done (λ text. Appends was now text) → OnlyLooks last new → IsExplained done result → Feeds spec rules old new had was now result
+  not_opened : {mid : FolderStore} (fault : SimFault) (complaint : Complaint) → IsNotOpened spec old mid fault → OnlyLooks mid new → Keeps was now → IsToldOf fault complaint → Feeds spec rules old new had was now (Err complaint)
+
+-- whether files that aren't of a trace are cleared, too
+abbrev pub clearing_of : Bool → Clearing
+clearing_of false = Own
+clearing_of true = Any
+
+-- what is asked changes the trace
+abbrev pub Changes : TraceRequest → Type 0
+Changes (requests.List asked) = ⊥
+Changes (requests.Export asked) = ⊥
+Changes _ = Unit {0}
+
+-- what is done with a trace for what the command line asks, by the bytes that come in and those that are written
+abbrev pub Serves : TraceRequest → Files → Files → Option (List ℕ) → Option (List ℕ) → Option (List ℕ) → Result Unit Complaint → Type 0
+Serves (requests.List asked) old new had was now result = (honest_of new.store → IsRead ListsStore as_lines (reads_of old.store) was now result) × OnlyLooks old.store new.store
+Serves (requests.Export asked) old new had was now result = (honest_of new.store → IsRead ExportsStore as_bytes (reads_of old.store) was now result) × OnlyLooks old.store new.store
+Serves (requests.Wipe asked is_forced) old new had was now result = (honest_of new.store → Clears (clearing_of is_forced) old.store new.store was now result)
+    × (honest_of new.store → IsNotToWipe (clearing_of is_forced) (reads_of old.store) → OnlyLooks old.store new.store) × (honest_of new.store → LeavesOnly clock_of moments_of old.store new.store (IsClearing (images_of old.store)))
+Serves (requests.Record asked) old new had was now result = Records (wanted old.place.kind (turn_of asked)) old.store new.store was now result
+Serves (requests.Import asked rules) old new had was now result = Feeds (wanted old.place.kind (turn_of asked)) rules old.store new.store had was now result

@@ -1,0 +1,21 @@
+// The lock of a trace.
+ghost use Rattle.std.specs.Prelude.{◌<◌, length, IfErr};
+ghost use Rattle.trace_store.specs.FolderStore.{reads_of, IsSame};
+ghost use Rattle.trace_store.specs.LockFault.{file_of};
+
+use trace_store::{FolderStore, LockFault};
+
+/// Shows that the locks of a trace were taken: `lock` alone makes one. They are held as long as the store lives.
+#[derive(Drop)]
+pub struct Locked {
+    taken: (),
+}
+
+/// Takes the lock of each file of a trace that is there.
+pub fn lock(store: &mut FolderStore) -> Result<Locked, LockFault>
+    ensures same { IsSame store.old store.new }
+    ensures file { IfErr result (λ fault. file_of fault < length (reads_of store.old)) }
+{
+    store.lock()?;
+    Ok(Locked { taken: () })
+}

@@ -1,0 +1,90 @@
+// The files of the trace that a command line asks for.
+ghost use Rattle.std.specs.Prelude.{◌≡◌, [], IfOk, IsSome};
+ghost use Rattle.trace_store.specs.Events.{World};
+ghost use Rattle.trace_store.specs.FolderStore.{past_of};
+ghost use Rattle.recorder.specs.Commands.{Changes};
+ghost use Rattle.recorder.specs.Places.{file_count};
+
+use crate::complaint::{Complaint, FAILED_DISK};
+use crate::files::Files;
+use crate::lookup::{Found, find};
+use crate::notices::{tell_idle, tell_idle_on_file};
+use crate::place::Place;
+use command_line::{Asked, TraceRequest, Wanted};
+
+/// The files of the trace that is asked for: locked, where they are to be changed. Standard error says what is worth
+/// knowing of it.
+pub fn files_for<'a>(rt: &HostRuntime, request: &TraceRequest<'a>) -> Result<Files<'a>, Complaint>
+    ghost world: { World }
+    ensures past { IfOk result (λ files. past_of files.store ≡ record { world = world; count = file_count files.place.kind; events = [] }) }
+    ensures locked { Changes request.now → IfOk result (λ files. IsSome files.locked) }
+{
+    match request {
+        TraceRequest::Record(wanted) | TraceRequest::Import { wanted, rules: _ } => {
+            files_to_write(rt, wanted)
+        }
+        TraceRequest::List(asked) | TraceRequest::Export(asked) => files_to_read(rt, *asked),
+        TraceRequest::Wipe {
+            asked,
+            is_forced: _,
+        } => files_to_wipe(rt, *asked),
+    }
+}
+
+/// What was found of a trace that the command line names. What the files say of themselves counts, and what the command
+/// line says has to agree.
+fn found_to_read(rt: &HostRuntime, asked: Asked<'_>) -> Result<Found, Complaint> {
+    let found = find(*rt, asked)?;
+    if let (Some(own), Some(given)) = (found.count(), asked.count)
+        && own != given
+    {
+        return Err(Complaint::Differs {
+            name: String::from_str(rt.alloc(), asked.base)?,
+            given,
+            own,
+        });
+    }
+    if matches!(found, Found::File) {
+        tell_idle_on_file(rt, &asked);
+    }
+    Ok(found)
+}
+
+/// A trace to be read. Where a sync of it failed, standard error says so.
+fn files_to_read<'a>(rt: &HostRuntime, asked: Asked<'a>) -> Result<Files<'a>, Complaint>
+    ghost world: { World }
+    ensures past { IfOk result (λ files. past_of files.store ≡ record { world = world; count = file_count files.place.kind; events = [] }) }
+{
+    let found = found_to_read(rt, asked)?;
+    let files = Files::at(*rt, asked, found)?;
+    if files.has_failed()? {
+        let _ = eprintln!(rt; "dbgrec: {FAILED_DISK}");
+    }
+    Ok(files)
+}
+
+/// A trace to be cleared.
+fn files_to_wipe<'a>(rt: &HostRuntime, asked: Asked<'a>) -> Result<Files<'a>, Complaint>
+    ghost world: { World }
+    ensures past { IfOk result (λ files. past_of files.store ≡ record { world = world; count = file_count files.place.kind; events = [] }) }
+    ensures locked { IfOk result (λ files. IsSome files.locked) }
+{
+    let found = found_to_read(rt, asked)?;
+    Files::locked_at(*rt, asked, found)
+}
+
+/// A trace to be written. It is refused where a sync failed before, unless the command line says otherwise.
+fn files_to_write<'a>(rt: &HostRuntime, wanted: &Wanted<'a>) -> Result<Files<'a>, Complaint>
+    ghost world: { World }
+    ensures past { IfOk result (λ files. past_of files.store ≡ record { world = world; count = file_count files.place.kind; events = [] }) }
+    ensures locked { IfOk result (λ files. IsSome files.locked) }
+{
+    let asked = wanted.asked;
+    let found = find(*rt, asked)?;
+    tell_idle(rt, wanted, Place::of(&asked, &found).kind);
+    let files = Files::locked_at(*rt, asked, found)?;
+    if !wanted.is_after_failure && files.has_failed()? {
+        return Err(Complaint::AfterFailure);
+    }
+    Ok(files)
+}
