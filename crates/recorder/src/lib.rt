@@ -22,6 +22,7 @@ mod refusal;
 mod reply;
 mod shown;
 mod sim;
+mod source;
 mod store_lines;
 
 pub use answer::Answer;
@@ -37,3 +38,4 @@ pub use record::{record_file, record_wrap};
 pub use refusal::{HandRefusal, Refusal};
 pub use reply::Origin;
 pub use sim::run_sim;
+pub use source::{Source, Stream};
