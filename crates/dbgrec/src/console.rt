@@ -46,6 +46,8 @@ impl Console {
 }
 
 impl Host for Console {
+    ghost clock = { λ console. console.millis };
+
     fn millis(&mut self) -> u64 {
         if let Some(began) = self.began
             && let Ok(elapsed) = began.elapsed(&self.rt)

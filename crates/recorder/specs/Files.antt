@@ -16,6 +16,7 @@ use Rattle.recorder.specs.Answers.{opened_answer}
 use Rattle.recorder.specs.Sides.{in_desk}
 use Rattle.recorder.specs.Texts.{line_of}
 use Rattle.recorder.specs.Held.{WasHeld}
+use Rattle.recorder.specs.Incoming.{Outside}
 use Rattle.recorder.specs.Importing.{WasImported}
 use Rattle.recorder.specs.declared.answer.Answer.TheVariants.{Done}
 use Rattle.recorder.specs.declared.fault.SimFault.{SimFault}
@@ -49,8 +50,8 @@ pub record WasRecorded (opened : Opened) (origin : Origin) (old new : FolderStor
   pub answered : IsAnswered left result mid now
 
 -- an entry stream was put into a port over this opening, which then was closed and dropped
-abbrev pub WasFed : Opened → Origin → Rules → FolderStore → FolderStore → Option (List ℕ) → Option (List ℕ) → Result Unit SimFault → (List ℕ → Type 0) → Type 0
-WasFed (openings.File opening) origin rules old new had left result Writes =
-    WasImported (file_told folder.ghosts pending.ghosts) (opened_told pending.ghosts opening (device_of folder.ghosts old)) (opened_answer origin) rules.flushing rules.ending had left result (device_of folder.ghosts new) Writes
-WasFed (openings.Wrap opening) origin rules old new had left result Writes =
-    WasImported (wrap_told folder.ghosts pending.ghosts) (wrap_opened_told pending.ghosts opening (device_of folder.ghosts old)) (opened_answer origin) rules.flushing rules.ending had left result (device_of folder.ghosts new) Writes
+abbrev pub WasFed : Opened → Origin → Rules → FolderStore → FolderStore → Outside → Outside → Result Unit SimFault → (List ℕ → Type 0) → Type 0
+WasFed (openings.File opening) origin rules old new was is result Writes =
+    WasImported (file_told folder.ghosts pending.ghosts) (opened_told pending.ghosts opening (device_of folder.ghosts old)) (opened_answer origin) rules.flushing rules.ending was is result (device_of folder.ghosts new) Writes
+WasFed (openings.Wrap opening) origin rules old new was is result Writes =
+    WasImported (wrap_told folder.ghosts pending.ghosts) (wrap_opened_told pending.ghosts opening (device_of folder.ghosts old)) (opened_answer origin) rules.flushing rules.ending was is result (device_of folder.ghosts new) Writes

@@ -24,6 +24,7 @@ mod reply;
 mod shown;
 mod sim;
 mod sites;
+mod source;
 mod store_lines;
 
 pub use answer::Answer;
@@ -41,3 +42,4 @@ pub use refusal::{HandRefusal, Refusal};
 pub use reply::Origin;
 pub use sim::run_sim;
 pub use sites::files_for;
+pub use source::{Source, Stream};
