@@ -1,5 +1,5 @@
 -- Keywords and their texts.
-use Rattle.std.proofs.Common.{arith, rules, sym, ◌∙◌, ap, subst, ◌≡◌, ℕ, Bool, true, false, cond, Option, None, Some, List, [], ◌∷◌, refl, inl, inr, ◌⊎◌, ◌≤◌, ◌-◌, length, get_or, take, drop, Bor, ◌<◌, ◌≢◌, IfSome}
+use Rattle.std.proofs.Common.{arith, sym, ◌∙◌, ap, subst, ◌≡◌, ℕ, Bool, true, false, cond, Option, None, Some, List, [], ◌∷◌, refl, inl, inr, ◌⊎◌, ◌≤◌, ◌-◌, length, get_or, take, drop, Bor, ◌≢◌, IfSome}
 use Rattle.std.proofs.lemmas.List.{take_rest}
 use Rattle.std.specs.Str.{bytes_eq}
 use Rattle.std.proofs.lemmas.Slice.Eq.{bytes_eq-Decides}

@@ -1,17 +1,17 @@
 -- Numbers in decimal, and the bytes of hexadecimal digits.
-use Rattle.std.proofs.Common.{arith, rules, sym, ◌∙◌, ap, subst, ◌≡◌, ◌≢◌, ℕ, zero, suc, ◌<◌, ◌≤◌, ◌^◌, ◌/◌, ◌%◌, ◌+◌, ◌*◌, Bool, true, false, ◌&&◌, Option, None, Some, Result, Ok, Err, List, [], ◌∷◌, ◌++◌, length, get_or, drop, take, codes, append_assoc, append-nil, lit<, refl, inl, inr, ◌⊎◌, ◌-◌, ◌==◌}
+use Rattle.std.proofs.Common.{arith, sym, ◌∙◌, ap, subst, ◌≡◌, ◌≢◌, ℕ, zero, suc, ◌<◌, ◌≤◌, ◌^◌, ◌/◌, ◌%◌, Bool, true, false, Option, None, Some, Result, Ok, Err, List, [], ◌∷◌, ◌++◌, length, get_or, drop, take, codes, append_assoc, append-nil, lit<, refl, inl, inr, ◌-◌, ◌==◌}
 use Rattle.std.specs.Char.{is_ascii_digit, digit_value}
 use Rattle.std.specs.List.{list_all}
 use Rattle.std.specs.Fmt.{decimal, digit_glyph}
-use Rattle.std.specs.Result.{OkIff, IfOk, result_ok}
+use Rattle.std.specs.Result.{OkIff, result_ok}
 use Rattle.std.specs.Str.Parse.{AllDigits, digits_value, ParsesUnsigned}
 use Rattle.std.proofs.lemmas.Str.Parse.{IsNumeralModel, numerals_by_value, tells_digits, parse_plain, digit_at, digit_from_value}
 use Rattle.std.proofs.lemmas.List.{take_rest}
 use Rattle.std.proofs.lemmas.Bool.{and_parts, and_from, cases_lt}
 use Rattle.std.proofs.lemmas.Bool.Decides.{nat_tests}
 use Rattle.std.specs.Int.{IsInRange}
-use Rattle.std.proofs.lemmas.Fmt.{decimal_injective, decimal_nonempty, decimal_digit, first_decimal, digits_decimal, decimal-digits_value, parse-decimal}
-use Rattle.trace_script.specs.Spellings.{IsFound, IsNumber, IsNumberIn, IsDigit, IsHex, IsBytes}
+use Rattle.std.proofs.lemmas.Fmt.{decimal_injective, decimal_digit, first_decimal, digits_decimal, decimal-digits_value, parse-decimal}
+use Rattle.trace_script.specs.Spellings.{IsFound, IsNumber, IsDigit, IsHex, IsBytes}
 use Rattle.std.specs.Str.{bytes_eq}
 use Rattle.std.proofs.lemmas.Slice.Eq.{bytes_eq-Decides}
 

@@ -1,13 +1,11 @@
 -- The rows of the table.
-use Rattle.std.proofs.Common.{arith, refl, sym, subst, ◌≡◌, ℕ, ◌≤◌, ◌<◌, ◌^◌, List, [], ◌∷◌, length, codes, false, Bool}
+use Rattle.std.proofs.Common.{arith, refl, sym, subst, ◌≡◌, ℕ, ◌≤◌, ◌<◌, ◌^◌, List, [], length, codes, false}
 use Rattle.std.specs.Prelude.{IfSome, Option, Some, None}
 use Rattle.trace_script.specs.Lines.{IsWithinLimits, IsNumbered}
 use Rattle.trace_script.specs.Table.{Row, IsOfDesk, DeskRow, Creates, Resumes, Crashes, IsFlags, HasLetters}
-use Rattle.trace_script.specs.Keywords.{Behind}
 use Rattle.trace_script.specs.declared.keyword.Keyword.{Keyword}
 use Rattle.trace_script.specs.declared.keyword.Keyword.TheVariants as keywords
 use Rattle.trace_script.specs.declared.line.Line.{Line}
-use Rattle.trace_script.specs.declared.line.Line.TheVariants as lines
 use Rattle.trace_script.specs.declared.desk_line.DeskLine.{DeskLine}
 use Rattle.trace_message.specs.declared.event.Flags.{Flags}
 

@@ -1,5 +1,5 @@
 -- How the words of a script spell numbers and bytes.
-use Rattle.std.specs.Prelude.{◌≡◌, ◌≢◌, ℕ, ◌<◌, ◌≤◌, ◌^◌, ◌/◌, ◌%◌, ◌⊎◌, ⊤, Bool, false, true, Option, None, Some, List, [], ◌∷◌, codes, map, ◌==◌}
+use Rattle.std.specs.Prelude.{◌≡◌, ℕ, ◌<◌, ◌≤◌, ◌^◌, ◌/◌, ◌%◌, ◌⊎◌, ⊤, false, true, Option, None, Some, List, [], ◌∷◌, codes, map, ◌==◌}
 use Rattle.std.specs.Fmt.{decimal, digit_glyph}
 use Rattle.std.specs.List.{slice_split}
 use denote.Ref.{Bor}

@@ -1,5 +1,5 @@
 -- Which words spell which line: a row for each keyword that a line begins with.
-use Rattle.std.specs.Prelude.{◌≡◌, ℕ, ◌≤◌, ◌^◌, ◌<◌, ◌+◌, IsTrue, Vec, Bool, true, false, pos, List, [], ◌∷◌, length, codes}
+use Rattle.std.specs.Prelude.{◌≡◌, ℕ, ◌≤◌, ◌<◌, ◌+◌, IsTrue, Vec, Bool, true, false, pos, List, [], ◌∷◌, length, codes}
 use Rattle.std.specs.List.{count_by}
 use Rattle.std.specs.Str.{chars}
 use Rattle.std.specs.Prelude.{nat_eq}
@@ -13,7 +13,7 @@ use Rattle.trace_message.specs.Events.{EventData, event_view, call, return_from,
 use Rattle.trace_message.specs.declared.event.Event.{Event}
 use Rattle.trace_message.specs.declared.event.Flags.{Flags}
 use Rattle.trace_script.specs.Spellings.{IsNumber, IsNumberIn, IsHex, IsBytes, Sole, Two, Three, First, words}
-use Rattle.trace_script.specs.Keywords.{text_of, Behind}
+use Rattle.trace_script.specs.Keywords.{Behind}
 use Rattle.trace_script.specs.declared.keyword.Keyword.{Keyword}
 use Rattle.trace_script.specs.declared.keyword.Keyword.TheVariants as keywords
 use Rattle.trace_script.specs.declared.line.Unsynced.TheVariants as unsynced

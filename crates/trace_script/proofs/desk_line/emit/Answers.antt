@@ -1,5 +1,4 @@
-use Rattle.std.proofs.Common.{refl, map}
-use Rattle.trace_terms.specs.View.{view}
+use Rattle.std.proofs.Common.{refl}
 use Rattle.trace_script.specs.Spellings.{texts}
 use Rattle.trace_script.proofs.Keywords.{at_some}
 use Rattle.trace_script.proofs.desk_line.emit.Goals as goal

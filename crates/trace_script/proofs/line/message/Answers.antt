@@ -1,5 +1,4 @@
-use Rattle.std.proofs.Common.{refl, map}
-use Rattle.trace_terms.specs.View.{view}
+use Rattle.std.proofs.Common.{refl}
 use Rattle.trace_script.proofs.Keywords.{found_at}
 use Rattle.trace_script.proofs.line.message.Goals as goal
 

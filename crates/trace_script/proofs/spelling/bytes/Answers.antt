@@ -1,4 +1,4 @@
-use Rattle.std.proofs.Common.{arith, ◌≡◌, ◌≢◌, codes, Vec, Global, ℕ, List, subst, length, ◌%◌, sym, ◌<◌}
+use Rattle.std.proofs.Common.{◌≢◌, codes, Vec, Global, ℕ, List, subst, length, ◌%◌}
 use Rattle.std.proofs.lemmas.Result.{IfOk-weaker}
 use Rattle.std.specs.Result.{IfOk}
 use Rattle.trace_script.specs.Spellings.{IsFound, IsHex}
