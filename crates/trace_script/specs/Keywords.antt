@@ -4,6 +4,7 @@ use Rattle.std.specs.Str.{bytes_eq}
 use Rattle.trace_script.specs.declared.keyword.Keyword.{Keyword}
 use Rattle.trace_script.specs.declared.keyword.Keyword.TheVariants as keywords
 
+-- the text of each
 abbrev pub text_of : Keyword → List ℕ
 text_of keywords.Store = codes "store"
 text_of keywords.Bytes = codes "bytes"

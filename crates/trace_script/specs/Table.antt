@@ -35,10 +35,11 @@ IsOfNumber others made line = (n : ℕ) × Sole IsNumber others n × (line ≡ m
 abbrev pub IsOfNumberIn : ℕ → ℕ → List (List ℕ) → (ℕ → Line) → Line → Type 0
 IsOfNumberIn least most others made line = (n : ℕ) × Sole (IsNumberIn least most) others n × (line ≡ made n)
 
--- the words behind a number from 0 to 65,535 or 4,294,967,295
+-- a number from 0 to 65,535
 abbrev pub IsShort : List ℕ → ℕ → Type 0
 IsShort = IsNumberIn 0 65535
 
+-- a number from 0 to 4,294,967,295
 abbrev pub IsLong : List ℕ → ℕ → Type 0
 IsLong = IsNumberIn 0 4294967295
 
@@ -110,11 +111,12 @@ IsEvent keywords.Exception others event =
     × (event ≡ exception_from mod_name fun_name arity class value)
 IsEvent _ others event = ⊥
 
--- how often the letter of a flag stands in a word
+-- once where a flag is set, and else not at all
 abbrev pub times : Bool → ℕ
 times true = 1
 times false = 0
 
+-- how often a letter stands in a word
 abbrev pub count_of : ℕ → List ℕ → ℕ
 count_of letter word = count_by (nat_eq letter) word
 

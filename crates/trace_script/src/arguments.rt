@@ -14,6 +14,7 @@ pub fn first<'w, 't>(words: &'w [&'t str]) -> Option<(&'t str, &'w [&'t str])>
     Some((first, rest))
 }
 
+/// The only word.
 pub fn one<'t>(words: &[&'t str]) -> Option<&'t str>
     ensures { MatchOption result (length (texts words.now) ≢ 1) (λ w. texts words.now ≡ w.now ∷ []) }
 {
@@ -23,6 +24,7 @@ pub fn one<'t>(words: &[&'t str]) -> Option<&'t str>
     Some(a)
 }
 
+/// The two words that there are.
 pub fn two<'t>(words: &[&'t str]) -> Option<(&'t str, &'t str)>
     ensures { MatchOption result (length (texts words.now) ≢ 2) (λ w. texts words.now ≡ w.0.now ∷ w.1.now ∷ []) }
 {
@@ -32,6 +34,7 @@ pub fn two<'t>(words: &[&'t str]) -> Option<(&'t str, &'t str)>
     Some((a, b))
 }
 
+/// The three words that there are.
 pub fn three<'t>(words: &[&'t str]) -> Option<(&'t str, &'t str, &'t str)>
     ensures { MatchOption result (length (texts words.now) ≢ 3) (λ w. texts words.now ≡ w.0.now ∷ w.1.now ∷ w.2.now ∷ []) }
 {
