@@ -1,1 +1,4 @@
+pub mod Keywords
 pub mod Lines
+pub mod Spellings
+pub mod Table

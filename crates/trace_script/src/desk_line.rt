@@ -1,9 +1,13 @@
 // What a line of a script says to a desk.
-ghost use Rattle.std.specs.Prelude.{◌≤◌, IfOk, IfSome};
-ghost use Rattle.trace_script.specs.Lines.{IsNumbered};
+ghost use Rattle.std.specs.Prelude.{◌≡◌, ◌++◌, ◌∷◌, [], ℕ, List, IfOk, IfSome};
+ghost use Rattle.trace_script.specs.Spellings.{Sole, Three, texts};
+ghost use Rattle.trace_script.specs.Table.{IsLong, IsTracee, IsFlags, HasLetters, DeskRow};
+ghost use Rattle.trace_script.specs.declared.keyword.Keyword.TheVariants as keywords;
 
-use crate::event::{EventFault, event};
-use crate::spelling::{number, within};
+use crate::arguments::{first, one, sole_number, three, two};
+use crate::event::event;
+use crate::keyword::Keyword;
+use crate::spelling::within;
 use std::alloc::{AllocError, Global};
 use trace_message::{Event, Flags};
 
@@ -53,19 +57,23 @@ pub enum TraceeLine {
 }
 
 /// Any number of 32 bits.
-fn word_number(word: &str) -> Option<u32> {
+fn word_number(word: &str) -> Option<u32>
+    ensures { IfSome result (IsLong word.now) }
+{
     within(word, 0, u32::MAX)
 }
 
 /// The number of a tracee.
 fn tracee_number(word: &str) -> Option<u32>
-    ensures { IfSome result (λ number. number ≤ 999) }
+    ensures { IfSome result (IsTracee word.now) }
 {
     within(word, 0, LAST_TRACEE)
 }
 
 /// The flags with the one of this letter, which isn't among them.
-fn with_flag(flags: Flags, letter: u8) -> Option<Flags> {
+fn with_flag(flags: Flags, letter: u8) -> Option<Flags>
+    ensures { (word : List ℕ) → HasLetters word flags → IfSome result (HasLetters (word ++ letter ∷ [])) }
+{
     match letter {
         b'c' if !flags.call => Some(Flags {
             call: true,
@@ -95,86 +103,133 @@ fn with_flag(flags: Flags, letter: u8) -> Option<Flags> {
     }
 }
 
-/// The flags of these letters, or none for `-`.
-fn flags_of(word: &str) -> Option<Flags> {
-    if word.is_empty() {
-        return None;
-    }
+/// The flags of these letters.
+fn flags_among(letters: &[u8]) -> Option<Flags>
+    ensures { IfSome result (HasLetters letters.now) }
+{
     let mut flags = NO_FLAGS;
-    if word == "-" {
-        return Some(flags);
-    }
-    for letter in word.as_bytes() {
+    for letter in letters {
         flags = with_flag(flags, *letter)?;
     }
     Some(flags)
 }
 
-/// The line for a tracee that hands over at most so many entries.
-fn hand(number: &str, limit: &str) -> Option<DeskLine>
-    ensures { IfSome result IsNumbered }
+/// The flags of these letters, or none for `-`.
+fn flags_of(word: &str) -> Option<Flags>
+    ensures { IfSome result (IsFlags word.now) }
 {
-    let number = tracee_number(number)?;
-    Some(DeskLine::OfTracee(number, TraceeLine::Hand(word_number(limit)?)))
+    if word.is_empty() {
+        return None;
+    }
+    if word == "-" {
+        return Some(NO_FLAGS);
+    }
+    flags_among(word.as_bytes())
 }
 
 /// The line of a moment.
-fn stamp(mega: &str, sec: &str, micro: &str) -> Option<DeskLine>
-    ensures { IfSome result IsNumbered }
+fn stamp(words: &[&str]) -> Option<DeskLine>
+    ensures { IfSome result (DeskRow keywords.Stamp (texts words.now)) }
 {
-    Some(DeskLine::Stamp {
-        mega: word_number(mega)?,
-        sec: word_number(sec)?,
-        micro: word_number(micro)?,
-    })
+    let (mega, sec, micro) = three(words)?;
+    let mega = word_number(mega)?;
+    let sec = word_number(sec)?;
+    let micro = word_number(micro)?;
+    Some(DeskLine::Stamp { mega, sec, micro })
+}
+
+/// The line of the monotonic time.
+fn mono(words: &[&str]) -> Option<DeskLine>
+    ensures { IfSome result (DeskRow keywords.Mono (texts words.now)) }
+{
+    let nanos = i64::try_from(sole_number(words)?).ok()?;
+    Some(DeskLine::Mono(nanos))
+}
+
+/// The room of a new tracee, its limit of drops, and its flags.
+fn tracee_fields(words: &[&str]) -> Option<(u32, u32, Flags)>
+    ensures { IfSome result (λ x. Three IsLong IsLong IsFlags (texts words.now) x.0 x.1 x.2) }
+{
+    let (capacity, drop_limit, letters) = three(words)?;
+    let capacity = word_number(capacity)?;
+    let drop_limit = word_number(drop_limit)?;
+    let flags = flags_of(letters)?;
+    Some((capacity, drop_limit, flags))
 }
 
 /// The line of a new tracee.
-fn tracee(number: &str, capacity: &str, drop_limit: &str, letters: &str) -> Option<DeskLine>
-    ensures { IfSome result IsNumbered }
+fn tracee(words: &[&str]) -> Option<DeskLine>
+    ensures { IfSome result (DeskRow keywords.Tracee (texts words.now)) }
 {
+    let (number, others) = first(words)?;
+    let number = tracee_number(number)?;
+    let (capacity, drop_limit, flags) = tracee_fields(others)?;
     Some(DeskLine::Tracee {
-        number: tracee_number(number)?,
-        capacity: word_number(capacity)?,
-        drop_limit: word_number(drop_limit)?,
-        flags: flags_of(letters)?,
+        number,
+        capacity,
+        drop_limit,
+        flags,
     })
 }
 
-/// The line for a desk that these words spell, where it has no event.
-pub fn desk_line(words: &[&str]) -> Option<DeskLine>
-    ensures { IfSome result IsNumbered }
+/// The line for a tracee that hands over at most so many entries.
+fn hand(words: &[&str]) -> Option<DeskLine>
+    ensures { IfSome result (DeskRow keywords.Hand (texts words.now)) }
 {
-    match words {
-        ["stamp", mega, sec, micro] => stamp(mega, sec, micro),
-        ["mono", nanos] => i64::try_from(number(nanos)?).ok().map(DeskLine::Mono),
-        ["tracee", number, capacity, drop_limit, letters] => {
-            tracee(number, capacity, drop_limit, letters)
-        }
-        ["hand", number, limit] => hand(number, limit),
-        ["flushfor", number] => Some(DeskLine::OfTracee(
-            tracee_number(number)?,
-            TraceeLine::FlushFor,
-        )),
-        ["counts", number] => Some(DeskLine::OfTracee(tracee_number(number)?, TraceeLine::Counts)),
+    let (number, limit) = two(words)?;
+    let number = tracee_number(number)?;
+    let limit = word_number(limit)?;
+    Some(DeskLine::OfTracee(number, TraceeLine::Hand(limit)))
+}
+
+/// The number of a tracee that is the only word.
+fn sole_tracee(words: &[&str]) -> Option<u32>
+    ensures { IfSome result (Sole IsTracee (texts words.now)) }
+{
+    tracee_number(one(words)?)
+}
+
+/// The line of an event of a tracee.
+fn emit(alloc: Global, words: &[&str]) -> Result<Option<DeskLine>, AllocError>
+    ensures { IfOk result (λ found. IfSome found (DeskRow keywords.Emit (texts words.now))) }
+{
+    let Some((number, others)) = first(words) else {
+        return Ok(None);
+    };
+    let Some(number) = tracee_number(number) else {
+        return Ok(None);
+    };
+    let Some(event) = event(alloc, others)? else {
+        return Ok(None);
+    };
+    Ok(Some(DeskLine::OfTracee(number, TraceeLine::Emit(event))))
+}
+
+/// The line for a desk that begins with this keyword, where it has no event.
+fn plain_desk_line(keyword: Keyword, words: &[&str]) -> Option<DeskLine>
+    ensures { IfSome result (DeskRow keyword (texts words.now)) }
+{
+    match keyword {
+        Keyword::Stamp => stamp(words),
+        Keyword::Mono => mono(words),
+        Keyword::Tracee => tracee(words),
+        Keyword::Hand => hand(words),
+        Keyword::FlushFor => Some(DeskLine::OfTracee(sole_tracee(words)?, TraceeLine::FlushFor)),
+        Keyword::Counts => Some(DeskLine::OfTracee(sole_tracee(words)?, TraceeLine::Counts)),
         _ => None,
     }
 }
 
-/// The line of an event of this tracee that these words spell.
-pub fn emit_line(
+/// The line for a desk that begins with this keyword.
+pub fn desk_line(
     alloc: Global,
-    number: &str,
+    keyword: Keyword,
     words: &[&str],
 ) -> Result<Option<DeskLine>, AllocError>
-    ensures { IfOk result (λ found. IfSome found IsNumbered) }
+    ensures { IfOk result (λ found. IfSome found (DeskRow keyword (texts words.now))) }
 {
-    let Some(number) = tracee_number(number) else {
-        return Ok(None);
-    };
-    match event(alloc, words) {
-        Ok(event) => Ok(Some(DeskLine::OfTracee(number, TraceeLine::Emit(event)))),
-        Err(EventFault::BadEvent) => Ok(None),
-        Err(EventFault::NoMemory) => Err(AllocError),
+    match keyword {
+        Keyword::Emit => emit(alloc, words),
+        _ => Ok(plain_desk_line(keyword, words)),
     }
 }

@@ -1,9 +1,11 @@
 //! The lines of a script, as docs/FORMATS.md has them, read one at a time.
 #![tactic(auto)]
 
+mod arguments;
 mod desk_line;
 mod event;
 mod fault;
+mod keyword;
 mod line;
 mod script;
 mod spelling;

@@ -1,11 +1,15 @@
 // What a line of a script says.
-ghost use Rattle.std.specs.Prelude.{◌≡◌, IfOk, IfSome};
-ghost use Rattle.entry_codec.specs.Entries.{IsLawful};
-ghost use Rattle.entry_codec.specs.Seen.{view};
+ghost use Rattle.std.specs.Prelude.{◌≡◌, [], ◌≤◌, IfOk, IfSome};
+ghost use Rattle.trace_script.specs.Keywords.{Behind};
 ghost use Rattle.trace_script.specs.Lines.{IsWithinLimits, pick_of};
+ghost use Rattle.trace_script.specs.Spellings.{Sole, Two, texts};
+ghost use Rattle.trace_script.specs.Table.{IsByte, IsLong, IsShort, Creates, Resumes, Crashes, Row, Spells};
+ghost use Rattle.trace_script.specs.declared.keyword.Keyword.TheVariants as keywords;
 
-use crate::desk_line::{DeskLine, desk_line, emit_line};
-use crate::spelling::{byte, bytes, number, within};
+use crate::arguments::{one, sole_number, sole_within, two};
+use crate::desk_line::{DeskLine, desk_line};
+use crate::keyword::{Keyword, keyword_behind};
+use crate::spelling::{byte, bytes, within, words};
 use entry_codec::Entry;
 use std::alloc::{AllocError, Global};
 use trace_store::Pick;
@@ -82,109 +86,197 @@ impl Line {
     }
 }
 
+/// The line, where no word follows.
+fn alone(words: &[&str], line: Line) -> Option<Line>
+    ensures { IfSome result (λ found. (texts words.now ≡ []) × (found ≡ line)) }
+{
+    if words.is_empty() {
+        return Some(line);
+    }
+    None
+}
+
 /// The size or time of a wrap, and how many runs it keeps, of any that their types have.
-fn wrap_numbers(most: &str, count: &str) -> Option<(u32, u16)> {
-    let most = u32::try_from(number(most)?).ok()?;
-    let count = u16::try_from(number(count)?).ok()?;
+fn wrap_numbers(words: &[&str]) -> Option<(u32, u16)>
+    ensures { IfSome result (λ found. Two IsLong IsShort (texts words.now) found.0 found.1) }
+{
+    let (most, count) = two(words)?;
+    let most = within(most, 0, u32::MAX)?;
+    let count = u16::try_from(within(count, 0, u32::from(u16::MAX))?).ok()?;
     Some((most, count))
 }
 
-/// The message of these digits, if an entry may hold it.
-fn message(alloc: Global, word: &str) -> Result<Option<Entry>, AllocError>
-    ensures { IfOk result (λ found. IfSome found (λ entry. IsLawful (view entry))) }
+/// What is created.
+fn created(kind: Keyword, words: &[&str]) -> Option<Line>
+    ensures { IfSome result (Creates kind (texts words.now)) }
 {
-    let Some(found) = bytes(alloc, word)? else {
+    match kind {
+        Keyword::File => Some(Line::CreateFile(sole_number(words)?)),
+        Keyword::Wrap => {
+            let (size, count) = wrap_numbers(words)?;
+            Some(Line::CreateWrap { size, count })
+        }
+        Keyword::Time => {
+            let (millis, count) = wrap_numbers(words)?;
+            Some(Line::CreateTime { millis, count })
+        }
+        _ => None,
+    }
+}
+
+fn create(words: &[&str]) -> Option<Line>
+    ensures { IfSome result (Behind Creates (texts words.now)) }
+{
+    let (kind, others) = keyword_behind(words)?;
+    created(kind, others)
+}
+
+/// What is resumed.
+fn resumed(kind: Keyword, words: &[&str]) -> Option<Line>
+    ensures { IfSome result (Resumes kind (texts words.now)) }
+{
+    match kind {
+        Keyword::File => Some(Line::ResumeFile(sole_number(words)?)),
+        Keyword::Wrap => alone(words, Line::ResumeWrap),
+        _ => None,
+    }
+}
+
+fn resume(words: &[&str]) -> Option<Line>
+    ensures { IfSome result (Behind Resumes (texts words.now)) }
+{
+    let (kind, others) = keyword_behind(words)?;
+    resumed(kind, others)
+}
+
+/// The byte that is the only word.
+fn sole_byte(words: &[&str]) -> Option<u8>
+    ensures { IfSome result (Sole IsByte (texts words.now)) }
+{
+    byte(one(words)?.as_bytes())
+}
+
+/// What a crash leaves.
+fn left(kind: Keyword, words: &[&str]) -> Option<Line>
+    ensures { IfSome result (Crashes kind (texts words.now)) }
+{
+    match kind {
+        Keyword::Kept => alone(words, Line::Crash(Unsynced::Kept)),
+        Keyword::Low => {
+            let byte = sole_byte(words)?;
+            Some(Line::Crash(Unsynced::Fill {
+                byte,
+                longest: false,
+            }))
+        }
+        Keyword::High => {
+            let byte = sole_byte(words)?;
+            Some(Line::Crash(Unsynced::Fill {
+                byte,
+                longest: true,
+            }))
+        }
+        _ => None,
+    }
+}
+
+fn crash(words: &[&str]) -> Option<Line>
+    ensures { IfSome result (Behind Crashes (texts words.now)) }
+{
+    let (kind, others) = keyword_behind(words)?;
+    left(kind, others)
+}
+
+/// Bytes for a file, if a store may have a file of this number.
+fn file_bytes(alloc: Global, words: &[&str]) -> Result<Option<Line>, AllocError>
+    ensures { IfOk result (λ found. IfSome found (Row keywords.Bytes (texts words.now))) }
+{
+    let Some((file, hex)) = two(words) else {
+        return Ok(None);
+    };
+    let Some(file) = within(file, 0, MOST_FILES - 1) else {
+        return Ok(None);
+    };
+    let Some(found) = bytes(alloc, hex)? else {
+        return Ok(None);
+    };
+    Ok(Some(Line::Bytes(file, found)))
+}
+
+/// A message, if an entry may hold it.
+fn message(alloc: Global, words: &[&str]) -> Result<Option<Line>, AllocError>
+    ensures { IfOk result (λ found. IfSome found (Row keywords.Put (texts words.now))) }
+{
+    let Some(hex) = one(words) else {
+        return Ok(None);
+    };
+    let Some(found) = bytes(alloc, hex)? else {
         return Ok(None);
     };
     let entry = Entry::Message(found);
     if !entry.is_lawful() {
         return Ok(None);
     }
-    Ok(Some(entry))
+    Ok(Some(Line::Put(entry)))
 }
 
-/// A Drop of so many messages, at least one.
-fn drop_of(word: &str) -> Option<Entry>
-    ensures { IfSome result (λ entry. IsLawful (view entry)) }
+/// The line that begins with this keyword, where it holds no bytes and isn't for a desk.
+fn plain_line(keyword: Keyword, words: &[&str]) -> Option<Line>
+    ensures { IfSome result (Row keyword (texts words.now)) }
 {
-    Some(Entry::Drop(within(word, 1, u32::MAX)?))
-}
-
-/// A crash that fills what is unsynced with the byte of these digits.
-fn filled(word: &str, longest: bool) -> Option<Unsynced> {
-    let byte = byte(word.as_bytes())?;
-    Some(Unsynced::Fill { byte, longest })
-}
-
-/// Bytes for a file, if a store may have a file of this number.
-fn file_bytes(alloc: Global, file: &str, hex: &str) -> Result<Option<Line>, AllocError>
-    ensures { IfOk result (λ found. IfSome found IsWithinLimits) }
-{
-    let Some(file) = within(file, 0, MOST_FILES - 1) else {
-        return Ok(None);
-    };
-    let found = bytes(alloc, hex)?;
-    Ok(found.map(|bytes| Line::Bytes(file, bytes)))
-}
-
-/// The line of a store that these words spell, where it holds no bytes.
-fn store_line(words: &[&str]) -> Option<Line>
-    ensures { IfSome result IsWithinLimits }
-{
-    match words {
-        ["store", n] => within(n, 1, MOST_FILES).map(Line::Store),
-        ["fuse", calls] => number(calls).map(Line::Fuse),
-        ["failonce", calls] => number(calls).map(Line::FailOnce),
-        ["create", "file", limit] => number(limit).map(Line::CreateFile),
-        ["resume", "file", limit] => number(limit).map(Line::ResumeFile),
-        ["create", "wrap", size, count] => {
-            let (size, count) = wrap_numbers(size, count)?;
-            Some(Line::CreateWrap { size, count })
-        }
-        ["create", "time", millis, count] => {
-            let (millis, count) = wrap_numbers(millis, count)?;
-            Some(Line::CreateTime { millis, count })
-        }
-        ["resume", "wrap"] => Some(Line::ResumeWrap),
-        ["files"] => Some(Line::Files),
-        ["list"] => Some(Line::List),
-        ["wipe"] => Some(Line::Wipe),
+    match keyword {
+        Keyword::Store => Some(Line::Store(sole_within(words, 1, MOST_FILES)?)),
+        Keyword::Fuse => Some(Line::Fuse(sole_number(words)?)),
+        Keyword::FailOnce => Some(Line::FailOnce(sole_number(words)?)),
+        Keyword::Create => create(words),
+        Keyword::Resume => resume(words),
+        Keyword::Files => alone(words, Line::Files),
+        Keyword::List => alone(words, Line::List),
+        Keyword::Wipe => alone(words, Line::Wipe),
+        Keyword::Crash => crash(words),
+        Keyword::Lose => Some(Line::Put(Entry::Drop(sole_within(words, 1, u32::MAX)?))),
+        Keyword::Flush => alone(words, Line::Flush),
+        Keyword::Seal => alone(words, Line::Seal),
+        Keyword::Tick => Some(Line::Tick(sole_number(words)?)),
+        Keyword::Abandon => alone(words, Line::Abandon),
+        Keyword::Close => alone(words, Line::Close),
+        Keyword::Desk => alone(words, Line::Desk),
         _ => None,
     }
 }
 
-/// The line of a port or a crash that these words spell, where it holds no bytes.
-fn port_line(words: &[&str]) -> Option<Line>
-    ensures { IfSome result IsWithinLimits }
+/// The line for a desk that begins with this keyword.
+fn at_desk(alloc: Global, keyword: Keyword, words: &[&str]) -> Result<Option<Line>, AllocError>
+    ensures { IfOk result (λ found. IfSome found (Row keyword (texts words.now))) }
 {
-    match words {
-        ["lose", count] => drop_of(count).map(Line::Put),
-        ["flush"] => Some(Line::Flush),
-        ["seal"] => Some(Line::Seal),
-        ["tick", now] => number(now).map(Line::Tick),
-        ["abandon"] => Some(Line::Abandon),
-        ["close"] => Some(Line::Close),
-        ["desk"] => Some(Line::Desk),
-        ["crash", "kept"] => Some(Line::Crash(Unsynced::Kept)),
-        ["crash", "low", byte] => filled(byte, false).map(Line::Crash),
-        ["crash", "high", byte] => filled(byte, true).map(Line::Crash),
-        _ => None,
+    match desk_line(alloc, keyword, words)? {
+        Some(line) => Ok(Some(Line::AtDesk(line))),
+        None => Ok(None),
+    }
+}
+
+/// The line that begins with this keyword.
+fn row(alloc: Global, keyword: Keyword, words: &[&str]) -> Result<Option<Line>, AllocError>
+    ensures { IfOk result (λ found. IfSome found (Row keyword (texts words.now))) }
+{
+    match keyword {
+        Keyword::Bytes => file_bytes(alloc, words),
+        Keyword::Put => message(alloc, words),
+        _ => match plain_line(keyword, words) {
+            Some(line) => Ok(Some(line)),
+            None => at_desk(alloc, keyword, words),
+        },
     }
 }
 
 /// The line that the text spells.
 pub fn parse(alloc: Global, text: &str) -> Result<Option<Line>, AllocError>
-    ensures { IfOk result (λ found. IfSome found IsWithinLimits) }
+    ensures limits { IfOk result (λ found. IfSome found IsWithinLimits) }
+    ensures spells { IfOk result (λ found. IfSome found (λ line. Spells line text.now)) }
 {
-    let words: Vec<&str> = text.split(' ').collect(alloc)?;
-    match words.as_slice() {
-        ["bytes", file, hex] => file_bytes(alloc, file, hex),
-        ["put", hex] => Ok(message(alloc, hex)?.map(Line::Put)),
-        ["emit", number, event @ ..] => Ok(emit_line(alloc, number, event)?.map(Line::AtDesk)),
-        other => Ok(
-            store_line(other)
-                .or_else(|| port_line(other))
-                .or_else(|| desk_line(other).map(Line::AtDesk)),
-        ),
-    }
+    let words = words(alloc, text)?;
+    let Some((keyword, others)) = keyword_behind(words.as_slice()) else {
+        return Ok(None);
+    };
+    row(alloc, keyword, others)
 }

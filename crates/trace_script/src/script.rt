@@ -1,6 +1,7 @@
 // The lines of a script, read one at a time.
 ghost use Rattle.std.specs.Prelude.{IfOk, IfSome};
 ghost use Rattle.trace_script.specs.Lines.{IsWithinLimits, IsOfRecord};
+ghost use Rattle.trace_script.specs.Table.{Spells};
 
 use crate::fault::ScriptFault;
 use crate::line::{Line, parse};
@@ -53,7 +54,9 @@ impl<'r, R: BufRead> Script<'r, R> {
     }
 
     /// The fault of the present line.
-    pub fn bad_command(&self) -> ScriptFault {
+    pub fn bad_command(&self) -> ScriptFault
+        ensures { result ≡ ScriptFault.BadCommand self.now.number }
+    {
         ScriptFault::BadCommand { line: self.number }
     }
 
@@ -78,8 +81,10 @@ impl<'r, R: BufRead> Script<'r, R> {
 
     /// The line, where it may stand in this script.
     fn allowed(&self, line: Option<Line>) -> Result<Option<Line>, ScriptFault>
-        requires { IfSome line IsWithinLimits }
+        requires limits { IfSome line IsWithinLimits }
+        requires spelled { IfSome line (λ it. Spells it self.now.text.items) }
         ensures sound { IfOk result (λ found. IfSome found IsWithinLimits) }
+        ensures spells { IfOk result (λ found. IfSome found (λ line. Spells line self.now.text.items)) }
         ensures of_desk { self.now.is_of_desk ≡ true → IfOk result (λ found. IfSome found IsOfRecord) }
     {
         let is_allowed = match &line {
@@ -96,6 +101,7 @@ impl<'r, R: BufRead> Script<'r, R> {
     /// The line that the text spells; None where it is empty or a remark.
     fn present(&self) -> Result<Option<Line>, ScriptFault>
         ensures sound { IfOk result (λ found. IfSome found IsWithinLimits) }
+        ensures spells { IfOk result (λ found. IfSome found (λ line. Spells line self.now.text.items)) }
         ensures of_desk { self.now.is_of_desk ≡ true → IfOk result (λ found. IfSome found IsOfRecord) }
     {
         if self.text.len() > LONGEST {
@@ -113,6 +119,7 @@ impl<'r, R: BufRead> Script<'r, R> {
     /// The next line that isn't empty or a remark.
     pub fn next_line(&mut self) -> Result<Option<Line>, ScriptFault>
         ensures sound { IfOk result (λ found. IfSome found IsWithinLimits) }
+        ensures spells { IfOk result (λ found. IfSome found (λ line. Spells line self.new.text.items)) }
         ensures of_desk { self.old.is_of_desk ≡ true → IfOk result (λ found. IfSome found IsOfRecord) }
         ensures same { self.new.is_of_desk ≡ self.old.is_of_desk }
     {

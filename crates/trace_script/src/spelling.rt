@@ -1,16 +1,37 @@
 // Numbers and bytes, as the words of a script spell them.
-ghost use Rattle.std.specs.Prelude.{◌<◌, ◌≤◌, IfSome};
+ghost use Rattle.std.specs.Prelude.{◌≡◌, ◌<◌, ◌≤◌, ◌%◌, ◌/◌, ◌↔◌, ◌∷◌, [], IsTrue, IfOk, length, slice_index};
+ghost use Rattle.std.specs.Char.{is_ascii_digit};
+ghost use Rattle.std.specs.List.{list_all};
+ghost use Rattle.trace_script.specs.Spellings.{IsFound, IsNumber, IsNumberIn, IsDigit, IsHex, IsBytes, texts, words};
 
 use std::alloc::{AllocError, Global};
 
+/// The words of a text, which one blank parts from each other.
+pub fn words(alloc: Global, text: &str) -> Result<Vec<&str>, AllocError>
+    ensures { IfOk result (λ found. texts found.items ≡ words text.now) }
+{
+    text.split(' ').collect(alloc)
+}
+
+/// Whether a zero stands in front of another digit.
+fn has_leading_zero(word: &[u8]) -> bool
+    ensures { IsTrue result ↔ ((slice_index word.now 0 ≡ 48) × (1 < length word.now)) }
+{
+    matches!(word, [b'0', _, ..])
+}
+
+fn has_only_digits(word: &[u8]) -> bool
+    ensures { result ≡ list_all is_ascii_digit word.now }
+{
+    word.iter().all(|digit| digit.is_ascii_digit())
+}
+
 /// A decimal number without a sign and leading zeros.
-pub fn number(word: &str) -> Option<u64> {
+pub fn number(word: &str) -> Option<u64>
+    ensures { IsFound (IsNumber word.now) result }
+{
     let digits = word.as_bytes();
-    match digits {
-        [b'0', _, ..] => return None,
-        _ => {}
-    }
-    if !digits.iter().all(|digit| digit.is_ascii_digit()) {
+    if has_leading_zero(digits) || !has_only_digits(digits) {
         return None;
     }
     word.parse::<u64>().ok()
@@ -18,17 +39,17 @@ pub fn number(word: &str) -> Option<u64> {
 
 /// A number from `least` to `most`.
 pub fn within(word: &str, least: u32, most: u32) -> Option<u32>
-    ensures { IfSome result (λ found. (least ≤ found) × (found ≤ most)) }
+    ensures { IsFound (IsNumberIn least most word.now) result }
 {
-    let found = u32::try_from(number(word)?).ok()?;
-    if found < least || found > most {
+    let found = number(word)?;
+    if found < u64::from(least) || u64::from(most) < found {
         return None;
     }
-    Some(found)
+    u32::try_from(found).ok()
 }
 
 fn digit(letter: u8) -> Option<u8>
-    ensures { IfSome result (λ d. d < 16) }
+    ensures { IsFound (IsDigit letter) result }
 {
     match letter {
         b'0'..=b'9' => Some(letter - b'0'),
@@ -39,15 +60,43 @@ fn digit(letter: u8) -> Option<u8>
 }
 
 /// The byte that two hexadecimal digits spell.
-pub fn byte(pair: &[u8]) -> Option<u8> {
-    match pair {
-        [high, low] => Some(digit(*high)? * 16 + digit(*low)?),
+fn pair(high: u8, low: u8) -> Option<u8>
+    ensures { IsFound (λ b. IsDigit high (b / 16) × IsDigit low (b % 16)) result }
+{
+    Some(digit(high)? * 16 + digit(low)?)
+}
+
+/// The byte of a word of two hexadecimal digits.
+pub fn byte(word: &[u8]) -> Option<u8>
+    ensures { IsFound (λ b. IsHex word.now (b ∷ [])) result }
+{
+    match word {
+        [high, low] => pair(*high, *low),
         _ => None,
     }
 }
 
+/// The bytes that hexadecimal digits spell.
+fn pairs(alloc: Global, digits: &[u8]) -> Result<Option<Vec<u8>>, AllocError>
+    requires { length digits.now % 2 ≡ 0 }
+    ensures { IfOk result (λ found. IsFound (λ bytes. IsHex digits.now bytes.items) found) }
+{
+    let mut found = Vec::with_capacity(alloc, digits.len() / 2)?;
+    let mut rest = digits;
+    while let [high, low, after @ ..] = rest {
+        match pair(*high, *low) {
+            Some(one) => found.push(one)?,
+            None => return Ok(None),
+        }
+        rest = after;
+    }
+    Ok(Some(found))
+}
+
 /// The bytes that hexadecimal digits spell, `-` for none.
-pub fn bytes(alloc: Global, word: &str) -> Result<Option<Vec<u8>>, AllocError> {
+pub fn bytes(alloc: Global, word: &str) -> Result<Option<Vec<u8>>, AllocError>
+    ensures { IfOk result (λ found. IsFound (λ bytes. IsBytes word.now bytes.items) found) }
+{
     if word == "-" {
         return Ok(Some(Vec::new(alloc)));
     }
@@ -55,12 +104,5 @@ pub fn bytes(alloc: Global, word: &str) -> Result<Option<Vec<u8>>, AllocError> {
     if digits.is_empty() || digits.len() % 2 != 0 {
         return Ok(None);
     }
-    let mut found = Vec::with_capacity(alloc, digits.len() / 2)?;
-    for pair in digits.chunks(2) {
-        match byte(pair) {
-            Some(one) => found.push(one)?,
-            None => return Ok(None),
-        }
-    }
-    Ok(Some(found))
+    pairs(alloc, digits)
 }
