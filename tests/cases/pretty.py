@@ -8,7 +8,7 @@ from cases import STREAMS, group
 from entries import message, split
 from program import same
 from segments import FILE_HEADER, segment
-from terms import Writer, told
+from terms import LONGEST_MESSAGE, Writer, told
 
 CASES, case = group()
 
@@ -33,13 +33,16 @@ def each_term_that_otp_wrote_is_listed_as_otp_prints_it(program):
 
 
 @case
-def of_a_nodes_own_trace_one_message_is_too_long_to_list(program):
+def of_a_nodes_own_trace_only_what_is_too_long_is_opaque(program):
     stream = (STREAMS / "node.trc").read_bytes()
+    entries = split(stream)
     lines = program.good("stream", "-p", stdin=stream).splitlines()
     opaque = [line for line in lines if line.split()[1:2] == [b"opaque"]]
-    same(len(opaque), 1)
+    too_long = [(number, len(entry) - 5) for number, entry in enumerate(entries) if len(entry) - 5 > LONGEST_MESSAGE]
+    same(opaque, [f"{number} opaque {size}".encode() for number, size in too_long])
+    same(len(too_long), 4)
     same(lines[-1], b"end_of_trace")
-    same(len(lines), len(split(stream)) + 1)
+    same(len(lines), len(entries) + 1)
 
 
 @case
