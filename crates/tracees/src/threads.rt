@@ -34,7 +34,7 @@ fn run_each<P: TracePort, K: SharedBook, G: Gate, R: Threads + Wait + Sync>(
         count,
         &|_, job|
             requires { HasRoom job.now }
-            ensures { HasRun P.told (G.answers gate.now) (G.told gate.now) job.entry.now job.exit.now }
+            ensures { HasRun P.told (G.answers gate.entry.now) (G.told gate.entry.now) job.entry.now job.exit.now }
         { run_job(rt, alloc, desk, gate, job) },
     );
 }
