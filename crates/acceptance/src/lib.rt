@@ -10,8 +10,6 @@ mod driving_tests;
 #[cfg(test)]
 mod either_tests;
 #[cfg(test)]
-mod gate_tests;
-#[cfg(test)]
 mod settling_tests;
 #[cfg(test)]
 mod threads_tests;
