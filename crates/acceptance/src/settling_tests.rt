@@ -14,7 +14,8 @@ use trace_port::{FilePort, TracePort};
 use trace_store::MemStore;
 use trace_terms::Term;
 use tracees::{
-    Account, Bookkeeping, Desk, LedgerBook, PARTS, SettleFault, SharedBook, Totals, Traced, settle,
+    Account, Bookkeeping, Desk, LedgerBook, Numbered, PARTS, SettleFault, SharedBook, Totals,
+    Traced, settle,
 };
 
 fn emit<K: Bookkeeping>(rt: &impl Abort, alloc: Global, traced: &mut Traced<K>, offers: &[Offer]) {
@@ -110,6 +111,7 @@ fn settled_by<P: TracePort, K: SharedBook>(
 ) -> Result<Totals, usize>
     requires totals { K.totals_of book ≡ no_totals }
     requires attached { K.attached_of book ≡ 0 }
+    requires number { K.desk ≡ 3 }
     requires fits { KeepsMeaning (P.told port.old) }
 {
     let mut desk = Desk::new(3, port, book);
@@ -129,7 +131,7 @@ fn settled<
     F: Ledger + Send,
     U: Ledger + Send,
     D: Ledger + Send,
-    N: Ledger + Send,
+    N: Ledger + Numbered + Send,
     P: TracePort,
     R: Abort,
 >(
@@ -146,6 +148,7 @@ fn settled<
     requires unflushed { (unflushed.name ≡ U.name) × (unflushed.parts ≡ U.parts) × (unflushed.parts ≡ PARTS) }
     requires drops { (drops.name ≡ D.name) × (drops.parts ≡ D.parts) × (drops.parts ≡ PARTS) }
     requires accounts { (accounts.name ≡ N.name) × (accounts.parts ≡ N.parts) × (accounts.parts ≡ PARTS) }
+    requires number { N.number ≡ 3 }
     requires fits { KeepsMeaning (P.told port.old) }
 {
     let book: LedgerBook<F, U, D, N> = LedgerBook::new(flushed, unflushed, drops, accounts);

@@ -1,4 +1,4 @@
-ghost use Rattle.std.specs.Prelude.{◌≡◌, All, IfOk};
+ghost use Rattle.std.specs.Prelude.{◌≡◌, ◌↔◌, ◌<◌, All, IfOk, IsTrue, ⊤};
 ghost use Rattle.tracees.specs.Books.{no_totals};
 ghost use Rattle.tracees.specs.Jobs.{IsReady};
 ghost use Rattle.tracees.specs.Meanings.{KeepsMeaning};
@@ -20,8 +20,8 @@ use trace_port::{FilePort, PortFault, PortState, Status, TracePort};
 use trace_store::{MemStore, Pick};
 use trace_terms::{Pid, Term};
 use tracees::{
-    Account, Act, ActFault, Bookkeeping, Desk, Gate, HandFault, Job, JobState, LedgerBook, PARTS,
-    Receipt, SettleFault, SharedBook, Totals, Traced, audit, run_threads, settle,
+    Account, Act, ActFault, Bookkeeping, Desk, Gate, HandFault, Job, JobState, LedgerBook,
+    Numbered, PARTS, Receipt, SettleFault, SharedBook, Totals, Traced, audit, run_threads, settle,
 };
 use wrap_port::{WrapPort, WrapSpec};
 
@@ -33,6 +33,10 @@ struct Meeting {
 }
 
 impl Gate for Meeting {
+    ghost answers = { λ gate tracee act passes. ⊤ };
+
+    ghost told = { λ gate tracee act. ⊤ };
+
     fn before(&self, _tracee: u32, act: u32) -> bool {
         if act != 0 {
             return true;
@@ -61,7 +65,7 @@ fn tracee(rt: &impl Abort, alloc: Global, number: u32, capacity: u32) -> Tracee 
 }
 
 #[derive(Clone, Copy)]
-enum Do {
+pub(crate) enum Do {
     /// So many receipts of the atom `ok`.
     Emits(u32),
     HandOver(u32),
@@ -70,13 +74,13 @@ enum Do {
 
 /// So many jobs, what each of them does, so many times over, and how many messages its tracee has room for.
 #[derive(Clone, Copy)]
-struct Plan {
-    jobs: u32,
-    capacity: u32,
-    times: u32,
-    acts: &'static [Do],
+pub(crate) struct Plan {
+    pub(crate) jobs: u32,
+    pub(crate) capacity: u32,
+    pub(crate) times: u32,
+    pub(crate) acts: &'static [Do],
     /// Whether the port is given up at the end.
-    abandons: bool,
+    pub(crate) abandons: bool,
 }
 
 fn add_emits(rt: &impl Abort, alloc: Global, acts: &mut Vec<Act>, count: u32) {
@@ -119,7 +123,7 @@ fn job<K: Bookkeeping>(rt: &impl Abort, alloc: Global, traced: Traced<K>, plan: 
 }
 
 /// The jobs of a plan, over one desk.
-fn jobs<P: TracePort, K: Bookkeeping>(
+pub(crate) fn jobs<P: TracePort, K: Bookkeeping>(
     rt: &impl Abort,
     alloc: Global,
     desk: &mut Desk<'_, P, K>,
@@ -208,6 +212,8 @@ fn run_by<P: TracePort, K: SharedBook, R: Threads + Wait + Abort + Sync>(
     plan: Plan,
 ) -> End
     requires totals { K.totals_of book ≡ no_totals }
+    requires attached { K.attached_of book ≡ 0 }
+    requires number { K.desk ≡ 7 }
     requires fits { KeepsMeaning (P.told port.old) }
 {
     let gate = Meeting {
@@ -237,7 +243,7 @@ fn run<
     F: Ledger + Send,
     U: Ledger + Send,
     D: Ledger + Send,
-    N: Ledger + Send,
+    N: Ledger + Numbered + Send,
     P: TracePort,
     R: Threads + Wait + Abort + Sync,
 >(
@@ -254,6 +260,7 @@ fn run<
     requires unflushed { (unflushed.name ≡ U.name) × (unflushed.parts ≡ U.parts) × (unflushed.parts ≡ PARTS) }
     requires drops { (drops.name ≡ D.name) × (drops.parts ≡ D.parts) × (drops.parts ≡ PARTS) }
     requires accounts { (accounts.name ≡ N.name) × (accounts.parts ≡ N.parts) × (accounts.parts ≡ PARTS) }
+    requires number { N.number ≡ 7 }
     requires fits { KeepsMeaning (P.told port.old) }
 {
     let book: LedgerBook<F, U, D, N> = LedgerBook::new(flushed, unflushed, drops, accounts);
@@ -442,11 +449,15 @@ fn four_jobs_agree_with_what_is_recovered(rt: HostRuntime) -> Result<(), Fail> {
 }
 
 /// Is shut before the act at this place.
-struct Until {
-    act: u32,
+pub(crate) struct Until {
+    pub(crate) act: u32,
 }
 
 impl Gate for Until {
+    ghost answers = { λ gate tracee act passes. IsTrue passes ↔ act < gate.act };
+
+    ghost told = { λ gate tracee act. ⊤ };
+
     fn before(&self, _tracee: u32, act: u32) -> bool {
         act < self.act
     }
@@ -481,6 +492,8 @@ fn run_one_by<P: TracePort, K: SharedBook, R: Threads + Wait + Abort + Sync>(
     seals: bool,
 ) -> (JobState, usize)
     requires totals { K.totals_of book ≡ no_totals }
+    requires attached { K.attached_of book ≡ 0 }
+    requires number { K.desk ≡ 7 }
     requires fits { KeepsMeaning (P.told port.old) }
 {
     let plan = Plan {
@@ -504,7 +517,7 @@ fn run_one<
     F: Ledger + Send,
     U: Ledger + Send,
     D: Ledger + Send,
-    N: Ledger + Send,
+    N: Ledger + Numbered + Send,
     P: TracePort,
     R: Threads + Wait + Abort + Sync,
 >(
@@ -522,6 +535,7 @@ fn run_one<
     requires unflushed { (unflushed.name ≡ U.name) × (unflushed.parts ≡ U.parts) × (unflushed.parts ≡ PARTS) }
     requires drops { (drops.name ≡ D.name) × (drops.parts ≡ D.parts) × (drops.parts ≡ PARTS) }
     requires accounts { (accounts.name ≡ N.name) × (accounts.parts ≡ N.parts) × (accounts.parts ≡ PARTS) }
+    requires number { N.number ≡ 7 }
     requires fits { KeepsMeaning (P.told port.old) }
 {
     let book: LedgerBook<F, U, D, N> = LedgerBook::new(flushed, unflushed, drops, accounts);

@@ -1,5 +1,6 @@
 -- What the acts of a job have done.
-use Rattle.std.proofs.Common.{◌≡◌, ℕ, ◌+◌, min, List, [], ◌∷◌, ◌++◌, length, take, slice_get, Option, Some, None, Ok, Err, refl, sym, ◌∙◌, ap, subst, arith, append_assoc}
+use Rattle.std.proofs.Common.{◌≡◌, ◌≢◌, ℕ, ◌+◌, min, Bool, true, List, [], ◌∷◌, ◌++◌, length, take, slice_get, Option, Some, None, Ok, Err, refl, sym, ◌∙◌, ap, subst, arith, append_assoc, ⊎_elim}
+use Rattle.std.proofs.lemmas.Bool.{cases_eq}
 use Rattle.std.proofs.lemmas.List.{append-nil, length-take}
 use Rattle.entry_codec.specs.Entries.{Entry, drops_in}
 use Rattle.entry_codec.specs.Seen.{views}
@@ -25,7 +26,7 @@ use Rattle.tracees.specs.Effects.{offered_too}
 use Rattle.tracees.specs.Emits.{Emits}
 use Rattle.tracees.specs.Hands as hand
 use Rattle.tracees.specs.Hands.{Takes, Moves, Names, HandsOver, FlushesFor, moved_by}
-use Rattle.tracees.specs.Jobs.{HandsThere, FlushesThere, EmitsThere, Does, emits, hands, flushes, Fails, emit_fails, hand_fails, flush_fails, Acts, begin, go_on, left_after, then_act, then_acts, history_of, entries_of, AreReceipts, flushed_after, HasGrown, Did, entries_in, FailedAt}
+use Rattle.tracees.specs.Jobs.{HandsThere, FlushesThere, EmitsThere, Does, emits, hands, flushes, Fails, emit_fails, hand_fails, flush_fails, Acts, begin, go_on, left_after, then_act, then_acts, history_of, entries_of, AreReceipts, flushed_after, HasGrown, Did, entries_in, FailedAt, AreLetThrough}
 use Rattle.tracees.specs.declared.book.Totals.{Totals}
 use Rattle.tracees.specs.declared.job.Act.{Act}
 use Rattle.tracees.specs.declared.job.Act.TheVariants as acts
@@ -338,3 +339,11 @@ pub acts_more : {P : Type 0} (told : P → Told) (was mid is : Seat) (xs : List 
     → take (place + 1) xs ≡ take place xs ++ act ∷ [] → Acts told was (take place xs) rs mid → rs' ≡ rs ++ more → Does told mid is act more → Acts told was (take (place + 1) xs) rs' is
 acts_more told was mid is xs place rs rs' more act next acted behind does =
     subst (λ (l : List Act). Acts told was l rs' is) (sym next) (subst (λ (l : List Receipt). Acts told was (take place xs ++ act ∷ []) l is) (sym behind) (go_on acted does))
+
+-- ---- the gate let one act more through
+
+pub through_more : (answers : ℕ → Bool → Type 0) (ends : ℕ → Type 0) (place : ℕ) → AreLetThrough answers ends place → answers place true → ends place → AreLetThrough answers ends (place + 1)
+through_more answers ends place before passes ended act within = ⊎_elim
+    (λ (e : act ≡ place). subst (λ (n : ℕ). answers n true × ends n) (sym e) (passes, ended))
+    (λ (n : act ≢ place). before act (omega arith))
+    (cases_eq act place)

@@ -20,6 +20,7 @@ pub record Emits (old new : Tracee) (event : Event) (stamp : Stamp) (result : Re
   pub count_full : ComesWhere result (Err faults.CountFull) (IsSomeAnd (message_for old event stamp) FitsEntry × IsCountFull old)
   pub kept : ComesWhere result (Ok offers.Kept) (IsSomeAnd (message_for old event stamp) FitsEntry × MayCount old × HasRoom old)
   pub dropped : ComesWhere result (Ok offers.Dropped) (IsSomeAnd (message_for old event stamp) FitsEntry × MayCount old × IsFull old × MayDrop old)
+  pub no_memory : result ≡ Err faults.NoMemory → IsSomeAnd (message_for old event stamp) FitsEntry
   pub keeps : result ≡ Ok offers.Kept → IfSome (message_for old event stamp) (λ message. Keeps (canonical message) (waiting_of old) (waiting_of new))
   pub drops : result ≡ Ok offers.Dropped → Drops (waiting_of old) (waiting_of new)
   pub stays : offered_by result ≡ 0 → waiting_of new ≡ waiting_of old

@@ -1,5 +1,5 @@
 -- What becomes of a job.
-use Rattle.std.specs.Prelude.{◌≡◌, ℕ, ◌+◌, ◌<◌, ◌≤◌, ◌^◌, min, List, [], ◌∷◌, ◌++◌, length, take, slice_get, Option, Some, None, Result, Ok, Err, IfSome, vec_len, vec_capacity}
+use Rattle.std.specs.Prelude.{◌≡◌, ℕ, ◌+◌, ◌<◌, ◌≤◌, ◌^◌, min, Bool, true, false, List, [], ◌∷◌, ◌++◌, length, take, slice_get, Option, Some, None, Result, Ok, Err, IfSome, vec_len, vec_capacity}
 use Rattle.entry_codec.specs.Entries.{Entry, drops_in}
 use Rattle.entry_codec.specs.Seen.{views}
 use Rattle.trace_message.specs.declared.event.Event.{Event}
@@ -32,10 +32,11 @@ use Rattle.tracees.specs.declared.receipt.HandFault.{HandFault}
 
 -- ---- one act
 
--- a hand-over of at most so many entries at a desk in some state, whose book counts no less than the tracee's account
+-- a hand-over of at most so many entries at a desk in some state, of the tracee's own number, whose book counts no less than the tracee's account
 pub record HandsThere {P : Type 0} (told : P → Told) (limit : ℕ) (was is : Seat) (result : Result Receipt HandFault) : Type 0 where
   pub before : Place P
   pub after : Place P
+  pub number : before.number ≡ was.desk
   pub hands : HandsOver told before after limit was is result
   pub backed : IfSome (receipt_of result) (IsBacked was.sums before.counted)
 
@@ -43,6 +44,7 @@ pub record HandsThere {P : Type 0} (told : P → Told) (limit : ℕ) (was is : S
 pub record FlushesThere {P : Type 0} (told : P → Told) (was is : Seat) (result : Result Receipt HandFault) : Type 0 where
   pub before : Place P
   pub after : Place P
+  pub number : before.number ≡ was.desk
   pub flushes : FlushesFor told before after was is result
   pub backed : IfSome (receipt_of result) (IsBacked was.sums before.counted)
 
@@ -156,14 +158,28 @@ Ended told was is acts receipts states.Finished = Did told was is acts receipts
 Ended told was is acts receipts (states.Shut place) = (place < length acts) × Did told was is (take place acts) receipts
 Ended told was is acts receipts (states.Failed place fault) = FailedAt told was is acts receipts place fault
 
+-- ---- the gate of a job, by what it answers before an act and what it is told after one
+
+-- it let each act before this place through, and was told of its end
+abbrev pub AreLetThrough : (ℕ → Bool → Type 0) → (ℕ → Type 0) → ℕ → Type 0
+AreLetThrough answers ends place = (act : ℕ) → act < place → answers act true × ends act
+
+-- a job of so many acts went by its gate: each act that was done or failed was let through, and its end was told; before the shut one the gate was asked, and didn't let it through
+abbrev pub GoesBy : (ℕ → Bool → Type 0) → (ℕ → Type 0) → ℕ → JobState → Type 0
+GoesBy answers ends acts states.Ready = ⊥
+GoesBy answers ends acts states.Finished = AreLetThrough answers ends acts
+GoesBy answers ends acts (states.Shut place) = AreLetThrough answers ends place × answers place false
+GoesBy answers ends acts (states.Failed place fault) = AreLetThrough answers ends (place + 1)
+
 -- ---- jobs
 
--- what became of a job
-pub record HasRun {P K S : Type 0} {keep : BookGhosts K S} (told : P → Told) (old new : Job K S keep) : Type 0 where
+-- what became of a job under a gate that answers so for each tracee and act, and is told so
+pub record HasRun {P K S : Type 0} {keep : BookGhosts K S} (told : P → Told) (answers : ℕ → ℕ → Bool → Type 0) (ends : ℕ → ℕ → Type 0) (old new : Job K S keep) : Type 0 where
   pub acts : new.acts.items ≡ old.acts.items
   pub desk : new.traced.desk ≡ old.traced.desk
   pub setup : SameSetup old.traced.tracee new.traced.tracee
   pub ended : Ended told (seat_of keep old.traced) (seat_of keep new.traced) old.acts.items new.receipts.items new.state
+  pub gate : GoesBy (answers old.traced.tracee.number) (ends old.traced.tracee.number) (length old.acts.items) new.state
 
 -- it may be run: it has no receipts, and its acts can be numbered
 pub record IsReady {K S : Type 0} {keep : BookGhosts K S} (job : Job K S keep) : Type 0 where

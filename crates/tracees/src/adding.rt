@@ -5,7 +5,7 @@ ghost use Rattle.std.specs.List.{sum_by};
 
 use crate::account::Account;
 use crate::book::Totals;
-use crate::ledgers::{AccountCount, LedgerAccount, LedgerBook};
+use crate::ledgers::{AccountCount, LedgerAccount, LedgerBook, Numbered};
 use crate::shared::SharedBook;
 use std::sync::ledger::{Ledger, Share};
 
@@ -52,7 +52,7 @@ fn part<L: Ledger>(joined: &mut Share<L>, count: u64) -> AccountCount<L>
 }
 
 /// Joins the shares of an account to others.
-fn join_all<F: Ledger, U: Ledger, D: Ledger, N: Ledger>(
+fn join_all<F: Ledger, U: Ledger, D: Ledger, N: Ledger + Numbered>(
     account: Account<LedgerBook<F, U, D, N>>,
     joined: &mut Joined<F, U, D, N>,
 ) -> Counted
@@ -77,7 +77,7 @@ fn join_all<F: Ledger, U: Ledger, D: Ledger, N: Ledger>(
 }
 
 /// Parts an account with these counts off again.
-fn part_all<F: Ledger, U: Ledger, D: Ledger, N: Ledger>(
+fn part_all<F: Ledger, U: Ledger, D: Ledger, N: Ledger + Numbered>(
     joined: &mut Joined<F, U, D, N>,
     one: Counted,
 ) -> Account<LedgerBook<F, U, D, N>>
@@ -100,7 +100,7 @@ fn part_all<F: Ledger, U: Ledger, D: Ledger, N: Ledger>(
 }
 
 /// Changes nothing: what was joined is no more than what the book counts.
-fn audit_joined<F: Ledger, U: Ledger, D: Ledger, N: Ledger>(
+fn audit_joined<F: Ledger, U: Ledger, D: Ledger, N: Ledger + Numbered>(
     book: &mut LedgerBook<F, U, D, N>,
     joined: &mut Joined<F, U, D, N>,
 )
@@ -124,7 +124,7 @@ fn audit_joined<F: Ledger, U: Ledger, D: Ledger, N: Ledger>(
 }
 
 /// Adds up what the accounts count. With what was joined before it is no more than what the book counts.
-fn add_up<F: Ledger, U: Ledger, D: Ledger, N: Ledger>(
+fn add_up<F: Ledger, U: Ledger, D: Ledger, N: Ledger + Numbered>(
     book: &mut LedgerBook<F, U, D, N>,
     accounts: &mut Vec<Account<LedgerBook<F, U, D, N>>>,
     joined: &mut Joined<F, U, D, N>,
@@ -160,7 +160,7 @@ fn add_up<F: Ledger, U: Ledger, D: Ledger, N: Ledger>(
     }
 }
 
-impl<F: Ledger, U: Ledger, D: Ledger, N: Ledger> LedgerBook<F, U, D, N> {
+impl<F: Ledger, U: Ledger, D: Ledger, N: Ledger + Numbered> LedgerBook<F, U, D, N> {
     /// No shares yet.
     fn none_joined(&mut self) -> Joined<F, U, D, N>
         ensures book { (self.new.flushed.count ≡ self.old.flushed.count) × (self.new.unflushed.count ≡ self.old.unflushed.count) × (self.new.drops.count ≡ self.old.drops.count) × (self.new.accounts.count ≡ self.old.accounts.count) }
@@ -188,7 +188,7 @@ impl<F: Ledger, U: Ledger, D: Ledger, N: Ledger> LedgerBook<F, U, D, N> {
     }
 }
 
-impl<F: Ledger, U: Ledger, D: Ledger, N: Ledger> SharedBook for LedgerBook<F, U, D, N> {
+impl<F: Ledger, U: Ledger, D: Ledger, N: Ledger + Numbered> SharedBook for LedgerBook<F, U, D, N> {
     ghost is_shared = { refl };
 
     fn totals(&self) -> Totals {

@@ -31,6 +31,9 @@ pub trait Bookkeeping: Send + Drop {
     /// Whether each account is a share of its book by its type, so that no account counts more than the book.
     ghost shared: { Bool };
 
+    /// The number of the desk of a book whose accounts are shares.
+    ghost desk: { ℕ };
+
     /// Opens an account.
     fn open(&mut self) -> Self::Slip
         requires { attached_of self.old < 4294967295 }
@@ -84,12 +87,12 @@ pub struct PlainAccount {
 }
 
 impl PlainBook {
-    ghost use Rattle.tracees.specs.Books.{no_totals, plain_totals};
+    ghost use Rattle.tracees.specs.Books.{no_totals};
 
     /// A book in which nothing is counted and no account was opened.
     pub fn new() -> PlainBook
-        ensures totals { plain_totals result ≡ no_totals }
-        ensures attached { result.attached ≡ 0 }
+        ensures totals { ⟦<PlainBook as Bookkeeping>⟧.totals_of result ≡ no_totals }
+        ensures attached { ⟦<PlainBook as Bookkeeping>⟧.attached_of result ≡ 0 }
     {
         PlainBook {
             attached: 0,
@@ -111,6 +114,8 @@ impl Bookkeeping for PlainBook {
     ghost sums_of = { plain_sums };
 
     ghost shared = { false };
+
+    ghost desk = { 0 };
 
     fn open(&mut self) -> PlainAccount {
         self.attached += 1;

@@ -1,6 +1,6 @@
 //! Jobs: what a tracee is to do on a thread, and what came of it.
 
-ghost use Rattle.std.specs.Prelude.{◌≡◌, ◌<◌, ◌^◌, [], vec_len};
+ghost use Rattle.std.specs.Prelude.{◌≡◌, ◌<◌, ◌^◌, ℕ, Bool, [], vec_len};
 
 use crate::book::Bookkeeping;
 use crate::receipt::{HandFault, Receipt};
@@ -44,11 +44,19 @@ pub enum JobState {
 /// It may wait for other jobs, which need not run at the same time: where no thread can be made, jobs run one after
 /// another.
 pub trait Gate: Sync {
+    /// What the gate answers where it is asked before this act of this tracee.
+    ghost answers: { Self → ℕ → ℕ → Bool → Type 0 };
+
+    /// That it was told of the end of this act of this tracee.
+    ghost told: { Self → ℕ → ℕ → Type 0 };
+
     /// Whether the act may be done. Where it may not the job ends.
-    fn before(&self, tracee: u32, act: u32) -> bool;
+    fn before(&self, tracee: u32, act: u32) -> bool
+        ensures answered { answers self.now tracee act result };
 
     /// The act was done, or refused.
-    fn after(&self, tracee: u32, act: u32);
+    fn after(&self, tracee: u32, act: u32)
+        ensures told { told self.now tracee act };
 }
 
 /// What a tracee is to do, the receipts that it gave, and how far it is.

@@ -1,12 +1,22 @@
 //! A book of ledgers, of which each account is a share.
 
-ghost use Rattle.std.specs.Prelude.{◌≡◌, ◌+◌, ◌<◌, ◌≤◌, ◌^◌, true};
+ghost use Rattle.std.specs.Prelude.{◌≡◌, ◌+◌, ◌<◌, ◌≤◌, ◌^◌, ℕ, true};
 
 use crate::book::{Bookkeeping, Totals};
+use std::marker::Brand;
 use std::sync::ledger::{Blank, Book, Ledger, Share};
 
 /// Into how many parts each ledger of a book is cut: one for each account, and one that stays with the book.
 pub const PARTS: u64 = 4_294_967_296;
+
+/// The number of the desk of a book of ledgers, which the type of its ledger of accounts carries.
+pub trait Numbered {
+    ghost number: { ℕ };
+}
+
+impl Numbered for Brand {
+    ghost number = { 0 };
+}
 
 /// One number of a book: the sum of what its accounts count of it.
 #[derive(Drop)]
@@ -130,7 +140,7 @@ impl<L: Ledger> BookCount<L> {
 /// A book of four ledgers: flushed messages, other messages, drops, and the number of accounts. Its type and those of
 /// its accounts carry the ledgers' names, so an account of another book isn't to be had.
 #[derive(Drop)]
-pub struct LedgerBook<F: Ledger, U: Ledger, D: Ledger, N: Ledger> {
+pub struct LedgerBook<F: Ledger, U: Ledger, D: Ledger, N: Ledger + Numbered> {
     pub(crate) flushed: BookCount<F>,
     pub(crate) unflushed: BookCount<U>,
     pub(crate) drops: BookCount<D>,
@@ -145,7 +155,7 @@ pub struct LedgerBook<F: Ledger, U: Ledger, D: Ledger, N: Ledger> {
 
 /// An account of a book of ledgers: a share of each, and one for itself in the number of accounts.
 #[derive(Drop)]
-pub struct LedgerAccount<F: Ledger, U: Ledger, D: Ledger, N: Ledger> {
+pub struct LedgerAccount<F: Ledger, U: Ledger, D: Ledger, N: Ledger + Numbered> {
     pub(crate) flushed: AccountCount<F>,
     pub(crate) unflushed: AccountCount<U>,
     pub(crate) drops: AccountCount<D>,
@@ -154,7 +164,9 @@ pub struct LedgerAccount<F: Ledger, U: Ledger, D: Ledger, N: Ledger> {
     ghost fits: { flushed.count + unflushed.count < 2 ^ 64 },
 }
 
-impl<F: Ledger, U: Ledger, D: Ledger, N: Ledger> LedgerBook<F, U, D, N> {
+impl<F: Ledger, U: Ledger, D: Ledger, N: Ledger + Numbered> LedgerBook<F, U, D, N> {
+    ghost use Rattle.tracees.specs.Books.{no_totals};
+
     /// A book in which nothing is counted and no account was opened, of four new ledgers of `PARTS` parts each.
     pub fn new(
         flushed: Blank,
@@ -166,10 +178,8 @@ impl<F: Ledger, U: Ledger, D: Ledger, N: Ledger> LedgerBook<F, U, D, N> {
         requires unflushed { (unflushed.name ≡ U.name) × (unflushed.parts ≡ U.parts) × (unflushed.parts ≡ PARTS) }
         requires drops { (drops.name ≡ D.name) × (drops.parts ≡ D.parts) × (drops.parts ≡ PARTS) }
         requires accounts { (accounts.name ≡ N.name) × (accounts.parts ≡ N.parts) × (accounts.parts ≡ PARTS) }
-        ensures flushed { result.flushed.count ≡ 0 }
-        ensures unflushed { result.unflushed.count ≡ 0 }
-        ensures drops { result.drops.count ≡ 0 }
-        ensures accounts { result.accounts.count ≡ 0 }
+        ensures totals { ⟦<LedgerBook<F, U, D, N> as Bookkeeping>⟧.totals_of result ≡ no_totals }
+        ensures attached { ⟦<LedgerBook<F, U, D, N> as Bookkeeping>⟧.attached_of result ≡ 0 }
     {
         LedgerBook {
             flushed: BookCount::new(flushed),
@@ -180,7 +190,7 @@ impl<F: Ledger, U: Ledger, D: Ledger, N: Ledger> LedgerBook<F, U, D, N> {
     }
 }
 
-impl<F: Ledger, U: Ledger, D: Ledger, N: Ledger> Bookkeeping for LedgerBook<F, U, D, N> {
+impl<F: Ledger, U: Ledger, D: Ledger, N: Ledger + Numbered> Bookkeeping for LedgerBook<F, U, D, N> {
     type Slip = LedgerAccount<F, U, D, N>;
 
     ghost use Rattle.tracees.specs.Books.{totals};
@@ -192,6 +202,8 @@ impl<F: Ledger, U: Ledger, D: Ledger, N: Ledger> Bookkeeping for LedgerBook<F, U
     ghost sums_of = { λ slip. totals (slip.flushed.count + slip.unflushed.count) slip.drops.count slip.flushed.count };
 
     ghost shared = { true };
+
+    ghost desk = { N.number };
 
     fn open(&mut self) -> LedgerAccount<F, U, D, N> {
         let LedgerBook {

@@ -33,7 +33,8 @@ pub fn hand_one<P: TracePort, K: Bookkeeping>(
     limit: u32,
 ) -> (Tracee, Result<Receipt, HandFault>)
     requires totals { K.totals_of book ≡ no_totals }
-    requires attached { K.attached_of book < 4294967295 }
+    requires attached { K.attached_of book ≡ 0 }
+    requires number { IsTrue K.shared → number ≡ K.desk }
     requires fits { IsTrue K.shared → KeepsMeaning (P.told port.old) }
     ensures same { P.lender port.new ≡ P.lender port.old }
     ensures hands { HandsOne P.told number port.old port.new limit tracee result.0 result.1 }

@@ -31,7 +31,7 @@ pub use driving::drive;
 pub use either::{EitherPort, put_as_file, put_as_wrap};
 pub use job::{Act, ActFault, Gate, Job, JobState};
 pub use laws::{recovered_is_a_prefix, recovery_refuses_no_sound_image};
-pub use ledgers::{LedgerAccount, LedgerBook, PARTS};
+pub use ledgers::{LedgerAccount, LedgerBook, Numbered, PARTS};
 pub use lender::{hand_one, record_one};
 pub use receipt::{HandFault, Receipt};
 pub use settling::{SettleFault, settle};

@@ -25,7 +25,7 @@ fn run_each<P: TracePort, K: SharedBook, G: Gate, R: Threads + Wait + Sync>(
 )
     requires some { 0 < length jobs.old }
     requires room { All (λ job. HasRoom job) jobs.old }
-    ensures { (place : ℕ) (d : _) → place < length jobs.old → HasRun P.told (slice_index_or jobs.old place d) (slice_index_or jobs.new place d) }
+    ensures { (place : ℕ) (d : _) → place < length jobs.old → HasRun P.told (G.answers gate.now) (G.told gate.now) (slice_index_or jobs.old place d) (slice_index_or jobs.new place d) }
 {
     let count = jobs.len();
     thread::for_each_mut(
@@ -34,7 +34,7 @@ fn run_each<P: TracePort, K: SharedBook, G: Gate, R: Threads + Wait + Sync>(
         count,
         &|_, job|
             requires { HasRoom job.now }
-            ensures { HasRun P.told job.entry.now job.exit.now }
+            ensures { HasRun P.told (G.answers gate.entry.now) (G.told gate.entry.now) job.entry.now job.exit.now }
         { run_job(rt, alloc, desk, gate, job) },
     );
 }
@@ -71,7 +71,7 @@ pub fn run_threads<P: TracePort, K: SharedBook, G: Gate, R: Threads + Wait + Syn
     gate: &G,
 ) -> Result<(), NoMemory>
     requires { All (λ job. IsReady job) jobs.old }
-    ensures ran { OnOk result ((place : ℕ) (d : _) → place < length jobs.old → HasRun P.told (slice_index_or jobs.old place d) (slice_index_or jobs.new place d)) }
+    ensures ran { OnOk result ((place : ℕ) (d : _) → place < length jobs.old → HasRun P.told (G.answers gate.now) (G.told gate.now) (slice_index_or jobs.old place d) (slice_index_or jobs.new place d)) }
     ensures err { OnErr result ((place : ℕ) (d : _) → place < length jobs.old → IsSameJob (slice_index_or jobs.old place d) (slice_index_or jobs.new place d)) }
 {
     reserve_all(jobs)?;

@@ -11,3 +11,6 @@ ghosts-settled-D-Ledger g a = record { name = a.drops.name; parts = a.drops.part
 
 abbrev pub ghosts-settled-N-Ledger : goal.ghosts-settled-N-Ledger
 ghosts-settled-N-Ledger g a = record { name = a.accounts.name; parts = a.accounts.parts }
+
+abbrev pub ghosts-settled-N-Numbered : goal.ghosts-settled-N-Numbered
+ghosts-settled-N-Numbered g a = record { number = 3 }

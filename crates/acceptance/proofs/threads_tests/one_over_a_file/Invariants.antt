@@ -11,3 +11,6 @@ ghosts-run_one-D-Ledger g a = record { name = a.drops.name; parts = a.drops.part
 
 abbrev pub ghosts-run_one-N-Ledger : goal.ghosts-run_one-N-Ledger
 ghosts-run_one-N-Ledger g a = record { name = a.accounts.name; parts = a.accounts.parts }
+
+abbrev pub ghosts-run_one-N-Numbered : goal.ghosts-run_one-N-Numbered
+ghosts-run_one-N-Numbered g a = record { number = 7 }

@@ -11,3 +11,6 @@ ghosts-run-D-Ledger g a = record { name = a.drops.name; parts = a.drops.parts }
 
 abbrev pub ghosts-run-N-Ledger : goal.ghosts-run-N-Ledger
 ghosts-run-N-Ledger g a = record { name = a.accounts.name; parts = a.accounts.parts }
+
+abbrev pub ghosts-run-N-Numbered : goal.ghosts-run-N-Numbered
+ghosts-run-N-Numbered g a = record { number = 7 }

@@ -16,6 +16,7 @@ loop-place-init g c =
       acted = subst (λ (l : List Receipt). Acts g.P.TracePort.told was [] l was) (sym c.requires.empty) begin;
       room = refl;
       count = search rules;
+      through = λ act within. absurd (omega (arith, within));
     }
 
 -- the gate is shut before an act
@@ -78,6 +79,7 @@ loop-place-preserved g c =
       acted = acts_more told was mid is xs place c.loop-place.receipts.items c.act_once-done.new.receipts.items does.0 act next c.loop-place.invariant.acted does.1 does.2;
       room = c.in-Ok.ensures.room ∙ c.loop-place.invariant.room;
       count = omega (arith, c.in-Ok.ensures.count, c.loop-place.invariant.count);
+      through = search rules;
     }
 
 -- all acts were done
