@@ -20,10 +20,12 @@ import faults
 import foreign
 import images
 import importing
+import installing
 import keeping
 import listing
 import locking
 import machine
+import memory
 import recording
 import rows
 import scripts
@@ -32,7 +34,7 @@ import wording
 from cases import Skipped
 from program import Program
 
-GROUPS = (rows, scripts, listing, recording, importing, foreign, absent, keeping, telling, crashes, images, machine, faults, locking, wording)
+GROUPS = (rows, scripts, listing, recording, importing, foreign, absent, keeping, telling, crashes, images, machine, faults, locking, wording, installing, memory)
 
 
 def words():
