@@ -24,6 +24,7 @@ import keeping
 import listing
 import locking
 import machine
+import pretty
 import recording
 import rows
 import scripts
@@ -32,7 +33,7 @@ import wording
 from cases import Skipped
 from program import Program
 
-GROUPS = (rows, scripts, listing, recording, importing, foreign, absent, keeping, telling, crashes, images, machine, faults, locking, wording)
+GROUPS = (rows, scripts, listing, pretty, recording, importing, foreign, absent, keeping, telling, crashes, images, machine, faults, locking, wording)
 
 
 def words():
