@@ -26,6 +26,7 @@ import listing
 import locking
 import machine
 import memory
+import pretty
 import recording
 import rows
 import scripts
@@ -34,7 +35,7 @@ import wording
 from cases import Skipped
 from program import Program
 
-GROUPS = (rows, scripts, listing, recording, importing, foreign, absent, keeping, telling, crashes, images, machine, faults, locking, wording, installing, memory)
+GROUPS = (rows, scripts, listing, pretty, recording, importing, foreign, absent, keeping, telling, crashes, images, machine, faults, locking, wording, installing, memory)
 
 
 def words():

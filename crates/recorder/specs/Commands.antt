@@ -10,6 +10,8 @@ use Rattle.segment.specs.Specification.{Spec}
 use Rattle.recovery.specs.Stores.{readings, IsBlank}
 use Rattle.trace_port.specs.Device.{Device, device_of}
 use Rattle.trace_client.specs.Forms.{Form, as_lines, as_bytes}
+use Rattle.trace_client.specs.declared.style.Style.{Style}
+use Rattle.trace_client.specs.declared.style.Style.TheVariants.{Plain, Pretty}
 use Rattle.trace_files.specs.Clearing.{AreCleared, IsClearing, HasNoForeign}
 use Rattle.trace_files.specs.Standing.{IsStanding}
 use Rattle.trace_files.specs.declared.standing.Standing.TheVariants as standings
@@ -107,15 +109,20 @@ abbrev pub clearing_of : Bool → Clearing
 clearing_of false = Own
 clearing_of true = Any
 
+-- how messages are told
+abbrev pub style_of : Bool → Style
+style_of false = Plain
+style_of true = Pretty
+
 -- what is asked changes the trace
 abbrev pub Changes : TraceRequest → Type 0
-Changes (requests.List asked) = ⊥
+Changes (requests.List asked is_pretty) = ⊥
 Changes (requests.Export asked) = ⊥
 Changes _ = Unit {0}
 
 -- what is done with a trace for what the command line asks, by what is seen of the stream that comes in and of the clock, and the bytes that are written
 abbrev pub Serves : TraceRequest → Files → Files → Outside → Option (List ℕ) → Option (List ℕ) → Result Unit Complaint → Type 0
-Serves (requests.List asked) old new saw was now result = (honest_of new.store → IsRead ListsStore as_lines (reads_of old.store) was now result) × OnlyLooks old.store new.store
+Serves (requests.List asked is_pretty) old new saw was now result = (honest_of new.store → IsRead (ListsStore (style_of is_pretty)) (as_lines (style_of is_pretty)) (reads_of old.store) was now result) × OnlyLooks old.store new.store
 Serves (requests.Export asked) old new saw was now result = (honest_of new.store → IsRead ExportsStore as_bytes (reads_of old.store) was now result) × OnlyLooks old.store new.store
 Serves (requests.Wipe asked is_forced) old new saw was now result = (honest_of new.store → Clears (clearing_of is_forced) old.store new.store was now result)
     × (honest_of new.store → IsNotToWipe (clearing_of is_forced) (reads_of old.store) → OnlyLooks old.store new.store) × (honest_of new.store → LeavesOnly clock_of moments_of old.store new.store (IsClearing (images_of old.store)))
