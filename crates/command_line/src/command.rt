@@ -157,11 +157,12 @@ fn record<'a>(alloc: Global) -> Result<Command<'a>, AllocError> {
     )
 }
 
+/// The option that shows any term of a node.
 fn pretty<'a>(alloc: Global) -> Arg<'a> {
     flag(
         alloc,
         "pretty",
-        "Shows every term of a node, as its shell would; without it a term of other kinds is listed by its size",
+        "Shows any term nearly as a node's shell does; without it text is a list of numbers, and a message with a float, map, reference or the like is opaque",
     )
     .short('p')
 }
