@@ -96,7 +96,7 @@ keyword_found ws d k some e =
     first_of ws d some ∙ ap (λ (text : List ℕ). text ∷ texts (take (length ws - 1) (drop 1 ws))) h
 
 pub keyword_missing : (ws : List (Bor (List ℕ))) (d : Bor (List ℕ)) → 1 ≤ length ws → None ≡ keyword_among all_keywords (get_or ws 0 d).now
-    → (x : Keyword × Bor (List (Bor (List ℕ)))) → texts ws ≡ text_of x.0 ∷ texts x.1.now → ⊥
+    → (x : Keyword × List (List ℕ)) → texts ws ≡ text_of x.0 ∷ x.1 → ⊥
 keyword_missing ws d some e x same =
     let f = first_of ws d some in
     not_named (get_or ws 0 d).now (sym e) x.0 (cc (f, same))
