@@ -48,9 +48,7 @@ fn serve_files(
 fn serve(rt: &HostRuntime, request: Request<'_>, output: &mut Outlet) -> Result<(), Complaint> {
     match request {
         Request::Sim => serve_sim(rt.alloc(), rt.stdin(), output),
-        Request::Stream { is_pretty } => {
-            serve_stream(rt.alloc(), is_pretty, rt.stdin(), output)
-        }
+        Request::Stream { is_pretty } => { serve_stream(rt.alloc(), is_pretty, rt.stdin(), output) }
         Request::OfTrace(request) => serve_files(rt, request, output),
     }
 }
