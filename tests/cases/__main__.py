@@ -20,6 +20,7 @@ import faults
 import foreign
 import images
 import importing
+import installing
 import keeping
 import listing
 import locking
@@ -32,7 +33,7 @@ import wording
 from cases import Skipped
 from program import Program
 
-GROUPS = (rows, scripts, listing, recording, importing, foreign, absent, keeping, telling, crashes, images, machine, faults, locking, wording)
+GROUPS = (rows, scripts, listing, recording, importing, foreign, absent, keeping, telling, crashes, images, machine, faults, locking, wording, installing)
 
 
 def words():
