@@ -25,6 +25,7 @@ import keeping
 import listing
 import locking
 import machine
+import memory
 import recording
 import rows
 import scripts
@@ -33,7 +34,7 @@ import wording
 from cases import Skipped
 from program import Program
 
-GROUPS = (rows, scripts, listing, recording, importing, foreign, absent, keeping, telling, crashes, images, machine, faults, locking, wording, installing)
+GROUPS = (rows, scripts, listing, recording, importing, foreign, absent, keeping, telling, crashes, images, machine, faults, locking, wording, installing, memory)
 
 
 def words():
