@@ -23,8 +23,10 @@ _dbgrec() {
             case ${COMP_WORDS[1]} in
             import) offered="$readers $new --flush --keep-open --help" ;;
             record) offered="$readers $new --help" ;;
-            list | export) offered="$readers --help" ;;
+            list) offered="$readers --pretty --help" ;;
+            export) offered="$readers --help" ;;
             wipe) offered="$readers --force --help" ;;
+            stream) offered="--pretty --help" ;;
             *) offered="--help" ;;
             esac
         fi

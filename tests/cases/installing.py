@@ -135,4 +135,4 @@ def the_completion_offers_files_for_a_trace(program):
     for name in ("trace", "trace2", "other"):
         (program.folder / name).touch()
     for command, options in COMMANDS.items():
-        same((command, offered(program, command, "tr")), (command, ["trace", "trace2"] if options else []))
+        same((command, offered(program, command, "tr")), (command, ["trace", "trace2"] if "--suffix" in options else []))
