@@ -1,5 +1,5 @@
 -- Numbers in decimal, and the bytes of hexadecimal digits.
-use Rattle.std.proofs.Common.{arith, sym, ◌∙◌, ap, subst, ◌≡◌, ◌≢◌, ℕ, zero, suc, ◌<◌, ◌≤◌, ◌^◌, ◌/◌, ◌%◌, Bool, true, false, Option, None, Some, Result, Ok, Err, List, [], ◌∷◌, ◌++◌, length, get_or, drop, take, codes, append_assoc, append-nil, lit<, refl, inl, inr, ◌-◌, ◌==◌}
+use Rattle.std.proofs.Common.{arith, sym, ◌∙◌, ap, subst, ◌≡◌, ◌≢◌, ℕ, zero, suc, ◌<◌, ◌≤◌, ◌^◌, ◌/◌, ◌%◌, Bool, true, false, Option, None, Some, Result, Ok, Err, List, [], ◌∷◌, ◌++◌, length, get_or, drop, take, codes, append_assoc, append-nil, lit<, refl, inl, inr, ◌-◌, ◌==◌, ℤ, pos, w64, SFits}
 use Rattle.std.specs.Char.{is_ascii_digit, digit_value}
 use Rattle.std.specs.List.{list_all}
 use Rattle.std.specs.Fmt.{decimal, digit_glyph}
@@ -11,7 +11,7 @@ use Rattle.std.proofs.lemmas.Bool.{and_parts, and_from, cases_lt}
 use Rattle.std.proofs.lemmas.Bool.Decides.{nat_tests}
 use Rattle.std.specs.Int.{IsInRange}
 use Rattle.std.proofs.lemmas.Fmt.{decimal_injective, decimal_digit, first_decimal, digits_decimal, decimal-digits_value, parse-decimal}
-use Rattle.trace_script.specs.Spellings.{IsFound, IsNumber, IsDigit, IsHex, IsBytes}
+use Rattle.trace_script.specs.Spellings.{IsFound, IsFoundAs, IsNumber, IsDigit, IsHex, IsBytes}
 use Rattle.std.specs.Str.{bytes_eq}
 use Rattle.std.proofs.lemmas.Slice.Eq.{bytes_eq-Decides}
 
@@ -208,9 +208,9 @@ as_hex word [] other h = absurd (other h)
 as_hex word (b ∷ bytes) other h = h
 
 -- of the digits what of the word
-pub bytes_found : {V : Type 0} (items : V → List ℕ) (word : List ℕ) (o : Option V) → word ≢ codes "-" → 0 < length word → IsFound (λ v. IsHex word (items v)) o → IsFound (λ v. IsBytes word (items v)) o
+pub bytes_found : {V : Type 0} (items : V → List ℕ) (word : List ℕ) (o : Option V) → word ≢ codes "-" → 0 < length word → IsFoundAs items (IsHex word) o → IsFoundAs items (IsBytes word) o
 bytes_found items word (Some v) other some h = as_bytes word (items v) some h
-bytes_found items word None other some h = λ v k. h v (as_hex word (items v) other k)
+bytes_found items word None other some h = λ bytes k. h bytes (as_hex word bytes other k)
 
 pub not_dash : (word : List ℕ) (r : Bool) → r ≡ bytes_eq word (codes "-") → r ≡ false → word ≢ codes "-"
 not_dash word r e differs same = let k : bytes_eq word (codes "-") ≡ true = (bytes_eq-Decides word (codes "-")).1 same in cc
@@ -220,3 +220,31 @@ no_length xs ys e t = grind (arith, nat_tests)
 
 pub some_length : (xs ys : List ℕ) → xs ≡ ys → false ≡ (length xs == 0) → 0 < length ys
 some_length xs ys e t = grind (arith, nat_tests)
+
+-- ---- digits spell one thing at most
+
+only_hex : (word bytes others : List ℕ) → IsHex word bytes → IsHex word others → bytes ≡ others
+only_hex [] [] [] h j = refl
+only_hex [] [] (c ∷ cs) h j = absurd j
+only_hex [] (b ∷ bs) others h j = absurd h
+only_hex (x ∷ []) bytes others h j = absurd h
+only_hex (x ∷ y ∷ word) [] others h j = absurd h
+only_hex (x ∷ y ∷ word) (b ∷ bs) [] h j = absurd j
+only_hex (x ∷ y ∷ word) (b ∷ bs) (c ∷ cs) h j = ap (λ (n : ℕ). n ∷ bs) (only_byte x y b c h.0 h.1 j.0 j.1) ∙ ap (λ (l : List ℕ). c ∷ l) (only_hex word bs cs h.2 j.2)
+
+no_dash : (word : List ℕ) (b : ℕ) (bytes : List ℕ) → word ≡ codes "-" → IsHex word (b ∷ bytes) → ⊥
+no_dash word b bytes e h = let j : IsHex (codes "-") (b ∷ bytes) = subst (λ (w : List ℕ). IsHex w (b ∷ bytes)) e h in j
+
+pub only_bytes : (word bytes others : List ℕ) → IsBytes word bytes → IsBytes word others → bytes ≡ others
+only_bytes word [] [] h j = refl
+only_bytes word [] (c ∷ cs) h j = absurd (no_dash word c cs h j)
+only_bytes word (b ∷ bs) [] h j = absurd (no_dash word b bs j h)
+only_bytes word (b ∷ bs) (c ∷ cs) h j = only_hex word (b ∷ bs) (c ∷ cs) h j
+
+pub only_pair : (word : List ℕ) (b c : ℕ) → IsHex word (b ∷ []) → IsHex word (c ∷ []) → b ≡ c
+only_pair word b c h j = let e : b ∷ [] ≡ c ∷ [] = only_hex word (b ∷ []) (c ∷ []) h j in cc
+
+-- what is no number of nanoseconds
+pub no_nanos : {E : Type 0} (r : Result ℤ E) (n m : ℕ) → OkIff r (SFits w64 (pos n)) (pos n) → (let none : Option ℤ = None in none ≡ result_ok r) → n ≡ m → m ≤ 9223372036854775807 → ⊥
+no_nanos (Ok z) n m tried value same most = cc
+no_nanos (Err e) n m tried value same most = tried (record { sfits = omega (arith, same, most) })

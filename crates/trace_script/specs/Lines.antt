@@ -1,10 +1,15 @@
 -- What a line of a script may say.
-use Rattle.std.specs.Prelude.{◌≤◌, ◌<◌, ⊤, length}
+use Rattle.std.specs.Prelude.{◌≡◌, ℕ, ◌≤◌, ◌<◌, ⊤, length, Vec}
+use Rattle.std.specs.declared.alloc.Global.{Global}
 use Rattle.trace_store.specs.Disk.{Image}
 use Rattle.entry_codec.specs.Entries.{IsLawful}
 use Rattle.entry_codec.specs.Seen.{view}
 use Rattle.trace_store.specs.declared.pick.Pick.{Pick}
 use Rattle.trace_store.specs.declared.pick.Pick.TheVariants as picks
+use Rattle.entry_codec.specs.declared.model.Entry.{Entry as Stored}
+use Rattle.trace_message.specs.Events.{event_view}
+use Rattle.trace_message.specs.declared.event.Event.{Event}
+use Rattle.trace_script.specs.declared.desk_line.TraceeLine.TheVariants as tracee_lines
 use Rattle.trace_script.specs.declared.line.Unsynced.{Unsynced}
 use Rattle.trace_script.specs.declared.line.Unsynced.TheVariants as unsynced
 use Rattle.trace_script.specs.declared.line.Line.{Line}
@@ -43,3 +48,15 @@ HasFile image _ = ⊤
 abbrev pub pick_of : Unsynced → Pick
 pick_of unsynced.Kept = picks.Kept
 pick_of (unsynced.Fill byte longest) = picks.Fill byte longest
+
+-- two lines say the same to a desk: an event is seen as data
+abbrev pub IsSameAtDesk : DeskLine → DeskLine → Type 0
+IsSameAtDesk (desk_lines.OfTracee number (tracee_lines.Emit event)) other = (e : Event) × (other ≡ desk_lines.OfTracee number (tracee_lines.Emit e)) × (event_view e ≡ event_view event)
+IsSameAtDesk line other = other ≡ line
+
+-- two lines say the same: bytes are seen as such, wherever they lie
+abbrev pub SaysSame : Line → Line → Type 0
+SaysSame (lines.Bytes file bytes) other = (kept : Vec ℕ Global) × (other ≡ lines.Bytes file kept) × (kept.items ≡ bytes.items)
+SaysSame (lines.Put entry) other = (e : Stored) × (other ≡ lines.Put e) × (view e ≡ view entry)
+SaysSame (lines.AtDesk line) other = (it : DeskLine) × (other ≡ lines.AtDesk it) × IsSameAtDesk line it
+SaysSame line other = other ≡ line

@@ -9,6 +9,11 @@ abbrev pub IsFound : {X : Type 0} → (X → Type 0) → Option X → Type 0
 IsFound P (Some x) = P x
 IsFound {X} P None = (x : X) → P x → ⊥
 
+-- the same, by what is seen of it
+abbrev pub IsFoundAs : {V X : Type 0} → (V → X) → (X → Type 0) → Option V → Type 0
+IsFoundAs seen P (Some v) = P (seen v)
+IsFoundAs {V} {X} seen P None = (x : X) → P x → ⊥
+
 -- the words of a text, which one blank parts from each other
 abbrev pub words : List ℕ → List (List ℕ)
 words text = slice_split (λ b. b == 32) text

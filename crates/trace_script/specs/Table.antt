@@ -1,5 +1,5 @@
 -- Which words spell which line: a row for each keyword that a line begins with.
-use Rattle.std.specs.Prelude.{◌≡◌, ℕ, ◌≤◌, ◌<◌, ◌+◌, IsTrue, Vec, Bool, true, false, pos, List, [], ◌∷◌, length, codes}
+use Rattle.std.specs.Prelude.{◌≡◌, ◌↔◌, ◌⊎◌, ℕ, ◌≤◌, ◌<◌, ◌+◌, IsTrue, Vec, Bool, true, false, pos, List, [], ◌∷◌, length, codes}
 use Rattle.std.specs.List.{count_by}
 use Rattle.std.specs.Str.{chars}
 use Rattle.std.specs.Prelude.{nat_eq}
@@ -120,6 +120,19 @@ times false = 0
 abbrev pub count_of : ℕ → List ℕ → ℕ
 count_of letter word = count_by (nat_eq letter) word
 
+-- how many flags are set
+abbrev pub set_in : Flags → ℕ
+set_in flags = times flags.call + times flags.send + times flags.receive + times flags.arity + times flags.timestamp + times flags.monotonic
+
+-- the flags that are set are those whose letters stand in a word, once or more
+pub record Names (word : List ℕ) (flags : Flags) : Type 0 where
+  pub call : IsTrue flags.call ↔ (0 < count_of 99 word)
+  pub send : IsTrue flags.send ↔ (0 < count_of 115 word)
+  pub receive : IsTrue flags.receive ↔ (0 < count_of 114 word)
+  pub arity : IsTrue flags.arity ↔ (0 < count_of 97 word)
+  pub timestamp : IsTrue flags.timestamp ↔ (0 < count_of 116 word)
+  pub monotonic : IsTrue flags.monotonic ↔ (0 < count_of 109 word)
+
 -- each letter of `csratm` stands there once where its flag is set, and else not at all; no other letter does
 pub record HasLetters (word : List ℕ) (flags : Flags) : Type 0 where
   pub call : count_of 99 word ≡ times flags.call
@@ -128,7 +141,7 @@ pub record HasLetters (word : List ℕ) (flags : Flags) : Type 0 where
   pub arity : count_of 97 word ≡ times flags.arity
   pub timestamp : count_of 116 word ≡ times flags.timestamp
   pub monotonic : count_of 109 word ≡ times flags.monotonic
-  pub others : length word ≡ times flags.call + times flags.send + times flags.receive + times flags.arity + times flags.timestamp + times flags.monotonic
+  pub others : length word ≡ set_in flags
 
 -- FLAGS: one letter or more, or `-` for none
 pub data IsFlags : List ℕ → Flags → Type 0 where
@@ -153,27 +166,35 @@ DeskRow _ others line = ⊥
 abbrev pub IsOfDesk : Keyword → List (List ℕ) → Line → Type 0
 IsOfDesk keyword others line = (it : DeskLine) × DeskRow keyword others it × (line ≡ lines.AtDesk it)
 
+-- a line that isn't for a desk and holds no bytes, by its keyword
+abbrev pub PlainRow : Keyword → List (List ℕ) → Line → Type 0
+PlainRow keywords.Store others line = IsOfNumberIn 1 1001 others lines.Store line
+PlainRow keywords.Fuse others line = IsOfNumber others lines.Fuse line
+PlainRow keywords.FailOnce others line = IsOfNumber others lines.FailOnce line
+PlainRow keywords.Create others line = Behind Creates others line
+PlainRow keywords.Resume others line = Behind Resumes others line
+PlainRow keywords.Files others line = IsAlone others lines.Files line
+PlainRow keywords.List others line = IsAlone others lines.List line
+PlainRow keywords.Wipe others line = IsAlone others lines.Wipe line
+PlainRow keywords.Crash others line = Behind Crashes others line
+PlainRow keywords.Lose others line = (count : ℕ) × Sole (IsNumberIn 1 4294967295) others count × (line ≡ lines.Put (held.Drop count))
+PlainRow keywords.Flush others line = IsAlone others lines.Flush line
+PlainRow keywords.Seal others line = IsAlone others lines.Seal line
+PlainRow keywords.Tick others line = IsOfNumber others lines.Tick line
+PlainRow keywords.Abandon others line = IsAlone others lines.Abandon line
+PlainRow keywords.Close others line = IsAlone others lines.Close line
+PlainRow keywords.Desk others line = IsAlone others lines.Desk line
+PlainRow _ others line = ⊥
+
+-- a line that holds bytes, by its keyword
+abbrev pub HeldRow : Keyword → List (List ℕ) → Line → Type 0
+HeldRow keywords.Bytes others line = (file : ℕ) × (bytes : Vec ℕ Global) × Two (IsNumberIn 0 1000) IsHeld others file bytes × (line ≡ lines.Bytes file bytes)
+HeldRow keywords.Put others line = (bytes : Vec ℕ Global) × Sole IsHeld others bytes × (length bytes.items ≤ 65531) × (line ≡ lines.Put (held.Message bytes))
+HeldRow _ others line = ⊥
+
 -- a line, by its keyword
 abbrev pub Row : Keyword → List (List ℕ) → Line → Type 0
-Row keywords.Store others line = IsOfNumberIn 1 1001 others lines.Store line
-Row keywords.Bytes others line = (file : ℕ) × (bytes : Vec ℕ Global) × Two (IsNumberIn 0 1000) IsHeld others file bytes × (line ≡ lines.Bytes file bytes)
-Row keywords.Fuse others line = IsOfNumber others lines.Fuse line
-Row keywords.FailOnce others line = IsOfNumber others lines.FailOnce line
-Row keywords.Create others line = Behind Creates others line
-Row keywords.Resume others line = Behind Resumes others line
-Row keywords.Files others line = IsAlone others lines.Files line
-Row keywords.List others line = IsAlone others lines.List line
-Row keywords.Wipe others line = IsAlone others lines.Wipe line
-Row keywords.Crash others line = Behind Crashes others line
-Row keywords.Put others line = (bytes : Vec ℕ Global) × Sole IsHeld others bytes × (length bytes.items ≤ 65531) × (line ≡ lines.Put (held.Message bytes))
-Row keywords.Lose others line = (count : ℕ) × Sole (IsNumberIn 1 4294967295) others count × (line ≡ lines.Put (held.Drop count))
-Row keywords.Flush others line = IsAlone others lines.Flush line
-Row keywords.Seal others line = IsAlone others lines.Seal line
-Row keywords.Tick others line = IsOfNumber others lines.Tick line
-Row keywords.Abandon others line = IsAlone others lines.Abandon line
-Row keywords.Close others line = IsAlone others lines.Close line
-Row keywords.Desk others line = IsAlone others lines.Desk line
-Row keyword others line = IsOfDesk keyword others line
+Row keyword others line = PlainRow keyword others line ⊎ (HeldRow keyword others line ⊎ IsOfDesk keyword others line)
 
 -- the text spells the line: its words begin with a keyword, and those behind it say so
 abbrev pub Spells : Line → List ℕ → Type 0

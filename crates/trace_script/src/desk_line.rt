@@ -1,7 +1,7 @@
 // What a line of a script says to a desk.
-ghost use Rattle.std.specs.Prelude.{◌≡◌, ◌++◌, ◌∷◌, [], ℕ, List, IfOk, IfSome};
-ghost use Rattle.trace_script.specs.Spellings.{Sole, Three, texts};
-ghost use Rattle.trace_script.specs.Table.{IsLong, IsTracee, IsFlags, HasLetters, DeskRow};
+ghost use Rattle.std.specs.Prelude.{◌≡◌, ◌≢◌, ◌↔◌, ◌<◌, IfOk, IsTrue};
+ghost use Rattle.trace_script.specs.Spellings.{IsFound, Sole, Three, texts};
+ghost use Rattle.trace_script.specs.Table.{IsLong, IsTracee, IsFlags, HasLetters, DeskRow, count_of, set_in, Names};
 ghost use Rattle.trace_script.specs.declared.keyword.Keyword.TheVariants as keywords;
 
 use crate::arguments::{first, one, sole_number, three, two};
@@ -58,65 +58,65 @@ pub enum TraceeLine {
 
 /// Any number of 32 bits.
 fn word_number(word: &str) -> Option<u32>
-    ensures { IfSome result (IsLong word.now) }
+    ensures { IsFound (IsLong word.now) result }
 {
     within(word, 0, u32::MAX)
 }
 
 /// The number of a tracee.
 fn tracee_number(word: &str) -> Option<u32>
-    ensures { IfSome result (IsTracee word.now) }
+    ensures { IsFound (IsTracee word.now) result }
 {
     within(word, 0, LAST_TRACEE)
 }
 
-/// The flags with the one of this letter, which isn't among them.
-fn with_flag(flags: Flags, letter: u8) -> Option<Flags>
-    ensures { (word : List ℕ) → HasLetters word flags → IfSome result (HasLetters (word ++ letter ∷ [])) }
+/// Whether the letter is among these.
+fn has(letters: &[u8], letter: u8) -> bool
+    ensures { IsTrue result ↔ (0 < count_of letter letters.now) }
 {
-    match letter {
-        b'c' if !flags.call => Some(Flags {
-            call: true,
-            ..flags
-        }),
-        b's' if !flags.send => Some(Flags {
-            send: true,
-            ..flags
-        }),
-        b'r' if !flags.receive => Some(Flags {
-            receive: true,
-            ..flags
-        }),
-        b'a' if !flags.arity => Some(Flags {
-            arity: true,
-            ..flags
-        }),
-        b't' if !flags.timestamp => Some(Flags {
-            timestamp: true,
-            ..flags
-        }),
-        b'm' if !flags.monotonic => Some(Flags {
-            monotonic: true,
-            ..flags
-        }),
-        _ => None,
+    letters.contains(&letter)
+}
+
+/// How many of the flags are set.
+fn count(flags: Flags) -> usize
+    ensures { result ≡ set_in flags }
+{
+    usize::from(flags.call)
+        + usize::from(flags.send)
+        + usize::from(flags.receive)
+        + usize::from(flags.arity)
+        + usize::from(flags.timestamp)
+        + usize::from(flags.monotonic)
+}
+
+/// The flags whose letters are among these.
+fn flags_named(letters: &[u8]) -> Flags
+    ensures { Names letters.now result }
+{
+    Flags {
+        call: has(letters, b'c'),
+        send: has(letters, b's'),
+        receive: has(letters, b'r'),
+        arity: has(letters, b'a'),
+        timestamp: has(letters, b't'),
+        monotonic: has(letters, b'm'),
     }
 }
 
-/// The flags of these letters.
+/// The flags of these letters, of which none stands there twice.
 fn flags_among(letters: &[u8]) -> Option<Flags>
-    ensures { IfSome result (HasLetters letters.now) }
+    ensures { IsFound (HasLetters letters.now) result }
 {
-    let mut flags = NO_FLAGS;
-    for letter in letters {
-        flags = with_flag(flags, *letter)?;
+    let flags = flags_named(letters);
+    if letters.len() == count(flags) {
+        return Some(flags);
     }
-    Some(flags)
+    None
 }
 
 /// The flags of these letters, or none for `-`.
 fn flags_of(word: &str) -> Option<Flags>
-    ensures { IfSome result (IsFlags word.now) }
+    ensures { IsFound (IsFlags word.now) result }
 {
     if word.is_empty() {
         return None;
@@ -129,7 +129,7 @@ fn flags_of(word: &str) -> Option<Flags>
 
 /// The line of a moment.
 fn stamp(words: &[&str]) -> Option<DeskLine>
-    ensures { IfSome result (DeskRow keywords.Stamp (texts words.now)) }
+    ensures { IsFound (DeskRow keywords.Stamp (texts words.now)) result }
 {
     let (mega, sec, micro) = three(words)?;
     let mega = word_number(mega)?;
@@ -140,7 +140,7 @@ fn stamp(words: &[&str]) -> Option<DeskLine>
 
 /// The line of the monotonic time.
 fn mono(words: &[&str]) -> Option<DeskLine>
-    ensures { IfSome result (DeskRow keywords.Mono (texts words.now)) }
+    ensures { IsFound (DeskRow keywords.Mono (texts words.now)) result }
 {
     let nanos = i64::try_from(sole_number(words)?).ok()?;
     Some(DeskLine::Mono(nanos))
@@ -148,7 +148,7 @@ fn mono(words: &[&str]) -> Option<DeskLine>
 
 /// The room of a new tracee, its limit of drops, and its flags.
 fn tracee_fields(words: &[&str]) -> Option<(u32, u32, Flags)>
-    ensures { IfSome result (λ x. Three IsLong IsLong IsFlags (texts words.now) x.0 x.1 x.2) }
+    ensures { IsFound (λ x. Three IsLong IsLong IsFlags (texts words.now) x.0 x.1 x.2) result }
 {
     let (capacity, drop_limit, letters) = three(words)?;
     let capacity = word_number(capacity)?;
@@ -159,7 +159,7 @@ fn tracee_fields(words: &[&str]) -> Option<(u32, u32, Flags)>
 
 /// The line of a new tracee.
 fn tracee(words: &[&str]) -> Option<DeskLine>
-    ensures { IfSome result (DeskRow keywords.Tracee (texts words.now)) }
+    ensures { IsFound (DeskRow keywords.Tracee (texts words.now)) result }
 {
     let (number, others) = first(words)?;
     let number = tracee_number(number)?;
@@ -174,7 +174,7 @@ fn tracee(words: &[&str]) -> Option<DeskLine>
 
 /// The line for a tracee that hands over at most so many entries.
 fn hand(words: &[&str]) -> Option<DeskLine>
-    ensures { IfSome result (DeskRow keywords.Hand (texts words.now)) }
+    ensures { IsFound (DeskRow keywords.Hand (texts words.now)) result }
 {
     let (number, limit) = two(words)?;
     let number = tracee_number(number)?;
@@ -184,14 +184,14 @@ fn hand(words: &[&str]) -> Option<DeskLine>
 
 /// The number of a tracee that is the only word.
 fn sole_tracee(words: &[&str]) -> Option<u32>
-    ensures { IfSome result (Sole IsTracee (texts words.now)) }
+    ensures { IsFound (Sole IsTracee (texts words.now)) result }
 {
     tracee_number(one(words)?)
 }
 
 /// The line of an event of a tracee.
 fn emit(alloc: Global, words: &[&str]) -> Result<Option<DeskLine>, AllocError>
-    ensures { IfOk result (λ found. IfSome found (DeskRow keywords.Emit (texts words.now))) }
+    ensures { IfOk result (IsFound (DeskRow keywords.Emit (texts words.now))) }
 {
     let Some((number, others)) = first(words) else {
         return Ok(None);
@@ -207,7 +207,8 @@ fn emit(alloc: Global, words: &[&str]) -> Result<Option<DeskLine>, AllocError>
 
 /// The line for a desk that begins with this keyword, where it has no event.
 fn plain_desk_line(keyword: Keyword, words: &[&str]) -> Option<DeskLine>
-    ensures { IfSome result (DeskRow keyword (texts words.now)) }
+    requires { keyword ≢ keywords.Emit }
+    ensures { IsFound (DeskRow keyword (texts words.now)) result }
 {
     match keyword {
         Keyword::Stamp => stamp(words),
@@ -226,7 +227,7 @@ pub fn desk_line(
     keyword: Keyword,
     words: &[&str],
 ) -> Result<Option<DeskLine>, AllocError>
-    ensures { IfOk result (λ found. IfSome found (DeskRow keyword (texts words.now))) }
+    ensures { IfOk result (IsFound (DeskRow keyword (texts words.now))) }
 {
     match keyword {
         Keyword::Emit => emit(alloc, words),

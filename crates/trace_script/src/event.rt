@@ -1,10 +1,11 @@
 // The events of a script.
-ghost use Rattle.std.specs.Prelude.{IfOk, IfSome, map};
-ghost use Rattle.trace_terms.specs.View.{view};
+ghost use Rattle.std.specs.Prelude.{◌≡◌, ℕ, List, IfOk, map};
+ghost use Rattle.trace_terms.specs.Data.{Data, list};
+ghost use Rattle.trace_terms.specs.View.{view, members_of};
 ghost use Rattle.trace_message.specs.Events.{event_view};
 ghost use Rattle.ext_format.specs.Spelling.{Spells as SpellsTerm};
 ghost use Rattle.trace_script.specs.Keywords.{Behind};
-ghost use Rattle.trace_script.specs.Spellings.{Two, Three, texts};
+ghost use Rattle.trace_script.specs.Spellings.{IsFound, IsFoundAs, Two, Three, texts};
 ghost use Rattle.trace_script.specs.Table.{IsTerm, IsArguments, IsAtom, IsArity, IsEvent};
 ghost use Rattle.trace_script.specs.declared.keyword.Keyword.TheVariants as keywords;
 
@@ -19,7 +20,7 @@ use trace_terms::{Atom, AtomFault, Term};
 
 /// The term that these bytes are one spelling of.
 fn whole_term(alloc: Global, bytes: &[u8]) -> Result<Option<Term>, AllocError>
-    ensures { IfOk result (λ found. IfSome found (λ t. SpellsTerm (view t) bytes.now)) }
+    ensures { IfOk result (IsFoundAs view (λ t. SpellsTerm t bytes.now)) }
 {
     match decode(alloc, bytes) {
         Ok((term, length)) if length == bytes.len() => Ok(Some(term)),
@@ -31,7 +32,7 @@ fn whole_term(alloc: Global, bytes: &[u8]) -> Result<Option<Term>, AllocError>
 
 /// The term of these digits, which are one spelling of it and nothing more.
 fn term(alloc: Global, hex: &str) -> Result<Option<Term>, AllocError>
-    ensures { IfOk result (λ found. IfSome found (λ t. IsTerm hex.now (view t))) }
+    ensures { IfOk result (IsFoundAs view (IsTerm hex.now)) }
 {
     let Some(bytes) = bytes(alloc, hex)? else {
         return Ok(None);
@@ -39,19 +40,29 @@ fn term(alloc: Global, hex: &str) -> Result<Option<Term>, AllocError>
     whole_term(alloc, &bytes)
 }
 
+/// The members, where the term is a list.
+fn list_members(term: Term) -> Option<Vec<Term>>
+    ensures { IsFoundAs (λ ts. map view ts.items) (λ ts. view term ≡ list (members_of ts)) result }
+{
+    match term {
+        Term::List(members) => Some(members),
+        _ => None,
+    }
+}
+
 /// The members of the list of these digits.
 fn members(alloc: Global, hex: &str) -> Result<Option<Vec<Term>>, AllocError>
-    ensures { IfOk result (λ found. IfSome found (λ ts. IsArguments hex.now (map view ts.items))) }
+    ensures { IfOk result (IsFoundAs (λ ts. map view ts.items) (IsArguments hex.now)) }
 {
     match term(alloc, hex)? {
-        Some(Term::List(members)) => Ok(Some(members)),
-        _ => Ok(None),
+        Some(term) => Ok(list_members(term)),
+        None => Ok(None),
     }
 }
 
 /// An atom that a listing writes without quotes.
 fn atom(alloc: Global, word: &str) -> Result<Option<Atom>, AllocError>
-    ensures { IfOk result (λ found. IfSome found (IsAtom word.now)) }
+    ensures { IfOk result (IsFound (IsAtom word.now)) }
 {
     if !is_plain(word.as_bytes()) {
         return Ok(None);
@@ -65,14 +76,14 @@ fn atom(alloc: Global, word: &str) -> Result<Option<Atom>, AllocError>
 
 /// How many arguments a function has.
 fn arity(word: &str) -> Option<u8>
-    ensures { IfSome result (IsArity word.now) }
+    ensures { IsFound (IsArity word.now) result }
 {
     u8::try_from(within(word, 0, u32::from(u8::MAX))?).ok()
 }
 
 /// A call of a function with these arguments.
 fn call(alloc: Global, words: &[&str]) -> Result<Option<Event>, AllocError>
-    ensures { IfOk result (λ found. IfSome found (λ e. IsEvent keywords.Call (texts words.now) (event_view e))) }
+    ensures { IfOk result (IsFoundAs event_view (IsEvent keywords.Call (texts words.now))) }
 {
     let Some((mod_name, fun_name, args)) = three(words) else {
         return Ok(None);
@@ -95,7 +106,7 @@ fn call(alloc: Global, words: &[&str]) -> Result<Option<Event>, AllocError>
 
 /// The words behind the name of a returning function's module.
 fn returned(alloc: Global, words: &[&str]) -> Result<Option<(Atom, u8, Term)>, AllocError>
-    ensures { IfOk result (λ found. IfSome found (λ x. Three IsAtom IsArity IsTerm (texts words.now) x.0 x.1 (view x.2))) }
+    ensures { IfOk result (IsFoundAs {X = List ℕ × ℕ × Data} (λ x. (x.0, x.1, view x.2)) (λ x. Three IsAtom IsArity IsTerm (texts words.now) x.0 x.1 x.2)) }
 {
     let Some((fun_name, count, value)) = three(words) else {
         return Ok(None);
@@ -114,7 +125,7 @@ fn returned(alloc: Global, words: &[&str]) -> Result<Option<(Atom, u8, Term)>, A
 
 /// A return of a value from a function of so many arguments.
 fn return_from(alloc: Global, words: &[&str]) -> Result<Option<Event>, AllocError>
-    ensures { IfOk result (λ found. IfSome found (λ e. IsEvent keywords.Return (texts words.now) (event_view e))) }
+    ensures { IfOk result (IsFoundAs event_view (IsEvent keywords.Return (texts words.now))) }
 {
     let Some((mod_name, others)) = first(words) else {
         return Ok(None);
@@ -135,7 +146,7 @@ fn return_from(alloc: Global, words: &[&str]) -> Result<Option<Event>, AllocErro
 
 /// How many arguments a function has, and the class and the value of its exception.
 fn thrown(alloc: Global, words: &[&str]) -> Result<Option<(u8, Atom, Term)>, AllocError>
-    ensures { IfOk result (λ found. IfSome found (λ x. Three IsArity IsAtom IsTerm (texts words.now) x.0 x.1 (view x.2))) }
+    ensures { IfOk result (IsFoundAs {X = ℕ × List ℕ × Data} (λ x. (x.0, x.1, view x.2)) (λ x. Three IsArity IsAtom IsTerm (texts words.now) x.0 x.1 x.2)) }
 {
     let Some((count, kind, value)) = three(words) else {
         return Ok(None);
@@ -154,7 +165,7 @@ fn thrown(alloc: Global, words: &[&str]) -> Result<Option<(u8, Atom, Term)>, All
 
 /// An exception out of a function of so many arguments: its class, and the value of that.
 fn exception_from(alloc: Global, words: &[&str]) -> Result<Option<Event>, AllocError>
-    ensures { IfOk result (λ found. IfSome found (λ e. IsEvent keywords.Exception (texts words.now) (event_view e))) }
+    ensures { IfOk result (IsFoundAs event_view (IsEvent keywords.Exception (texts words.now))) }
 {
     let Some((mod_name, behind)) = first(words) else {
         return Ok(None);
@@ -182,7 +193,7 @@ fn exception_from(alloc: Global, words: &[&str]) -> Result<Option<Event>, AllocE
 
 /// The terms of two words.
 fn terms(alloc: Global, words: &[&str]) -> Result<Option<(Term, Term)>, AllocError>
-    ensures { IfOk result (λ found. IfSome found (λ x. Two IsTerm IsTerm (texts words.now) (view x.0) (view x.1))) }
+    ensures { IfOk result (IsFoundAs {X = Data × Data} (λ x. (view x.0, view x.1)) (λ x. Two IsTerm IsTerm (texts words.now) x.0 x.1)) }
 {
     let Some((message, target)) = two(words) else {
         return Ok(None);
@@ -197,7 +208,7 @@ fn terms(alloc: Global, words: &[&str]) -> Result<Option<(Term, Term)>, AllocErr
 }
 
 fn send(alloc: Global, words: &[&str]) -> Result<Option<Event>, AllocError>
-    ensures { IfOk result (λ found. IfSome found (λ e. IsEvent keywords.Send (texts words.now) (event_view e))) }
+    ensures { IfOk result (IsFoundAs event_view (IsEvent keywords.Send (texts words.now))) }
 {
     let Some((message, target)) = terms(alloc, words)? else {
         return Ok(None);
@@ -207,7 +218,7 @@ fn send(alloc: Global, words: &[&str]) -> Result<Option<Event>, AllocError>
 
 /// A send to a process that isn't there.
 fn send_lost(alloc: Global, words: &[&str]) -> Result<Option<Event>, AllocError>
-    ensures { IfOk result (λ found. IfSome found (λ e. IsEvent keywords.SendLost (texts words.now) (event_view e))) }
+    ensures { IfOk result (IsFoundAs event_view (IsEvent keywords.SendLost (texts words.now))) }
 {
     let Some((message, target)) = terms(alloc, words)? else {
         return Ok(None);
@@ -216,7 +227,7 @@ fn send_lost(alloc: Global, words: &[&str]) -> Result<Option<Event>, AllocError>
 }
 
 fn receive(alloc: Global, words: &[&str]) -> Result<Option<Event>, AllocError>
-    ensures { IfOk result (λ found. IfSome found (λ e. IsEvent keywords.Receive (texts words.now) (event_view e))) }
+    ensures { IfOk result (IsFoundAs event_view (IsEvent keywords.Receive (texts words.now))) }
 {
     let Some(message) = one(words) else {
         return Ok(None);
@@ -229,7 +240,7 @@ fn receive(alloc: Global, words: &[&str]) -> Result<Option<Event>, AllocError>
 
 /// The event that begins with this keyword.
 fn event_of(alloc: Global, keyword: Keyword, words: &[&str]) -> Result<Option<Event>, AllocError>
-    ensures { IfOk result (λ found. IfSome found (λ e. IsEvent keyword (texts words.now) (event_view e))) }
+    ensures { IfOk result (IsFoundAs event_view (IsEvent keyword (texts words.now))) }
 {
     match keyword {
         Keyword::Call => call(alloc, words),
@@ -244,7 +255,7 @@ fn event_of(alloc: Global, keyword: Keyword, words: &[&str]) -> Result<Option<Ev
 
 /// The event that these words spell.
 pub fn event(alloc: Global, words: &[&str]) -> Result<Option<Event>, AllocError>
-    ensures { IfOk result (λ found. IfSome found (λ e. Behind IsEvent (texts words.now) (event_view e))) }
+    ensures { IfOk result (IsFoundAs event_view (Behind IsEvent (texts words.now))) }
 {
     let Some((keyword, others)) = keyword_behind(words) else {
         return Ok(None);

@@ -6,11 +6,13 @@ mod desk_line;
 mod event;
 mod fault;
 mod keyword;
+mod laws;
 mod line;
 mod script;
 mod spelling;
 
 pub use desk_line::{DeskLine, TraceeLine};
 pub use fault::ScriptFault;
+pub use laws::one_line;
 pub use line::{Line, Unsynced, parse};
 pub use script::Script;

@@ -2,8 +2,8 @@
 ghost use Rattle.std.specs.Prelude.{◌≡◌, [], ◌≤◌, IfOk, IfSome};
 ghost use Rattle.trace_script.specs.Keywords.{Behind};
 ghost use Rattle.trace_script.specs.Lines.{IsWithinLimits, pick_of};
-ghost use Rattle.trace_script.specs.Spellings.{Sole, Two, texts};
-ghost use Rattle.trace_script.specs.Table.{IsByte, IsLong, IsShort, Creates, Resumes, Crashes, Row, Spells};
+ghost use Rattle.trace_script.specs.Spellings.{IsFound, Sole, Two, texts};
+ghost use Rattle.trace_script.specs.Table.{IsAlone, IsByte, IsLong, IsShort, Creates, Resumes, Crashes, PlainRow, HeldRow, IsOfDesk, Row, Spells};
 ghost use Rattle.trace_script.specs.declared.keyword.Keyword.TheVariants as keywords;
 
 use crate::arguments::{one, sole_number, sole_within, two};
@@ -88,7 +88,7 @@ impl Line {
 
 /// The line, where no word follows.
 fn alone(words: &[&str], line: Line) -> Option<Line>
-    ensures { IfSome result (λ found. (texts words.now ≡ []) × (found ≡ line)) }
+    ensures { IsFound (IsAlone (texts words.now) line) result }
 {
     if words.is_empty() {
         return Some(line);
@@ -98,7 +98,7 @@ fn alone(words: &[&str], line: Line) -> Option<Line>
 
 /// The size or time of a wrap, and how many runs it keeps, of any that their types have.
 fn wrap_numbers(words: &[&str]) -> Option<(u32, u16)>
-    ensures { IfSome result (λ found. Two IsLong IsShort (texts words.now) found.0 found.1) }
+    ensures { IsFound (λ found. Two IsLong IsShort (texts words.now) found.0 found.1) result }
 {
     let (most, count) = two(words)?;
     let most = within(most, 0, u32::MAX)?;
@@ -108,7 +108,7 @@ fn wrap_numbers(words: &[&str]) -> Option<(u32, u16)>
 
 /// What is created.
 fn created(kind: Keyword, words: &[&str]) -> Option<Line>
-    ensures { IfSome result (Creates kind (texts words.now)) }
+    ensures { IsFound (Creates kind (texts words.now)) result }
 {
     match kind {
         Keyword::File => Some(Line::CreateFile(sole_number(words)?)),
@@ -125,7 +125,7 @@ fn created(kind: Keyword, words: &[&str]) -> Option<Line>
 }
 
 fn create(words: &[&str]) -> Option<Line>
-    ensures { IfSome result (Behind Creates (texts words.now)) }
+    ensures { IsFound (Behind Creates (texts words.now)) result }
 {
     let (kind, others) = keyword_behind(words)?;
     created(kind, others)
@@ -133,7 +133,7 @@ fn create(words: &[&str]) -> Option<Line>
 
 /// What is resumed.
 fn resumed(kind: Keyword, words: &[&str]) -> Option<Line>
-    ensures { IfSome result (Resumes kind (texts words.now)) }
+    ensures { IsFound (Resumes kind (texts words.now)) result }
 {
     match kind {
         Keyword::File => Some(Line::ResumeFile(sole_number(words)?)),
@@ -143,7 +143,7 @@ fn resumed(kind: Keyword, words: &[&str]) -> Option<Line>
 }
 
 fn resume(words: &[&str]) -> Option<Line>
-    ensures { IfSome result (Behind Resumes (texts words.now)) }
+    ensures { IsFound (Behind Resumes (texts words.now)) result }
 {
     let (kind, others) = keyword_behind(words)?;
     resumed(kind, others)
@@ -151,14 +151,14 @@ fn resume(words: &[&str]) -> Option<Line>
 
 /// The byte that is the only word.
 fn sole_byte(words: &[&str]) -> Option<u8>
-    ensures { IfSome result (Sole IsByte (texts words.now)) }
+    ensures { IsFound (Sole IsByte (texts words.now)) result }
 {
     byte(one(words)?.as_bytes())
 }
 
 /// What a crash leaves.
 fn left(kind: Keyword, words: &[&str]) -> Option<Line>
-    ensures { IfSome result (Crashes kind (texts words.now)) }
+    ensures { IsFound (Crashes kind (texts words.now)) result }
 {
     match kind {
         Keyword::Kept => alone(words, Line::Crash(Unsynced::Kept)),
@@ -181,7 +181,7 @@ fn left(kind: Keyword, words: &[&str]) -> Option<Line>
 }
 
 fn crash(words: &[&str]) -> Option<Line>
-    ensures { IfSome result (Behind Crashes (texts words.now)) }
+    ensures { IsFound (Behind Crashes (texts words.now)) result }
 {
     let (kind, others) = keyword_behind(words)?;
     left(kind, others)
@@ -189,7 +189,7 @@ fn crash(words: &[&str]) -> Option<Line>
 
 /// Bytes for a file, if a store may have a file of this number.
 fn file_bytes(alloc: Global, words: &[&str]) -> Result<Option<Line>, AllocError>
-    ensures { IfOk result (λ found. IfSome found (Row keywords.Bytes (texts words.now))) }
+    ensures { IfOk result (IsFound (HeldRow keywords.Bytes (texts words.now))) }
 {
     let Some((file, hex)) = two(words) else {
         return Ok(None);
@@ -205,7 +205,7 @@ fn file_bytes(alloc: Global, words: &[&str]) -> Result<Option<Line>, AllocError>
 
 /// A message, if an entry may hold it.
 fn message(alloc: Global, words: &[&str]) -> Result<Option<Line>, AllocError>
-    ensures { IfOk result (λ found. IfSome found (Row keywords.Put (texts words.now))) }
+    ensures { IfOk result (IsFound (HeldRow keywords.Put (texts words.now))) }
 {
     let Some(hex) = one(words) else {
         return Ok(None);
@@ -222,7 +222,7 @@ fn message(alloc: Global, words: &[&str]) -> Result<Option<Line>, AllocError>
 
 /// The line that begins with this keyword, where it holds no bytes and isn't for a desk.
 fn plain_line(keyword: Keyword, words: &[&str]) -> Option<Line>
-    ensures { IfSome result (Row keyword (texts words.now)) }
+    ensures { IsFound (PlainRow keyword (texts words.now)) result }
 {
     match keyword {
         Keyword::Store => Some(Line::Store(sole_within(words, 1, MOST_FILES)?)),
@@ -245,9 +245,20 @@ fn plain_line(keyword: Keyword, words: &[&str]) -> Option<Line>
     }
 }
 
+/// The line that begins with this keyword, where it holds bytes.
+fn held_line(alloc: Global, keyword: Keyword, words: &[&str]) -> Result<Option<Line>, AllocError>
+    ensures { IfOk result (IsFound (HeldRow keyword (texts words.now))) }
+{
+    match keyword {
+        Keyword::Bytes => file_bytes(alloc, words),
+        Keyword::Put => message(alloc, words),
+        _ => Ok(None),
+    }
+}
+
 /// The line for a desk that begins with this keyword.
 fn at_desk(alloc: Global, keyword: Keyword, words: &[&str]) -> Result<Option<Line>, AllocError>
-    ensures { IfOk result (λ found. IfSome found (Row keyword (texts words.now))) }
+    ensures { IfOk result (IsFound (IsOfDesk keyword (texts words.now))) }
 {
     match desk_line(alloc, keyword, words)? {
         Some(line) => Ok(Some(Line::AtDesk(line))),
@@ -257,22 +268,21 @@ fn at_desk(alloc: Global, keyword: Keyword, words: &[&str]) -> Result<Option<Lin
 
 /// The line that begins with this keyword.
 fn row(alloc: Global, keyword: Keyword, words: &[&str]) -> Result<Option<Line>, AllocError>
-    ensures { IfOk result (λ found. IfSome found (Row keyword (texts words.now))) }
+    ensures { IfOk result (IsFound (Row keyword (texts words.now))) }
 {
-    match keyword {
-        Keyword::Bytes => file_bytes(alloc, words),
-        Keyword::Put => message(alloc, words),
-        _ => match plain_line(keyword, words) {
-            Some(line) => Ok(Some(line)),
-            None => at_desk(alloc, keyword, words),
-        },
+    if let Some(line) = plain_line(keyword, words) {
+        return Ok(Some(line));
     }
+    if let Some(line) = held_line(alloc, keyword, words)? {
+        return Ok(Some(line));
+    }
+    at_desk(alloc, keyword, words)
 }
 
-/// The line that the text spells.
+/// The line that the text spells; None where it spells none.
 pub fn parse(alloc: Global, text: &str) -> Result<Option<Line>, AllocError>
     ensures limits { IfOk result (λ found. IfSome found IsWithinLimits) }
-    ensures spells { IfOk result (λ found. IfSome found (λ line. Spells line text.now)) }
+    ensures spells { IfOk result (IsFound (λ line. Spells line text.now)) }
 {
     let words = words(alloc, text)?;
     let Some((keyword, others)) = keyword_behind(words.as_slice()) else {

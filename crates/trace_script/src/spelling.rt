@@ -2,7 +2,7 @@
 ghost use Rattle.std.specs.Prelude.{◌≡◌, ◌<◌, ◌≤◌, ◌%◌, ◌/◌, ◌↔◌, ◌∷◌, [], IsTrue, IfOk, length, slice_index};
 ghost use Rattle.std.specs.Char.{is_ascii_digit};
 ghost use Rattle.std.specs.List.{list_all};
-ghost use Rattle.trace_script.specs.Spellings.{IsFound, IsNumber, IsNumberIn, IsDigit, IsHex, IsBytes, texts, words};
+ghost use Rattle.trace_script.specs.Spellings.{IsFound, IsFoundAs, IsNumber, IsNumberIn, IsDigit, IsHex, IsBytes, texts, words};
 
 use std::alloc::{AllocError, Global};
 
@@ -79,7 +79,7 @@ pub fn byte(word: &[u8]) -> Option<u8>
 /// The bytes that hexadecimal digits spell.
 fn pairs(alloc: Global, digits: &[u8]) -> Result<Option<Vec<u8>>, AllocError>
     requires { length digits.now % 2 ≡ 0 }
-    ensures { IfOk result (λ found. IsFound (λ bytes. IsHex digits.now bytes.items) found) }
+    ensures { IfOk result (IsFoundAs (λ found. found.items) (IsHex digits.now)) }
 {
     let mut found = Vec::with_capacity(alloc, digits.len() / 2)?;
     let mut rest = digits;
@@ -95,7 +95,7 @@ fn pairs(alloc: Global, digits: &[u8]) -> Result<Option<Vec<u8>>, AllocError>
 
 /// The bytes that hexadecimal digits spell, `-` for none.
 pub fn bytes(alloc: Global, word: &str) -> Result<Option<Vec<u8>>, AllocError>
-    ensures { IfOk result (λ found. IsFound (λ bytes. IsBytes word.now bytes.items) found) }
+    ensures { IfOk result (IsFoundAs (λ found. found.items) (IsBytes word.now)) }
 {
     if word == "-" {
         return Ok(Some(Vec::new(alloc)));

@@ -1,6 +1,7 @@
 use Rattle.std.proofs.Common.{refl}
+use Rattle.trace_message.specs.Events.{event_view}
 use Rattle.trace_script.specs.Spellings.{texts}
-use Rattle.trace_script.proofs.Keywords.{at_some}
+use Rattle.trace_script.proofs.Words.{found_as, first_not_others, none_found_as}
 use Rattle.trace_script.proofs.desk_line.emit.Goals as goal
 
 pub returns : goal.returns
@@ -12,7 +13,11 @@ returns c = (
     others = texts c.in-Some.others.now;
     are = c.in-Some.ensures;
     spells = c.in-Some-tracee_number.ensures;
-    spells_others = at_some _ _ _ c.in-Some-2.is c.in_ok-event.ensures;
+    spells_others = found_as _ _ _ _ c.in-Some-2.is c.in_ok-event.ensures;
   },
   refl,
 )
+
+pub returns-in_default-2 : goal.returns-in_default-2
+returns-in_default-2 c = λ x h.
+    first_not_others _ _ _ (texts c.in-Some.others.now) _ c.in-Some.ensures (λ e b. none_found_as _ _ _ c.in_default-2.is c.in_ok-event.ensures (event_view e) b) h.0 h.1 h.2

@@ -1,6 +1,7 @@
 use Rattle.std.proofs.Common.{refl, map}
 use Rattle.trace_terms.specs.View.{view}
-use Rattle.trace_script.proofs.Keywords.{at_some}
+use Rattle.trace_script.proofs.Keywords.{found_at}
+use Rattle.trace_script.proofs.Words.{found_as}
 use Rattle.trace_script.proofs.event.call.Goals as goal
 
 pub returns : goal.returns
@@ -13,9 +14,9 @@ returns c = (
     word2 = c.in-Some.fun_name.now;
     word3 = c.in-Some.args.now;
     are = c.in-Some.ensures;
-    spells1 = at_some _ _ _ c.in-Some-2.is c.in_ok-mod_name.ensures;
-    spells2 = at_some _ _ _ c.in-Some-3.is c.in_ok-fun_name.ensures;
-    spells3 = at_some _ _ _ c.in-Some-4.is c.in_ok-args.ensures;
+    spells1 = found_at _ _ _ c.in-Some-2.is c.in_ok-mod_name.ensures;
+    spells2 = found_at _ _ _ c.in-Some-3.is c.in_ok-fun_name.ensures;
+    spells3 = found_as _ _ _ _ c.in-Some-4.is c.in_ok-args.ensures;
   },
   refl,
 )

@@ -1,7 +1,8 @@
 use Rattle.std.proofs.Common.{refl}
 use Rattle.trace_terms.specs.View.{view}
 use Rattle.trace_script.specs.Spellings.{texts}
-use Rattle.trace_script.proofs.Keywords.{at_some}
+use Rattle.trace_script.proofs.Keywords.{found_at}
+use Rattle.trace_script.proofs.Words.{found_as, first_not_others, none_found_as}
 use Rattle.trace_script.proofs.event.return_from.Goals as goal
 
 pub returns : goal.returns
@@ -14,8 +15,12 @@ returns c = (
     word = c.in-Some.mod_name.now;
     others = texts c.in-Some.others.now;
     are = c.in-Some.ensures;
-    spells = at_some _ _ _ c.in-Some-2.is c.in_ok-mod_name.ensures;
-    spells_others = at_some _ _ _ c.in-Some-3.is c.in_ok-fun_name.ensures;
+    spells = found_at _ _ _ c.in-Some-2.is c.in_ok-mod_name.ensures;
+    spells_others = found_as _ _ _ _ c.in-Some-3.is c.in_ok-fun_name.ensures;
   },
   refl,
 )
+
+pub returns-in_default-3 : goal.returns-in_default-3
+returns-in_default-3 c = λ x h.
+    first_not_others _ _ _ (texts c.in-Some.others.now) _ c.in-Some.ensures (λ y q. none_found_as _ _ _ c.in_default-3.is c.in_ok-fun_name.ensures (h.1, h.2, h.3) q) h.0 0 h.4

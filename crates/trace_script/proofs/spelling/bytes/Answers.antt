@@ -1,7 +1,7 @@
 use Rattle.std.proofs.Common.{◌≢◌, codes, Vec, Global, ℕ, List, subst, length, ◌%◌}
 use Rattle.std.proofs.lemmas.Result.{IfOk-weaker}
 use Rattle.std.specs.Result.{IfOk}
-use Rattle.trace_script.specs.Spellings.{IsFound, IsHex}
+use Rattle.trace_script.specs.Spellings.{IsFoundAs, IsHex}
 use Rattle.trace_script.proofs.Numbers.{odd, blank, bytes_found, not_dash, no_length, some_length}
 use Rattle.trace_script.proofs.spelling.bytes.Goals as goal
 use Rattle.trace_script.proofs.spelling.bytes.Goals.{then-is_empty-via-then-is_empty, then-is_empty-via-else-is_empty+then-digits-ne0}
@@ -11,8 +11,8 @@ returns-then-is_empty c v h =
     let other : c.args.word.now ≢ codes "-" = not_dash c.args.word.now _ c.eq.ensures c.if-eq.false in
     let same = c.as_bytes-digits.ensures.value in
     elim c.then-is_empty.branch [
-      | then-is_empty-via-then-is_empty w ↦ blank c.args.word.now v.items other (no_length _ _ same w.if-is_empty.ensures) h
-      | then-is_empty-via-else-is_empty+then-digits-ne0 w ↦ odd c.args.word.now v.items other (subst (λ (ds : List ℕ). length ds % 2 ≢ 0) same w.if-digits-ne0.true) h
+      | then-is_empty-via-then-is_empty w ↦ blank c.args.word.now v other (no_length _ _ same w.if-is_empty.ensures) h
+      | then-is_empty-via-else-is_empty+then-digits-ne0 w ↦ odd c.args.word.now v other (subst (λ (ds : List ℕ). length ds % 2 ≢ 0) same w.if-digits-ne0.true) h
     ]
 
 pub returns : goal.returns
@@ -20,4 +20,4 @@ returns c =
     let other : c.args.word.now ≢ codes "-" = not_dash c.args.word.now _ c.eq.ensures c.if-eq.false in
     let same = c.as_bytes-digits.ensures.value in
     IfOk-weaker c.pairs.result _ _ (λ o. bytes_found (λ (v : Vec ℕ Global). v.items) c.args.word.now o other (some_length _ _ same c.if-is_empty.ensures))
-    (subst (λ (ds : List ℕ). IfOk c.pairs.result (λ found. IsFound (λ (v : Vec ℕ Global). IsHex ds v.items) found)) same c.pairs.ensures)
+    (subst (λ (ds : List ℕ). IfOk c.pairs.result (IsFoundAs (λ (v : Vec ℕ Global). v.items) (IsHex ds))) same c.pairs.ensures)
