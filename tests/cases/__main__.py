@@ -20,10 +20,13 @@ import faults
 import foreign
 import images
 import importing
+import installing
 import keeping
 import listing
 import locking
 import machine
+import memory
+import pretty
 import recording
 import rows
 import scripts
@@ -32,7 +35,7 @@ import wording
 from cases import Skipped
 from program import Program
 
-GROUPS = (rows, scripts, listing, recording, importing, foreign, absent, keeping, telling, crashes, images, machine, faults, locking, wording)
+GROUPS = (rows, scripts, listing, pretty, recording, importing, foreign, absent, keeping, telling, crashes, images, machine, faults, locking, wording, installing, memory)
 
 
 def words():

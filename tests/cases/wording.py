@@ -18,10 +18,10 @@ OF_NEW_FILES = OF_FILES | {"--size", "--time"}
 COMMANDS = {
     "import": OF_NEW_FILES | {"--flush", "--keep-open", "--after-failure"},
     "record": OF_NEW_FILES | {"--after-failure"},
-    "list": OF_FILES,
+    "list": OF_FILES | {"--pretty"},
     "export": OF_FILES,
     "wipe": OF_FILES | {"--force"},
-    "stream": set(),
+    "stream": {"--pretty"},
     "sim": set(),
 }
 

@@ -75,7 +75,9 @@ fn run_over_a_file(
     if let Some(calls) = fails_after {
         store.fail_once(calls);
     }
-    let mut port = FilePort::create(alloc, &mut store, GREATEST).expect(rt, "a port");
+    let Ok(mut port) = FilePort::create(alloc, &mut store, GREATEST) else {
+        panic!(rt; "no port")
+    };
     let (replies, tracee) = run_one(alloc, &mut port, tracee(rt, alloc, capacity), steps);
     drop(port);
     drop(store);

@@ -66,8 +66,12 @@ fn blank(rt: &impl Abort, alloc: Global) -> MemStore {
 fn ports_of_either_kind_lie_in_one_slice(rt: HostRuntime) {
     let mut one_store = blank(&rt, rt.alloc());
     let mut other_store = blank(&rt, rt.alloc());
-    let mut one = FilePort::create(rt.alloc(), &mut one_store, GREATEST).expect(&rt, "a port");
-    let mut other = FilePort::create(rt.alloc(), &mut other_store, GREATEST).expect(&rt, "a port");
+    let Ok(mut one) = FilePort::create(rt.alloc(), &mut one_store, GREATEST) else {
+        panic!(&rt; "no port")
+    };
+    let Ok(mut other) = FilePort::create(rt.alloc(), &mut other_store, GREATEST) else {
+        panic!(&rt; "no port")
+    };
     put_behind_one(&rt, rt.alloc(), &mut one, &mut other);
     drop(one);
     drop(other);
@@ -99,7 +103,9 @@ fn lend_and_take_back<P: TracePort>(rt: &impl Abort, port: &mut P) {
 #[test]
 fn a_port_comes_back_to_its_lender(rt: HostRuntime) {
     let mut store = blank(&rt, rt.alloc());
-    let mut port = FilePort::create(rt.alloc(), &mut store, GREATEST).expect(&rt, "a port");
+    let Ok(mut port) = FilePort::create(rt.alloc(), &mut store, GREATEST) else {
+        panic!(&rt; "no port")
+    };
     lend_and_take_back(&rt, &mut port);
     drop(port);
     drop(store);

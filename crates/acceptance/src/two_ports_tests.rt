@@ -133,7 +133,9 @@ fn run_beside_a_wrap<F: TracePort>(
     steps: &[Step],
 ) -> Vec<Reply> {
     let spec = WrapSpec::new(100, 2).expect(rt, "a lawful specification");
-    let mut wrap = WrapPort::create(alloc, wrap_store, spec).expect(rt, "a wrap");
+    let Ok(mut wrap) = WrapPort::create(alloc, wrap_store, spec) else {
+        panic!(rt; "no wrap")
+    };
     let replies = run_each(rt, alloc, file, &mut wrap, steps);
     drop(wrap);
     replies
@@ -147,7 +149,9 @@ fn run_both(
     wrap_store: &mut MemStore,
     steps: &[Step],
 ) -> Vec<Reply> {
-    let mut file = FilePort::create(alloc, file_store, GREATEST).expect(rt, "a file");
+    let Ok(mut file) = FilePort::create(alloc, file_store, GREATEST) else {
+        panic!(rt; "no file")
+    };
     let replies = run_beside_a_wrap(rt, alloc, &mut file, wrap_store, steps);
     drop(file);
     replies

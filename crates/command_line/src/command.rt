@@ -157,13 +157,24 @@ fn record<'a>(alloc: Global) -> Result<Command<'a>, AllocError> {
     )
 }
 
+/// The option that shows any term of a node.
+fn pretty<'a>(alloc: Global) -> Arg<'a> {
+    flag(
+        alloc,
+        "pretty",
+        "Shows any term nearly as a node's shell does; without it text is a list of numbers, and a message with a float, map, reference or the like is opaque",
+    )
+    .short('p')
+}
+
 fn list<'a>(alloc: Global) -> Result<Command<'a>, AllocError> {
     of_files(
         alloc,
         "list",
         "Lists a stored trace on standard output",
-        "Example: dbgrec list trace",
-    )
+        "Example: dbgrec list -p trace",
+    )?
+    .arg(pretty(alloc))
 }
 
 fn export<'a>(alloc: Global) -> Result<Command<'a>, AllocError> {
@@ -185,12 +196,13 @@ fn wipe<'a>(alloc: Global) -> Result<Command<'a>, AllocError> {
     .arg(flag(alloc, "force", "Clears files that aren't of a trace too"))
 }
 
-fn stream<'a>(alloc: Global) -> Command<'a> {
+fn stream<'a>(alloc: Global) -> Result<Command<'a>, AllocError> {
     Command::new(alloc, "stream")
         .about(
             "Lists an entry stream from standard input on standard output, each line as it comes",
         )
-        .after_help("Example: nc HOST 4711 | dbgrec stream")
+        .after_help("Example: nc HOST 4711 | dbgrec stream -p")
+        .arg(pretty(alloc))
 }
 
 fn sim<'a>(alloc: Global) -> Command<'a> {
@@ -212,7 +224,7 @@ fn dbgrec<'a>(alloc: Global) -> Result<Command<'a>, AllocError> {
         .arg_required_else_help(true);
     with_readers(alloc, command.subcommand(import(alloc)?)?)?
         .subcommand(wipe(alloc)?)?
-        .subcommand(stream(alloc))?
+        .subcommand(stream(alloc)?)?
         .subcommand(record(alloc)?)?
         .subcommand(sim(alloc))
 }
@@ -275,7 +287,10 @@ fn trace_request_in<'a>(
             wanted: wanted_in(matches)?,
             rules: rules_in(matches),
         }),
-        "list" => Some(TraceRequest::List(asked_in(matches))),
+        "list" => Some(TraceRequest::List {
+            asked: asked_in(matches),
+            is_pretty: matches.get_flag("pretty"),
+        }),
         "export" => Some(TraceRequest::Export(asked_in(matches))),
         "wipe" => Some(TraceRequest::Wipe {
             asked: asked_in(matches),
@@ -292,7 +307,9 @@ fn request_in<'a>(matches: &ArgMatches<'a>) -> Result<Request<'a>, Misuse<'a>> {
     };
     Ok(match trace_request_in(name, matches)? {
         Some(asked) => Request::OfTrace(asked),
-        None if name == "stream" => Request::Stream,
+        None if name == "stream" => Request::Stream {
+            is_pretty: matches.get_flag("pretty"),
+        },
         None => Request::Sim,
     })
 }

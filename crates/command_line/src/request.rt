@@ -65,7 +65,10 @@ pub enum Request<'a> {
     /// Run a script over a store in memory.
     Sim,
     /// List an entry stream.
-    Stream,
+    Stream {
+        /// Every term as a person at a node's shell would see it.
+        is_pretty: bool,
+    },
     /// What is done with the files of a trace.
     OfTrace(TraceRequest<'a>),
 }
@@ -81,7 +84,11 @@ pub enum TraceRequest<'a> {
         rules: Rules,
     },
     /// List it.
-    List(Asked<'a>),
+    List {
+        asked: Asked<'a>,
+        /// Every term as a person at a node's shell would see it.
+        is_pretty: bool,
+    },
     /// Write it as an entry stream.
     Export(Asked<'a>),
     /// End it, and leave an empty store.

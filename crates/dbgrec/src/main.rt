@@ -22,7 +22,7 @@ fn beside_output(rt: &HostRuntime) -> Console {
 /// The clock and standard error, for what is done with a trace. Beside a listing nothing else is shown on a terminal.
 fn console_for(rt: &HostRuntime, request: &TraceRequest<'_>) -> Console {
     match request {
-        TraceRequest::List(_) => beside_output(rt),
+        TraceRequest::List { .. } => beside_output(rt),
         TraceRequest::Export(_) => beside_output(rt),
         _ => Console::new(*rt, false),
     }
@@ -48,7 +48,7 @@ fn serve_files(
 fn serve(rt: &HostRuntime, request: Request<'_>, output: &mut Outlet) -> Result<(), Complaint> {
     match request {
         Request::Sim => serve_sim(rt.alloc(), rt.stdin(), output),
-        Request::Stream => serve_stream(rt.alloc(), rt.stdin(), output),
+        Request::Stream { is_pretty } => { serve_stream(rt.alloc(), is_pretty, rt.stdin(), output) }
         Request::OfTrace(request) => serve_files(rt, request, output),
     }
 }

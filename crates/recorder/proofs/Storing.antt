@@ -7,6 +7,7 @@ use Rattle.recovery.specs.declared.window.Recovered.{Recovered}
 use Rattle.recovery.specs.declared.fault.RecoverFault.{RecoverFault}
 use Rattle.recovery.specs.declared.fault.RecoverFault.TheVariants.{Device}
 use Rattle.trace_client.specs.Lines.{IsListing}
+use Rattle.trace_client.specs.declared.style.Style.TheVariants.{Plain}
 use Rattle.recorder.specs.declared.answer.Answer.TheVariants.{Refused}
 use Rattle.recorder.specs.declared.refusal.Refusal.TheVariants.{Recover}
 use Rattle.recorder.specs.declared.fault.SimFault.{SimFault}
@@ -14,7 +15,7 @@ use Rattle.recorder.specs.Texts.{line_of, state_text}
 use Rattle.recorder.specs.Stored.{TellsStore, lists, refuses, AreStates, next}
 
 pub listed : (image : Image) (failed : Type 0) (found : Recovered) (Writes : List ℕ → Type 0) (result : Result Unit SimFault) → Recovers image found
-    → OnOk result ((text : List ℕ) × IsListing found.first found.lost (views found.entries.items) text × Writes text) → OnOk result ((text : List ℕ) × TellsStore image failed text × Writes text)
+    → OnOk result ((text : List ℕ) × IsListing Plain found.first found.lost (views found.entries.items) text × Writes text) → OnOk result ((text : List ℕ) × TellsStore image failed text × Writes text)
 listed image failed found Writes (Ok done) recovers wrote = (wrote.0, lists found recovers wrote.1, wrote.2)
 listed image failed found Writes (Err fault) recovers wrote = wrote
 

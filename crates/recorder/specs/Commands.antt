@@ -1,5 +1,5 @@
 -- What a command does with the files of a trace.
-use Rattle.std.specs.Prelude.{◌≡◌, ◌⊎◌, ℕ, Bool, true, false, Option, List, [], Result, Ok, Err}
+use Rattle.std.specs.Prelude.{◌≡◌, ◌⊎◌, ℕ, Bool, true, false, Option, None, List, [], Result, Ok, Err}
 use Rattle.std.specs.Io.KnownBytes.{Appends, Keeps}
 use Rattle.trace_store.specs.Disk.{Image}
 use Rattle.trace_store.specs.Moments.{LeavesOnly}
@@ -10,11 +10,15 @@ use Rattle.segment.specs.Specification.{Spec}
 use Rattle.recovery.specs.Stores.{readings, IsBlank}
 use Rattle.trace_port.specs.Device.{Device, device_of}
 use Rattle.trace_client.specs.Forms.{Form, as_lines, as_bytes}
+use Rattle.trace_client.specs.declared.fault.StreamFault.{StreamFault}
+use Rattle.trace_client.specs.declared.style.Style.{Style}
+use Rattle.trace_client.specs.declared.style.Style.TheVariants.{Plain, Pretty}
 use Rattle.trace_files.specs.Clearing.{AreCleared, IsClearing, HasNoForeign}
 use Rattle.trace_files.specs.Standing.{IsStanding}
 use Rattle.trace_files.specs.declared.standing.Standing.TheVariants as standings
 use Rattle.trace_reader.specs.Listings.{ListsStore, ExportsStore}
 use Rattle.trace_reader.specs.Reading.{IsWhyNotRead, IsWrittenOf}
+use Rattle.trace_reader.specs.Streamed.{StopsBy}
 use Rattle.trace_reader.specs.Wiping.{HasForeign, IsWhyNotWiped, IsNotToWipe}
 use Rattle.trace_reader.specs.declared.fault.ReadFault.{ReadFault}
 use Rattle.trace_reader.specs.declared.fault.WipeFault.{WipeFault}
@@ -24,7 +28,7 @@ use Rattle.command_line.specs.declared.request.Rules.{Rules}
 use Rattle.command_line.specs.declared.request.TraceRequest.{TraceRequest}
 use Rattle.command_line.specs.declared.request.TraceRequest.TheVariants as requests
 use Rattle.recorder.specs.Complaints.{status_told}
-use Rattle.recorder.specs.Faults.{status_of, read_fault, wipe_fault}
+use Rattle.recorder.specs.Faults.{status_of, run_fault, read_fault, wipe_fault}
 use Rattle.recorder.specs.Files.{OnlyLooks, WasRecorded, WasFed}
 use Rattle.recorder.specs.Incoming.{Outside}
 use Rattle.recorder.specs.Openings.{wanted, told_of, Suits, Opens, IsOpenedSo, IsWhyNotOpened}
@@ -32,7 +36,9 @@ use Rattle.recorder.specs.Places.{turn_of}
 use Rattle.recorder.specs.Texts.{line_of}
 use Rattle.recorder.specs.declared.answer.Answer.TheVariants.{Done}
 use Rattle.recorder.specs.declared.complaint.Complaint.{Complaint}
+use Rattle.recorder.specs.declared.complaint.Complaint.TheVariants as complaints
 use Rattle.recorder.specs.declared.fault.SimFault.{SimFault}
+use Rattle.recorder.specs.declared.fault.SimFault.TheVariants as faults
 use Rattle.recorder.specs.declared.files.Files.{Files}
 use Rattle.recorder.specs.declared.opening.Opened.{Opened}
 use Rattle.recorder.specs.declared.reply.Origin.{Origin}
@@ -107,15 +113,25 @@ abbrev pub clearing_of : Bool → Clearing
 clearing_of false = Own
 clearing_of true = Any
 
+-- how messages are told
+abbrev pub style_of : Bool → Style
+style_of false = Plain
+style_of true = Pretty
+
+-- why the listing of a stream came to no end, and what is written then: by a fault, which is told, and the lines before it; or there was no room to read it, and nothing is written
+pub data EndsStream (style : Style) (had old new : Option (List ℕ)) (complaint : Complaint) : Type 0 where
+  stopped : (fault : StreamFault) (left : Option (List ℕ)) → StopsBy style had left old new fault → complaint ≡ complaints.Fault (run_fault fault) None → EndsStream style had old new complaint
+  no_room : Keeps old new → complaint ≡ complaints.Fault faults.NoMemory None → EndsStream style had old new complaint
+
 -- what is asked changes the trace
 abbrev pub Changes : TraceRequest → Type 0
-Changes (requests.List asked) = ⊥
+Changes (requests.List asked is_pretty) = ⊥
 Changes (requests.Export asked) = ⊥
 Changes _ = Unit {0}
 
 -- what is done with a trace for what the command line asks, by what is seen of the stream that comes in and of the clock, and the bytes that are written
 abbrev pub Serves : TraceRequest → Files → Files → Outside → Option (List ℕ) → Option (List ℕ) → Result Unit Complaint → Type 0
-Serves (requests.List asked) old new saw was now result = (honest_of new.store → IsRead ListsStore as_lines (reads_of old.store) was now result) × OnlyLooks old.store new.store
+Serves (requests.List asked is_pretty) old new saw was now result = (honest_of new.store → IsRead (ListsStore (style_of is_pretty)) (as_lines (style_of is_pretty)) (reads_of old.store) was now result) × OnlyLooks old.store new.store
 Serves (requests.Export asked) old new saw was now result = (honest_of new.store → IsRead ExportsStore as_bytes (reads_of old.store) was now result) × OnlyLooks old.store new.store
 Serves (requests.Wipe asked is_forced) old new saw was now result = (honest_of new.store → Clears (clearing_of is_forced) old.store new.store was now result)
     × (honest_of new.store → IsNotToWipe (clearing_of is_forced) (reads_of old.store) → OnlyLooks old.store new.store) × (honest_of new.store → LeavesOnly clock_of moments_of old.store new.store (IsClearing (images_of old.store)))

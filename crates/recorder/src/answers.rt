@@ -7,7 +7,7 @@ use crate::fault::SimFault;
 use recovery::Recovered;
 use std::alloc::Global;
 use std::io::Write;
-use trace_client::list;
+use trace_client::{Style, list};
 
 /// The last word of a file's line, with its line feed: two hexadecimal digits, or `--` where there is no byte.
 fn last_word(gate: Option<u8>) -> [u8; 3]
@@ -80,13 +80,13 @@ impl<'w, W: Write> Answers<'w, W> {
         Ok(())
     }
 
-    /// The listing of what a store holds.
+    /// The plain listing of what a store holds.
     pub fn listing(&mut self, alloc: Global, found: &Recovered) -> Result<(), SimFault>
         ensures name { self.new.writer.ghost_name ≡ self.old.writer.ghost_name }
-        ensures text { OnOk result ((text : List ℕ) × IsListing found.now.first found.now.lost (views found.now.entries.items) text
+        ensures text { OnOk result ((text : List ℕ) × IsListing Style.Plain found.now.first found.now.lost (views found.now.entries.items) text
             × Appends (W.contents self.old.writer.now) (W.contents self.new.writer.now) text) }
     {
-        Ok(list(alloc, found, &mut *self.writer)?)
+        Ok(list(alloc, Style::Plain, found, &mut *self.writer)?)
     }
 
     /// A file with its length and, unless it is empty, its first byte.

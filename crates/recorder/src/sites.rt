@@ -23,7 +23,11 @@ pub fn files_for<'a>(rt: &HostRuntime, request: &TraceRequest<'a>) -> Result<Fil
         TraceRequest::Record(wanted) | TraceRequest::Import { wanted, rules: _ } => {
             files_to_write(rt, wanted)
         }
-        TraceRequest::List(asked) | TraceRequest::Export(asked) => files_to_read(rt, *asked),
+        TraceRequest::List {
+            asked,
+            is_pretty: _,
+        }
+        | TraceRequest::Export(asked) => files_to_read(rt, *asked),
         TraceRequest::Wipe {
             asked,
             is_forced: _,

@@ -1,7 +1,7 @@
 -- Flags and their letters.
-use Rattle.std.proofs.Common.{arith, sym, ◌∙◌, ap, subst, ◌≡◌, ◌≢◌, ℕ, ◌<◌, ◌≤◌, ◌+◌, Bool, true, false, cond, List, [], ◌∷◌, length, codes, refl, inl, inr, ◌⊎◌, IsTrue, ◌↔◌, Option, None, Some}
+use Rattle.std.proofs.Common.{arith, Option, None, Some, sym, ◌∙◌, ap, subst, ◌≡◌, ◌≢◌, ℕ, ◌<◌, ◌≤◌, ◌+◌, Bool, true, false, cond, List, [], ◌∷◌, length, codes, refl, inl, inr, ◌⊎◌, IsTrue, ◌↔◌}
 use Rattle.std.specs.Prelude.{nat_eq}
-use Rattle.std.specs.List.{list_any}
+use Rattle.std.specs.List.{list_any, count_by}
 use Rattle.std.proofs.lemmas.List.Sums.{sum_by-cons}
 use Rattle.std.proofs.lemmas.Bool.Decides.{nat_tests}
 use Rattle.trace_message.specs.declared.event.Flags.{Flags}
@@ -128,6 +128,7 @@ no_word w f none h = elim (as_parts w f h) [ inl p ↦ absurd (omega (arith, non
 pub by_letters : (w : List ℕ) (f : Flags) → w ≢ codes "-" → IsFlags w f → HasLetters w f
 by_letters w f other h = elim (as_parts w f h) [ inl p ↦ absurd (other p.0) | inr p ↦ p.1 ]
 
-pub some_flags : (word bytes : List ℕ) (o : Option Flags) → bytes ≡ word → 0 < length word → word ≢ codes "-" → IsFound (HasLetters bytes) o → IsFound (IsFlags word) o
-some_flags word bytes (Some f) e some other h = IsFlags.some word f some (subst (λ (w : List ℕ). HasLetters w f) e h)
-some_flags word bytes None e some other h = λ f k. h f (subst (λ (w : List ℕ). HasLetters w f) (sym e) (by_letters word f other k))
+-- of the letters what of the word
+pub flags_found : (w letters : List ℕ) (o : Option Flags) → letters ≡ w → w ≢ codes "-" → 0 < length w → IsFound (HasLetters letters) o → IsFound (IsFlags w) o
+flags_found w letters (Some f) e other some h = IsFlags.some w f some (subst (λ (v : List ℕ). HasLetters v f) e h)
+flags_found w letters None e other some h = λ f k. h f (subst (λ (v : List ℕ). HasLetters v f) (sym e) (by_letters w f other k))

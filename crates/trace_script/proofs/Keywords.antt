@@ -3,9 +3,7 @@ use Rattle.std.proofs.Common.{arith, sym, ◌∙◌, ap, subst, ◌≡◌, ℕ, 
 use Rattle.std.proofs.lemmas.List.{take_rest}
 use Rattle.std.specs.Str.{bytes_eq}
 use Rattle.std.proofs.lemmas.Slice.Eq.{bytes_eq-Decides}
-use Rattle.trace_script.specs.Spellings.{IsFound, IsFoundAs, texts, Sole}
-use Rattle.trace_script.specs.Table.{PlainRow, HeldRow, IsOfDesk, Row}
-use Rattle.trace_script.specs.declared.line.Line.{Line}
+use Rattle.trace_script.specs.Spellings.{IsFound, texts, Sole}
 use Rattle.trace_script.specs.declared.keyword.Keyword.{Keyword}
 use Rattle.trace_script.specs.declared.keyword.Keyword.TheVariants as keywords
 use Rattle.trace_script.specs.Keywords.{text_of, all_keywords, keyword_among, Behind}
@@ -98,7 +96,7 @@ keyword_found ws d k some e =
     first_of ws d some ∙ ap (λ (text : List ℕ). text ∷ texts (take (length ws - 1) (drop 1 ws))) h
 
 pub keyword_missing : (ws : List (Bor (List ℕ))) (d : Bor (List ℕ)) → 1 ≤ length ws → None ≡ keyword_among all_keywords (get_or ws 0 d).now
-    → (x : Keyword × Bor (List (Bor (List ℕ)))) → texts ws ≡ text_of x.0 ∷ texts x.1.now → ⊥
+    → (x : Keyword × List (List ℕ)) → texts ws ≡ text_of x.0 ∷ x.1 → ⊥
 keyword_missing ws d some e x same =
     let f = first_of ws d some in
     not_named (get_or ws 0 d).now (sym e) x.0 (cc (f, same))
@@ -113,27 +111,3 @@ at_some {X} P o x e h = let Q : Option X → Type 0 = λ p. IfSome p P in subst 
 
 pub found_at : {X : Type 0} (P : X → Type 0) (o : Option X) (x : X) → o ≡ Some x → IsFound P o → P x
 found_at {X} P o x e h = let Q : Option X → Type 0 = λ p. IsFound P p in subst Q e h
-
--- where no keyword stands in front, the words say nothing
-pub none_behind : {X : Type 0} (Says : Keyword → List (List ℕ) → X → Type 0) (ws : List (Bor (List ℕ))) → ((k : Keyword × Bor (List (Bor (List ℕ)))) → texts ws ≡ text_of k.0 ∷ texts k.1.now → ⊥) → (x : X) → Behind Says (texts ws) x → ⊥
-none_behind Says [] none x b = let bad : [] ≡ text_of b.keyword ∷ b.others = b.begins in cc
-none_behind Says (w ∷ ws) none x b =
-    let begins : w.now ∷ texts ws ≡ text_of b.keyword ∷ b.others = b.begins in
-    let same : texts ws ≡ b.others = cc in
-    let it : Bor (List (Bor (List ℕ))) = record { ref_ptr = w.ref_ptr; now = ws } in
-    none (b.keyword, it) (begins ∙ ap (λ (others : List (List ℕ)). text_of b.keyword ∷ others) (sym same))
-
-pub none_behind_of : {X : Type 0} (Says : Keyword → List (List ℕ) → X → Type 0) (ws : List (Bor (List ℕ))) (words : List (List ℕ)) → texts ws ≡ words
-    → ((k : Keyword × Bor (List (Bor (List ℕ)))) → texts ws ≡ text_of k.0 ∷ texts k.1.now → ⊥) → (x : X) → Behind Says words x → ⊥
-none_behind_of Says ws words e none x b = none_behind Says ws none x (subst (λ (l : List (List ℕ)). Behind Says l x) (sym e) b)
-
--- the same of what is found by what is seen of it
-pub behind_as : {V X : Type 0} (seen : V → X) (Says : Keyword → List (List ℕ) → X → Type 0) (words others : List (List ℕ)) (k : Keyword) (o : Option V) → words ≡ text_of k ∷ others → IsFoundAs seen (Says k others) o
-    → IsFoundAs seen (Behind Says words) o
-behind_as seen Says words others k (Some v) e h = record { keyword = k; others = others; begins = e; says = h }
-behind_as {V} {X} seen Says words others k None e h = behind {X = X} Says words others k None e h
-
--- a row is of one of three kinds
-pub row_found : (k : Keyword) (ws : List (List ℕ)) (o : Option Line) → ((x : Line) → PlainRow k ws x → ⊥) → ((x : Line) → HeldRow k ws x → ⊥) → IsFound (IsOfDesk k ws) o → IsFound (Row k ws) o
-row_found k ws (Some x) no_plain no_held h = inr (inr h)
-row_found k ws None no_plain no_held h = λ x r. elim r [ inl p ↦ no_plain x p | inr q ↦ elim q [ inl p ↦ no_held x p | inr d ↦ h x d ] ]

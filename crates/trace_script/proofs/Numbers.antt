@@ -1,5 +1,5 @@
 -- Numbers in decimal, and the bytes of hexadecimal digits.
-use Rattle.std.proofs.Common.{arith, sym, ◌∙◌, ap, subst, ◌≡◌, ◌≢◌, ℕ, zero, suc, ◌<◌, ◌≤◌, ◌^◌, ◌/◌, ◌%◌, Bool, true, false, Option, None, Some, Result, Ok, Err, List, [], ◌∷◌, ◌++◌, length, get_or, drop, take, codes, append_assoc, append-nil, lit<, refl, inl, inr, ◌-◌, ◌==◌, ℤ, pos, w64, SFits}
+use Rattle.std.proofs.Common.{arith, sym, ◌∙◌, ap, subst, ◌≡◌, ◌≢◌, ℕ, zero, suc, ◌<◌, ◌≤◌, ◌^◌, ◌/◌, ◌%◌, Bool, true, false, Option, None, Some, Result, Ok, Err, List, [], ◌∷◌, ◌++◌, length, get_or, drop, take, codes, append_assoc, append-nil, lit<, refl, inl, inr, ◌-◌, ◌==◌}
 use Rattle.std.specs.Char.{is_ascii_digit, digit_value}
 use Rattle.std.specs.List.{list_all}
 use Rattle.std.specs.Fmt.{decimal, digit_glyph}
@@ -243,8 +243,3 @@ only_bytes word (b ∷ bs) (c ∷ cs) h j = only_hex word (b ∷ bs) (c ∷ cs) 
 
 pub only_pair : (word : List ℕ) (b c : ℕ) → IsHex word (b ∷ []) → IsHex word (c ∷ []) → b ≡ c
 only_pair word b c h j = let e : b ∷ [] ≡ c ∷ [] = only_hex word (b ∷ []) (c ∷ []) h j in cc
-
--- what is no number of nanoseconds
-pub no_nanos : {E : Type 0} (r : Result ℤ E) (n m : ℕ) → OkIff r (SFits w64 (pos n)) (pos n) → (let none : Option ℤ = None in none ≡ result_ok r) → n ≡ m → m ≤ 9223372036854775807 → ⊥
-no_nanos (Ok z) n m tried value same most = cc
-no_nanos (Err e) n m tried value same most = tried (record { sfits = omega (arith, same, most) })

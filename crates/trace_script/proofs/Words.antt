@@ -1,6 +1,12 @@
 -- So many words, and what they spell.
-use Rattle.std.proofs.Common.{subst, ap, ◌≡◌, ◌≢◌, ℕ, Option, None, Some, List, [], ◌∷◌, length}
-use Rattle.trace_script.specs.Spellings.{IsFound, IsFoundAs, Sole, Two, Three, First}
+use Rattle.std.proofs.Common.{inl, inr, ◌⊎◌, Result, Ok, Err, sym, subst, ap, ◌≡◌, ◌≢◌, ℕ, Option, None, Some, List, [], ◌∷◌, length}
+use Rattle.std.specs.Result.{OkIff, result_ok}
+use Rattle.trace_script.specs.Keywords.{text_of, Behind}
+use Rattle.trace_script.specs.Table.{PlainRow, HeldRow, IsOfDesk, Row}
+use Rattle.trace_script.specs.declared.keyword.Keyword.{Keyword}
+use Rattle.trace_script.specs.declared.line.Line.{Line}
+use Rattle.trace_script.proofs.Keywords.{behind}
+use Rattle.trace_script.specs.Spellings.{IsFound, IsFoundAs, IsNumber, IsNumberIn, Sole, Two, Three, First}
 
 -- where the word spells nothing, the only word doesn't
 pub sole_not : {X : Type 0} (P : List ℕ → X → Type 0) (ws : List (List ℕ)) (a : List ℕ) → ws ≡ a ∷ [] → ((x : X) → P a x → ⊥) → (x : X) → Sole P ws x → ⊥
@@ -36,6 +42,10 @@ first_not P Q ws others a e none x y s = let p : s.word ≡ a = cc (s.are, e) in
 pub first_not_others : {X Y : Type 0} (P : List ℕ → X → Type 0) (Q : List (List ℕ) → Y → Type 0) (ws others : List (List ℕ)) (a : List ℕ) → ws ≡ a ∷ others → ((y : Y) → Q others y → ⊥) → (x : X) (y : Y) → First P Q ws x y → ⊥
 first_not_others P Q ws others a e none x y s = let p : s.others ≡ others = cc (s.are, e) in none y (subst (λ (o : List (List ℕ)). Q o y) p s.spells_others)
 
+-- a number within bounds is a number
+pub any_number : (least most : ℕ) (ws : List (List ℕ)) (n : ℕ) → Sole (IsNumberIn least most) ws n → Sole IsNumber ws n
+any_number least most ws n s = record { word = s.word; are = s.are; spells = s.spells.number }
+
 -- nothing was found
 pub none_found : {X : Type 0} (P : X → Type 0) (o : Option X) → o ≡ None → IsFound P o → (x : X) → P x → ⊥
 none_found {X} P o e h = let Q : Option X → Type 0 = λ p. IsFound P p in subst Q e h
@@ -69,3 +79,18 @@ one_three P Q R only1 only2 only3 ws x u y v z i s t =
 pub same_first : {X Y U V : Type 0} (P : List ℕ → X → Type 0) (Q : List (List ℕ) → Y → Type 0) (R : List ℕ → U → Type 0) (S : List (List ℕ) → V → Type 0) (ws : List (List ℕ)) (x : X) (y : Y) (u : U) (v : V)
     (s : First P Q ws x y) (t : First R S ws u v) → (t.word ≡ s.word) × (t.others ≡ s.others)
 same_first P Q R S ws x y u v s t = (cc (s.are, t.are), cc (s.are, t.are))
+
+-- what a conversion has no value for isn't within its bounds
+pub no_value : {A E : Type 0} (P : Type 0) (v : A) (r : Result A E) → result_ok r ≡ None → OkIff r P v → P → ⊥
+no_value P v (Ok x) e k p = cc
+no_value P v (Err fault) e k p = k p
+
+pub behind_as : {V X : Type 0} (seen : V → X) (Says : Keyword → List (List ℕ) → X → Type 0) (words others : List (List ℕ)) (k : Keyword) (o : Option V) → words ≡ text_of k ∷ others → IsFoundAs seen (Says k others) o
+    → IsFoundAs seen (Behind Says words) o
+behind_as seen Says words others k (Some v) e h = record { keyword = k; others = others; begins = e; says = h }
+behind_as {V} {X} seen Says words others k None e h = let nothing : Option X = None in let n : IsFound (Behind Says words) nothing = behind Says words others k nothing e h in n
+
+-- a line that has a row in one of the three tables
+pub row_found : (k : Keyword) (ws : List (List ℕ)) (o : Option Line) → ((x : Line) → PlainRow k ws x → ⊥) → ((x : Line) → HeldRow k ws x → ⊥) → IsFound (IsOfDesk k ws) o → IsFound (Row k ws) o
+row_found k ws (Some x) plain held h = inr (inr h)
+row_found k ws None plain held h = λ x r. elim r [ inl p ↦ plain x p | inr s ↦ elim s [ inl p ↦ held x p | inr p ↦ h x p ] ]

@@ -1,7 +1,7 @@
 // The events of a script.
-ghost use Rattle.std.specs.Prelude.{◌≡◌, ℕ, List, IfOk, map};
-ghost use Rattle.trace_terms.specs.Data.{Data, list};
-ghost use Rattle.trace_terms.specs.View.{view, members_of};
+ghost use Rattle.std.specs.Prelude.{ℕ, List, IfOk, map};
+ghost use Rattle.trace_terms.specs.Data.{Data};
+ghost use Rattle.trace_terms.specs.View.{view};
 ghost use Rattle.trace_message.specs.Events.{event_view};
 ghost use Rattle.ext_format.specs.Spelling.{Spells as SpellsTerm};
 ghost use Rattle.trace_script.specs.Keywords.{Behind};
@@ -40,23 +40,16 @@ fn term(alloc: Global, hex: &str) -> Result<Option<Term>, AllocError>
     whole_term(alloc, &bytes)
 }
 
-/// The members, where the term is a list.
-fn list_members(term: Term) -> Option<Vec<Term>>
-    ensures { IsFoundAs (λ ts. map view ts.items) (λ ts. view term ≡ list (members_of ts)) result }
-{
-    match term {
-        Term::List(members) => Some(members),
-        _ => None,
-    }
-}
-
 /// The members of the list of these digits.
 fn members(alloc: Global, hex: &str) -> Result<Option<Vec<Term>>, AllocError>
     ensures { IfOk result (IsFoundAs (λ ts. map view ts.items) (IsArguments hex.now)) }
 {
-    match term(alloc, hex)? {
-        Some(term) => Ok(list_members(term)),
-        None => Ok(None),
+    let Some(found) = term(alloc, hex)? else {
+        return Ok(None);
+    };
+    match found {
+        Term::List(members) => Ok(Some(members)),
+        _ => Ok(None),
     }
 }
 

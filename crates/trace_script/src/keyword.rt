@@ -1,7 +1,7 @@
 // The words of a script that mean the same in each line.
-ghost use Rattle.std.specs.Prelude.{◌≡◌, ◌∷◌};
+ghost use Rattle.std.specs.Prelude.{◌≡◌, ◌∷◌, ℕ, List};
 ghost use Rattle.trace_script.specs.Keywords.{text_of, all_keywords, keyword_among};
-ghost use Rattle.trace_script.specs.Spellings.{IsFound, texts};
+ghost use Rattle.trace_script.specs.Spellings.{IsFoundAs, texts};
 
 /// What a line or an event begins with, and what kind it is of.
 #[derive(Clone, Copy, Debug, PartialEq, Eq)]
@@ -96,7 +96,7 @@ impl Keyword {
 
 /// The keyword that the words begin with, and the words behind it.
 pub fn keyword_behind<'w, 't>(words: &'w [&'t str]) -> Option<(Keyword, &'w [&'t str])>
-    ensures { IsFound (λ x. texts words.now ≡ text_of x.0 ∷ texts x.1.now) result }
+    ensures { IsFoundAs {X = Keyword × List (List ℕ)} (λ x. (x.0, texts x.1.now)) (λ x. texts words.now ≡ text_of x.0 ∷ x.1) result }
 {
     let [first, rest @ ..] = words else {
         return None;

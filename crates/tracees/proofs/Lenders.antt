@@ -4,11 +4,10 @@ use Rattle.std.proofs.lemmas.List.{append-nil}
 use Rattle.entry_codec.specs.Entries.{Entry}
 use Rattle.entry_codec.specs.Seen.{views}
 use Rattle.trace_store.specs.Disk.{Image}
-use Rattle.trace_store.specs.Moments.{Rose}
 use Rattle.segment.specs.Specification.{Spec}
 use Rattle.recovery.specs.Items.{Item}
 use Rattle.recovery.specs.Views.{View, extend}
-use Rattle.trace_port.specs.Device.{Device}
+use Rattle.trace_port.specs.Device.{Device, FailedOnce}
 use Rattle.trace_port.specs.Port.{Told, AreSealed, Fits, Grows, IsSaved, Ends, has_sealed}
 use Rattle.trace_port.specs.Calls.{IsCovered, HasFailed}
 use Rattle.trace_port.specs.declared.kinds.PortState.{PortState}
@@ -75,14 +74,14 @@ one_grows {P} told still number old new limit was is result one =
 
 -- a live port stayed live without a fault, or its device has failed
 abbrev WentOn : Told → Told → Type 0
-WentOn old new = ((new.state ≡ Live) × (new.device.failures ≡ old.device.failures)) ⊎ ((new.state ≢ Live) × Rose old.device.failures new.device.failures)
+WentOn old new = ((new.state ≡ Live) × (new.device.failures ≡ old.device.failures)) ⊎ ((new.state ≢ Live) × FailedOnce old.device.failures new.device.failures)
 
 broken_not_live : (s : PortState) → s ≡ Broken → s ≢ Live
 broken_not_live s broken live = (let bad : Broken ≡ Live = sym broken ∙ live in cc)
 
 went_both : (old mid new : Told) → mid.device.failures ≡ old.device.failures → WentOn mid new → WentOn old new
 went_both old mid new same (inl on) = inl (on.0, on.1 ∙ same)
-went_both old mid new same (inr failed) = inr (failed.0, subst (λ (n : ℕ). Rose n new.device.failures) same failed.1)
+went_both old mid new same (inr failed) = inr (failed.0, subst (λ (n : ℕ). FailedOnce n new.device.failures) same failed.1)
 
 takes_went_on : {P : Type 0} (told : P → Told) (p q : P) (offered moved : List Entry) (fault : Option PortFault) → (told p).state ≡ Live → Takes told p offered moved fault q → WentOn (told p) (told q)
 takes_went_on told p q offered moved fault live none_left = inl (live, refl)
@@ -127,8 +126,8 @@ one_saved {P} told still number old new last limit was is result live one ends h
     ⊎_elim
     (λ (went : (mid.state ≡ Live) × (mid.device.failures ≡ first.device.failures)). ⊎_elim
     (λ (covered : IsCovered mid end Sealed). (end.gate, inl (sealed_still first.spec end.spec v0 items end.gate end.device.images last.images grows.spec (λ image left. idle.images.no_more image left) (goes.fits.sealed covered.state))))
-    (λ (failed : HasFailed mid end). (0, inr (subst (λ (n : ℕ). Rose n last.failures) went.1 (subst (λ (n : ℕ). Rose mid.device.failures n) (sym idle.failures) failed.cause))))
+    (λ (failed : HasFailed mid end). (0, inr (subst (λ (n : ℕ). FailedOnce n last.failures) went.1 (subst (λ (n : ℕ). FailedOnce mid.device.failures n) (sym idle.failures) failed.cause))))
     (over.was_live went.0))
-    (λ (rose : (mid.state ≢ Live) × Rose first.device.failures mid.device.failures).
-    (0, inr (subst (λ (n : ℕ). Rose first.device.failures n) (sym (idle.failures ∙ (over.not_live rose.0).same.device.failures)) rose.1)))
+    (λ (rose : (mid.state ≢ Live) × FailedOnce first.device.failures mid.device.failures).
+    (0, inr (subst (λ (n : ℕ). FailedOnce first.device.failures n) (sym (idle.failures ∙ (over.not_live rose.0).same.device.failures)) rose.1)))
     on

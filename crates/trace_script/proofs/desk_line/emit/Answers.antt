@@ -1,7 +1,13 @@
 use Rattle.std.proofs.Common.{refl}
-use Rattle.trace_message.specs.Events.{event_view}
 use Rattle.trace_script.specs.Spellings.{texts}
-use Rattle.trace_script.proofs.Words.{found_as, first_not_others, none_found_as}
+use Rattle.trace_script.proofs.Keywords.{found_at}
+use Rattle.trace_script.proofs.Words.{found_as}
+use Rattle.std.proofs.Common.{ℕ, List}
+use Rattle.trace_message.specs.Events.{event_view}
+use Rattle.trace_message.specs.declared.event.Event.{Event}
+use Rattle.trace_script.specs.Keywords.{Behind}
+use Rattle.trace_script.specs.Table.{IsTracee, IsEvent}
+use Rattle.trace_script.proofs.Words.{none_found_as, first_not_others}
 use Rattle.trace_script.proofs.desk_line.emit.Goals as goal
 
 pub returns : goal.returns
@@ -19,5 +25,6 @@ returns c = (
 )
 
 pub returns-in_default-2 : goal.returns-in_default-2
-returns-in_default-2 c = λ x h.
-    first_not_others _ _ _ (texts c.in-Some.others.now) _ c.in-Some.ensures (λ e b. none_found_as _ _ _ c.in_default-2.is c.in_ok-event.ensures (event_view e) b) h.0 h.1 h.2
+returns-in_default-2 c x h =
+    first_not_others IsTracee (λ ws (e : Event). Behind IsEvent ws (event_view e)) (texts c.args.words.now) (texts c.in-Some.others.now) _ c.in-Some.ensures
+    (λ event s. none_found_as event_view (Behind IsEvent (texts c.in-Some.others.now)) _ c.in_default-2.is c.in_ok-event.ensures (event_view event) s) h.0 h.1 h.2

@@ -1,3 +1,4 @@
+use Rattle.std.proofs.Common.{rules}
 use Rattle.trace_script.specs.Spellings.{texts}
 use Rattle.trace_script.proofs.Others.{not_at_desk}
 use Rattle.trace_script.proofs.desk_line.plain_desk_line.Goals as goal
@@ -21,4 +22,4 @@ pub returns-in-Hand : goal.returns-in-Hand
 returns-in-Hand c = rw c.in-Hand.is c.hand.ensures
 
 pub returns-in_default : goal.returns-in_default
-returns-in_default c = λ x. not_at_desk c.args.keyword (texts c.args.words.now) x c.in_default.not-Stamp c.in_default.not-Mono c.in_default.not-Tracee c.in_default.not-Hand c.in_default.not-FlushFor c.in_default.not-Counts c.requires
+returns-in_default c x h = not_at_desk c.args.keyword (texts c.args.words.now) x c.in_default.not-Stamp c.in_default.not-Mono c.in_default.not-Tracee c.in_default.not-Hand c.in_default.not-FlushFor c.in_default.not-Counts c.requires h

@@ -2,7 +2,10 @@ use Rattle.std.proofs.Common.{refl}
 use Rattle.trace_terms.specs.View.{view}
 use Rattle.trace_script.specs.Spellings.{texts}
 use Rattle.trace_script.proofs.Keywords.{found_at}
-use Rattle.trace_script.proofs.Words.{found_as, first_not_others, none_found_as}
+use Rattle.std.proofs.Common.{ℕ}
+use Rattle.trace_script.specs.Spellings.{Three, First}
+use Rattle.trace_script.specs.Table.{IsAtom, IsArity, IsTerm}
+use Rattle.trace_script.proofs.Words.{found_as, none_found_as, first_not_others}
 use Rattle.trace_script.proofs.event.exception_from.Goals as goal
 
 pub returns : goal.returns
@@ -29,6 +32,8 @@ returns c = (
 )
 
 pub returns-in_default-4 : goal.returns-in_default-4
-returns-in_default-4 c = λ x h.
-    first_not_others _ _ _ (texts c.in-Some.behind.now) _ c.in-Some.ensures
-    (λ y q. first_not_others _ _ _ (texts c.in-Some-first.others.now) _ c.in-Some-first.ensures (λ z r. none_found_as _ _ _ c.in_default-4.is c.in_ok-arity.ensures (h.3, h.2, h.4) r) h.1 0 q) h.0 0 h.5
+returns-in_default-4 c x h =
+    first_not_others IsAtom (λ ws (_ : ℕ). First IsAtom (λ vs (_ : ℕ). Three IsArity IsAtom IsTerm vs h.3 h.2 h.4) ws h.1 0) (texts c.args.words.now) _ _ c.in-Some.ensures
+    (λ _ s. first_not_others IsAtom (λ vs (_ : ℕ). Three IsArity IsAtom IsTerm vs h.3 h.2 h.4) (texts c.in-Some.behind.now) _ _ c.in-Some-first.ensures
+    (λ _ t. none_found_as _ _ _ c.in_default-4.is c.in_ok-arity.ensures (h.3, h.2, h.4) t) h.1 0 s)
+    h.0 0 h.5

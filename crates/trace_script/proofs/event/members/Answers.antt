@@ -1,11 +1,12 @@
 use Rattle.trace_terms.specs.Data.{list}
 use Rattle.trace_terms.specs.View.{view, members_of}
-use Rattle.trace_script.proofs.Terms.{arguments_found}
+use Rattle.trace_script.specs.Table.{IsTerm}
+use Rattle.trace_script.proofs.Terms.{only_term, not_list}
 use Rattle.trace_script.proofs.Words.{found_as, none_found_as}
 use Rattle.trace_script.proofs.event.members.Goals as goal
 
-pub returns-in-Some : goal.returns-in-Some
-returns-in-Some c = arguments_found _ c.args.hex.now (view c.in-Some.term) c.list_members.result (found_as _ _ _ _ c.in-Some.is c.in_ok-term.ensures) c.list_members.ensures
+pub returns-in_default : goal.returns-in_default
+returns-in_default c x h = none_found_as view (IsTerm c.args.hex.now) _ c.in_default.is c.in_ok-found.ensures (list (members_of x)) h
 
-pub returns-in-None : goal.returns-in-None
-returns-in-None c = λ x k. none_found_as _ _ _ c.in-None.is c.in_ok-term.ensures (list (members_of x)) k
+pub returns : goal.returns
+returns c x h = not_list c.in-Some.found (members_of x) c.in_default-found.not-List (only_term c.args.hex.now (view c.in-Some.found) (list (members_of x)) (found_as view (IsTerm c.args.hex.now) _ _ c.in-Some.is c.in_ok-found.ensures) h)

@@ -2,7 +2,10 @@ use Rattle.std.proofs.Common.{refl}
 use Rattle.trace_terms.specs.View.{view}
 use Rattle.trace_script.specs.Spellings.{texts}
 use Rattle.trace_script.proofs.Keywords.{found_at}
-use Rattle.trace_script.proofs.Words.{found_as, first_not_others, none_found_as}
+use Rattle.std.proofs.Common.{ℕ}
+use Rattle.trace_script.specs.Spellings.{Three}
+use Rattle.trace_script.specs.Table.{IsAtom, IsArity, IsTerm}
+use Rattle.trace_script.proofs.Words.{found_as, none_found_as, first_not_others}
 use Rattle.trace_script.proofs.event.return_from.Goals as goal
 
 pub returns : goal.returns
@@ -22,5 +25,6 @@ returns c = (
 )
 
 pub returns-in_default-3 : goal.returns-in_default-3
-returns-in_default-3 c = λ x h.
-    first_not_others _ _ _ (texts c.in-Some.others.now) _ c.in-Some.ensures (λ y q. none_found_as _ _ _ c.in_default-3.is c.in_ok-fun_name.ensures (h.1, h.2, h.3) q) h.0 0 h.4
+returns-in_default-3 c x h =
+    first_not_others IsAtom (λ ws (_ : ℕ). Three IsAtom IsArity IsTerm ws h.1 h.2 h.3) (texts c.args.words.now) _ _ c.in-Some.ensures
+    (λ _ s. none_found_as _ _ _ c.in_default-3.is c.in_ok-fun_name.ensures (h.1, h.2, h.3) s) h.0 0 h.4

@@ -1,4 +1,4 @@
-use Rattle.std.proofs.Common.{refl, arith, ap, ◌≡◌, ℕ, List, length, true, false}
+use Rattle.std.proofs.Common.{refl, subst, ◌≡◌, ◌≤◌, ℕ, List, length}
 use Rattle.trace_script.specs.Spellings.{Sole, texts}
 use Rattle.trace_script.specs.Table.{IsHeld}
 use Rattle.trace_script.proofs.One.{one_message}
@@ -9,9 +9,8 @@ pub returns : goal.returns
 returns c = (c.in-Some-2.found, record { word = c.in-Some.hex.now; are = c.in-Some.ensures; spells = found_as _ _ _ _ c.in-Some-2.is c.in_ok-found.ensures }, c.is_lawful.ensures.0 c.if-not-is_lawful.false, refl)
 
 pub returns-then-not-is_lawful : goal.returns-then-not-is_lawful
-returns-then-not-is_lawful c = λ x h.
-    let found : Sole IsHeld (texts c.args.words.now) c.in-Some-2.found = record { word = c.in-Some.hex.now; are = c.in-Some.ensures; spells = found_as _ _ _ _ c.in-Some-2.is c.in_ok-found.ensures } in
-    let same : h.0.items ≡ c.in-Some-2.found.items = one_message (texts c.args.words.now) h.0 c.in-Some-2.found h.1 found in
-    let lawful : c.is_lawful.result ≡ true = c.is_lawful.ensures.1 (omega (arith, h.2, ap (λ (xs : List ℕ). length xs) same)) in
-    let not_lawful : c.is_lawful.result ≡ false = c.if-not-is_lawful.true in
+returns-then-not-is_lawful c x h =
+    let sole : Sole IsHeld (texts c.args.words.now) c.in-Some-2.found = record { word = c.in-Some.hex.now; are = c.in-Some.ensures; spells = found_as _ _ _ _ c.in-Some-2.is c.in_ok-found.ensures } in
+    let same : h.0.items ≡ c.in-Some-2.found.items = one_message (texts c.args.words.now) h.0 c.in-Some-2.found h.1 sole in
+    let lawful = c.is_lawful.ensures.1 (subst (λ (bytes : List ℕ). length bytes ≤ 65531) same h.2) in
     cc

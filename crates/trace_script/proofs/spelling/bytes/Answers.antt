@@ -7,12 +7,12 @@ use Rattle.trace_script.proofs.spelling.bytes.Goals as goal
 use Rattle.trace_script.proofs.spelling.bytes.Goals.{then-is_empty-via-then-is_empty, then-is_empty-via-else-is_empty+then-digits-ne0}
 
 pub returns-then-is_empty : goal.returns-then-is_empty
-returns-then-is_empty c v h =
+returns-then-is_empty c bytes h =
     let other : c.args.word.now ≢ codes "-" = not_dash c.args.word.now _ c.eq.ensures c.if-eq.false in
     let same = c.as_bytes-digits.ensures.value in
     elim c.then-is_empty.branch [
-      | then-is_empty-via-then-is_empty w ↦ blank c.args.word.now v other (no_length _ _ same w.if-is_empty.ensures) h
-      | then-is_empty-via-else-is_empty+then-digits-ne0 w ↦ odd c.args.word.now v other (subst (λ (ds : List ℕ). length ds % 2 ≢ 0) same w.if-digits-ne0.true) h
+      | then-is_empty-via-then-is_empty w ↦ blank c.args.word.now bytes other (no_length _ _ same w.if-is_empty.ensures) h
+      | then-is_empty-via-else-is_empty+then-digits-ne0 w ↦ odd c.args.word.now bytes other (subst (λ (ds : List ℕ). length ds % 2 ≢ 0) same w.if-digits-ne0.true) h
     ]
 
 pub returns : goal.returns

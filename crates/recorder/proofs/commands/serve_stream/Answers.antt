@@ -1,0 +1,15 @@
+use Rattle.std.proofs.Common.{None, ap, ◌∙◌}
+use Rattle.std.proofs.KnownBytes.{Keeps-refl, prepend_known-nil}
+use Rattle.recorder.specs.Commands.{stopped, no_room}
+use Rattle.recorder.specs.declared.complaint.Complaint.TheVariants as complaints
+use Rattle.recorder.specs.declared.fault.SimFault.{SimFault}
+use Rattle.recorder.proofs.commands.serve_stream.Goals as goal
+
+pub returns-in_default-clause-stopped : goal.returns-in_default-clause-stopped
+returns-in_default-clause-stopped g c = no_room (Keeps-refl _) c.from.ensures
+
+pub returns-in-Err-clause-stopped : goal.returns-in-Err-clause-stopped
+returns-in-Err-clause-stopped g c =
+    let reader = c.in-Ok.ensures in
+    stopped c.in-Err.fault _ (rw (reader.capacity, reader.empty, reader.inner, prepend_known-nil (g.R.Read.remaining c.args.input), c.style.ensures) at c.in-Err.ensures.err)
+    (c.from-in-Err-2.ensures ∙ ap (λ (fault : SimFault). complaints.Fault fault None) c.from-in-Err.ensures)

@@ -1,0 +1,41 @@
+# Completes the words of dbgrec in bash: commands, options, and the values of those options that have a few.
+
+_dbgrec() {
+    local word=${COMP_WORDS[COMP_CWORD]} before=${COMP_WORDS[COMP_CWORD - 1]} offered=
+    local commands="import list export wipe stream record sim"
+    local readers="--kind --suffix --count" new="--size --time --after-failure"
+
+    # bash parts `--kind=wrap` at the sign
+    if [[ $word == = ]]; then
+        word=
+    elif [[ $before == = ]]; then
+        before=${COMP_WORDS[COMP_CWORD - 2]}
+    fi
+    COMPREPLY=()
+    case $before in
+    --kind) offered="file wrap" ;;
+    --flush) offered="always paused never" ;;
+    --suffix | --count | --size | --time) return ;;
+    *)
+        if ((COMP_CWORD == 1)); then
+            offered="$commands --help --version"
+        elif [[ $word == -* ]]; then
+            case ${COMP_WORDS[1]} in
+            import) offered="$readers $new --flush --keep-open --help" ;;
+            record) offered="$readers $new --help" ;;
+            list | export) offered="$readers --help" ;;
+            wipe) offered="$readers --force --help" ;;
+            *) offered="--help" ;;
+            esac
+        fi
+        ;;
+    esac
+    if [[ -n $offered ]]; then
+        mapfile -t COMPREPLY < <(compgen -W "$offered" -- "$word")
+    elif [[ " import list export wipe record " == *" ${COMP_WORDS[1]} "* ]]; then
+        compopt -o filenames 2>/dev/null
+        mapfile -t COMPREPLY < <(compgen -f -- "$word")
+    fi
+}
+
+complete -F _dbgrec dbgrec

@@ -1,0 +1,182 @@
+"""Cases of `list -p` and `stream -p`."""
+
+import itertools
+import random
+import resource
+import sys
+
+from cases import STREAMS, group
+from entries import listing, listing_of, message, split
+from program import same
+from terms import LONGEST_MESSAGE, OTHER_WORDS, Writer, fun_with, short_atom, told
+
+CASES, case = group()
+
+WRAP = ("--kind", "wrap")
+
+
+def pretty_listing(messages):
+    return listing(0, 0, [f"{number} {told(data)}" for number, data in enumerate(messages)])
+
+
+def lists_stream(program, messages):
+    """Messages of a stream are listed as the tables say."""
+    stream = b"".join(map(message, messages))
+    for option in ("-p", "--pretty"):
+        same(program.good("stream", option, stdin=stream), pretty_listing(messages))
+
+
+def lists(program, messages):
+    """The same, and as stored in a file and in a wrap."""
+    lists_stream(program, messages)
+    stream = b"".join(map(message, messages))
+    for kind in ((), WRAP):
+        program.good("import", "t", *kind, *(("--size", "4294967295") if kind else ()), stdin=stream)
+        for option in ("-p", "--pretty"):
+            same(program.good("list", option, "t", *kind), pretty_listing(messages))
+        program.good("wipe", "t", *kind)
+
+
+def too_long(stream):
+    """The numbers of the messages that are too long for an entry, and their sizes."""
+    sizes = [(number, len(entry) - 5) for number, entry in enumerate(split(stream))]
+    return [(number, size) for number, size in sizes if size > LONGEST_MESSAGE]
+
+
+@case
+def each_stored_term_of_otp_is_listed_as_otp_prints_it(program):
+    stream = (STREAMS / "every_term.trc").read_bytes()
+    lines = (STREAMS / "every_term.txt").read_bytes().splitlines()
+    same(too_long(stream), [(86, 140_007)])
+    same((len(lines), lines[86]), (693, b"86 opaque 140007"))
+    program.good("import", "t", stdin=stream)
+    same(program.good("list", "-p", "t").splitlines(), [*lines[:86], b"86 drop 1", *lines[87:]])
+
+
+@case
+def each_stored_message_of_a_nodes_own_trace_has_its_term(program):
+    stream = (STREAMS / "node.trc").read_bytes()
+    long = [number for number, _ in too_long(stream)]
+    same(long, [71, 72, 373, 374])
+    program.good("import", "t", stdin=stream)
+    listed = program.good("list", "-p", "t").decode().splitlines()
+    entries = split(stream)
+    same(listed, [f"{number} {'drop 1' if number in long else told(entry[5:])}" for number, entry in enumerate(entries)] + ["end_of_trace"])
+    same([line for line in listed if line.split()[1:2] == ["opaque"]], [])
+
+
+@case
+def each_term_that_otp_wrote_is_listed_as_otp_prints_it(program):
+    stream = (STREAMS / "every_term.trc").read_bytes()
+    same(program.good("stream", "-p", stdin=stream), (STREAMS / "every_term.txt").read_bytes())
+
+
+@case
+def of_a_nodes_own_trace_only_what_is_too_long_is_opaque(program):
+    stream = (STREAMS / "node.trc").read_bytes()
+    lines = program.good("stream", "-p", stdin=stream).decode().splitlines()
+    opaque = [line for line in lines if line.split()[1:2] == ["opaque"]]
+    same(opaque, [f"{number} opaque {size}" for number, size in too_long(stream)])
+    same(lines[-1], "end_of_trace")
+    same(len(lines), len(split(stream)) + 1)
+
+
+@case
+def a_message_that_is_too_long_is_passed_over(program):
+    data = b"\x83\x6d" + (70_000).to_bytes(4, "big") + bytes(70_000)
+    lists_stream(program, [b"\x83\x6a", data, b"\x83\x61\x05"])
+
+
+@case
+def without_the_option_the_subset_alone_is_listed(program):
+    writer = Writer(random.Random(5))
+    terms = [entry for entry in split((STREAMS / "every_term.trc").read_bytes()) if len(entry) - 5 <= LONGEST_MESSAGE]
+    terms += [message(writer.spelling()) for _ in range(2000)]
+    stream = b"".join(terms)
+    same(program.good("stream", stdin=stream), listing_of(terms))
+    for kind in ((), WRAP):
+        program.good("import", "t", *kind, *(("--size", "4294967295") if kind else ()), stdin=stream)
+        same(program.good("list", "t", *kind), listing_of(terms))
+        program.good("wipe", "t", *kind)
+
+
+@case
+def random_terms_are_listed_as_the_tables_say(program):
+    writer = Writer(random.Random(1))
+    lists(program, [writer.spelling() for _ in range(10_000)])
+
+
+@case
+def random_terms_with_a_byte_changed_are_listed_or_opaque(program):
+    dice = random.Random(2)
+    writer = Writer(dice)
+    changed = []
+    while len(changed) < 3000:
+        data = bytearray(writer.spelling())
+        data[dice.randrange(len(data))] = dice.randrange(256)
+        changed.append(bytes(data))
+    lists(program, changed)
+
+
+@case
+def terms_with_bytes_behind_them_or_cut_short_are_opaque(program):
+    writer = Writer(random.Random(3))
+    whole = [writer.spelling() for _ in range(300)]
+    lists(program, [data + b"\x6a" for data in whole] + [data[:-1] for data in whole] + [b"", b"\x83"])
+
+
+@case
+def the_kind_goes_by_the_sorts_of_the_members(program):
+    node = short_atom("n")
+    pid, port, atom = b"\x58" + node + bytes(12), b"\x59" + node + bytes(8), b"\x77\x02ok"
+    text, improper = b"\x6b\x00\x02ab", b"\x6c\x00\x00\x00\x01" + atom + atom
+    of = {last: b"\x68\x03" + atom + atom + last for last in (b"\x61\x02", b"\x6a", text, improper, atom)}
+    arity, reason = of[b"\x61\x02"], b"\x68\x02" + atom + text
+    rows = [[], [text], [improper, text], [text, text, text], *([function] for function in of.values())]
+    rows += [[arity, text], [of[b"\x6a"], text], [arity, reason], [of[b"\x6a"], reason], [arity, b"\x68\x02" + text + atom]]
+    stamps = [[], [b"\x61\x09"], [b"\x68\x03" + b"\x61\x01" * 3], [b"\x68\x02" + b"\x61\x01" * 2], [b"\x6e\x09\x00" + bytes([255]) * 9]]
+    words = [*OTHER_WORDS, "call", "return_from", "exception_from", "send", "send_to_non_existing_process", "receive", "seq"]
+    messages = []
+    for head, tracee, word, row, stamp in itertools.product(("trace", "trace_ts", "tracer"), (pid, port, atom), words, rows, stamps):
+        parts = [short_atom(head), tracee, short_atom(word), *row, *stamp]
+        messages.append(b"\x83\x68" + bytes([len(parts)]) + b"".join(parts))
+    lists(program, messages)
+
+
+@case
+def a_depth_of_256_is_listed_and_257_is_opaque(program):
+    openings = [b"\x68\x01", b"\x69\x00\x00\x00\x01", b"\x6c\x00\x00\x00\x01\x61\x09", b"\x74\x00\x00\x00\x01\x61\x09"]
+    messages = [b"\x83" + opening * depth + b"\x77\x01x" for opening in openings for depth in (255, 256, 257)]
+    messages += [b"\x83" + b"\x68\x01" * depth + b"\x6b\x00\x01a" for depth in (255, 256)]
+    messages += [b"\x83" + b"\x68\x01" * depth + fun_with(b"\x6a") for depth in (255, 256)]
+    messages += [b"\x83" + b"\x68\x01" * depth + fun_with(b"\x68\x00") for depth in (254, 255)]
+    lists(program, messages)
+
+
+@case
+def lengths_beyond_the_bytes_are_opaque(program):
+    most = b"\xff\xff\xff\xff"
+    node = short_atom("n")
+    fun = b"\x70" + most + bytes(21) + bytes(4) + node + b"\x61\x01\x61\x01\x58" + node + bytes(12)
+    free = b"\x70\x00\x00\x00\x34" + bytes(21) + most + node + b"\x61\x01\x61\x01\x58" + node + bytes(12)
+    forms = [b"\x69" + most, b"\x6c" + most, b"\x6d" + most, b"\x6f" + most + b"\0", b"\x74" + most, b"\x4d" + most + b"\x08"]
+    forms += [b"\x5a\xff\xff" + node + bytes(40), b"\x72\xff\xff" + node + bytes(40), b"\x6b\xff\xff", b"\x76\xff\xff", b"\x64\xff\xff"]
+    forms += [b"\x68\xff", b"\x6e\xff\0", b"\x77\xff", b"\x73\xff", fun, free]
+    lists(program, [b"\x83" + form + rest for form in forms for rest in (b"", b"\x61\x01", bytes(100))])
+
+
+def processor_time():
+    """What ended commands have used of the processor, in seconds."""
+    used = resource.getrusage(resource.RUSAGE_CHILDREN)
+    return used.ru_utime + used.ru_stime
+
+
+@case
+def an_integer_of_65500_bytes_is_listed_in_a_fifth_of_a_second(program):
+    data = b"\x83\x6f" + (65_500).to_bytes(4, "big") + b"\x01" + bytes([255]) * 65_500
+    began = processor_time()
+    listed = program.good("stream", "-p", stdin=message(data))
+    took = processor_time() - began
+    sys.set_int_max_str_digits(0)
+    same(listed, pretty_listing([data]))
+    assert took < 0.2, f"it took {took} seconds"
