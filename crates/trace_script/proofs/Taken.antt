@@ -1,5 +1,5 @@
 -- What is read of a script.
-use Rattle.std.proofs.Common.{arith, sym, ◌∙◌, ap, subst, ◌≡◌, ◌≢◌, ◌⊎◌, ℕ, ◌+◌, ◌-◌, ◌<◌, ◌≤◌, Bool, true, false, cond, Option, None, Some, Result, Ok, Err, List, [], ◌∷◌, ◌++◌, All, length, get_or, drop, take, refl, inl, inr, ◌==◌, nat_lt, length-append, take_all, le_refl}
+use Rattle.std.proofs.Common.{arith, sym, ◌∙◌, ap, subst, ◌≡◌, ◌≢◌, ◌⊎◌, ℕ, ◌+◌, ◌-◌, ◌<◌, ◌≤◌, Bool, true, false, cond, Option, None, Some, Result, Ok, Err, List, [], ◌∷◌, ◌++◌, All, length, get_or, drop, take, refl, inl, inr, ◌==◌, nat_lt, vec_len, length-append, take_all, le_refl}
 use lib.Seq.{get_or-append-add}
 use Rattle.std.proofs.lemmas.List.{take_more}
 use Rattle.std.proofs.lemmas.List.Elements.{All-nil, All-append, All-more, All-push}
@@ -7,6 +7,8 @@ use Rattle.std.proofs.lemmas.Bool.{and_parts, and_from, cases_lt}
 use Rattle.std.proofs.lemmas.Bool.Decides.{nat_tests}
 use Rattle.std.proofs.KnownBytes.{starts_with_rest, Consumes-nil, Consumes-trans}
 use Rattle.std.proofs.Transfers.{StopsAt-append}
+use Rattle.std.specs.Global.{Vec}
+use Rattle.std.specs.Option.{is_some}
 use Rattle.std.specs.Io.{StartsWith, StopsAt, IsEmptyOrEndsWith, appended_bytes}
 use Rattle.std.specs.Io.BufRead.{ends_with_byte, strip_last}
 use Rattle.std.specs.Io.KnownBytes.{Consumes, IsAtEnd}
@@ -87,9 +89,15 @@ taken_by was is bytes false e p line some =
 pub taken : (was is : Option (List ℕ)) (bytes text : List ℕ) → Consumes was is bytes → IsReadLine was is bytes → 0 < length bytes → text ≡ strip_last 10 bytes → IsTaken was is text ⊎ IsTooLong was is text
 taken was is bytes text p line some e = subst (λ (t : List ℕ). IsTaken was is t ⊎ IsTooLong was is t) (sym e) (taken_by was is bytes (ends_with_byte 10 bytes) refl p line some)
 
+pub some_bytes : (v : Vec ℕ) → false ≡ (vec_len v == 0) → 0 < length v.items
+some_bytes v t = let counted = v.ok.0 in grind (arith, nat_tests)
+
 pub nothing_left : (was is : Option (List ℕ)) (bytes : List ℕ) → length bytes ≡ 0 → Consumes was is bytes → IsReadLine was is bytes → Consumes was is [] × IsUsedUp was is
 nothing_left was is [] none p line = (p, elim line.ends [ inl long ↦ absurd (omega (arith, long)) | inr q ↦ elim q [ inl broken ↦ absurd (omega (arith, broken.0)) | inr up ↦ up ] ])
 nothing_left was is (x ∷ xs) none p line = absurd (omega (arith, none))
+
+pub advanced : (was is : Option (List ℕ)) (text : List ℕ) (more : Bool) → more ≡ true → Advances was is text (Ok more) → IsTaken was is text ⊎ IsTooLong was is text
+advanced was is text more e told = let Told : Bool → Type 0 = λ b. Advances was is text (Ok b) in subst Told e told
 
 -- ---- lines, one after another
 
@@ -110,6 +118,10 @@ consumed mid is text t = elim t [ inl h ↦ (h.bytes, h.consumes) | inr h ↦ (t
 
 pub passed_more : (was mid is : Option (List ℕ)) (text : List ℕ) → HasPassed was mid → IsTaken mid is text ⊎ IsTooLong mid is text → IsSilent text → HasPassed was is
 passed_more was mid is text h t s = record { silent = h.silent ++ text ∷ []; each = All-push IsSilent h.silent text h.each s; before = AreTaken.more text h.before (is_taken mid is text t s.short) }
+
+pub no_line : (of_desk : Bool) (text : List ℕ) (found : Option Line) → false ≡ is_some found → TellsLine of_desk text (Ok found) → IsSilent text
+no_line of_desk text None e told = told
+no_line of_desk text (Some line) e told = let same : false ≡ true = e in cc
 
 pub next_found : (of_desk : Bool) (was mid is : Option (List ℕ)) (text : List ℕ) (line : Line) → HasPassed was mid → IsTaken mid is text ⊎ IsTooLong mid is text → IsCommand of_desk line text → HasNext of_desk was is line
 next_found of_desk was mid is text line h t k = record { silent = h.silent; each = h.each; mid = mid; before = h.before; text = text; taken = is_taken mid is text t k.short; command = k }

@@ -1,4 +1,4 @@
-use Rattle.std.proofs.Common.{sym, ◌∙◌, ◌≡◌, true, false}
+use Rattle.std.proofs.Common.{sym, ap, not, ◌∙◌, ◌≡◌, true, false}
 use Rattle.trace_script.specs.Lines.{IsOfRecord}
 use Rattle.trace_script.specs.Reading.{IsRefused}
 use Rattle.trace_script.proofs.One.{one_line}
@@ -13,7 +13,7 @@ returns-clause-tells g c =
     let not_allowed : c.match-line.is_allowed ≡ false = c.if-is_allowed.false in
     rw c.bad_command.ensures (IsRefused.no_line c.requires.says (λ line k.
         elim c.match-line.branch [
-          | in-Some+then-not-self w ↦ let allowed : c.match-line.is_allowed ≡ true = w.is_allowed-is in cc
+          | in-Some+then-not-self w ↦ let allowed : c.match-line.is_allowed ≡ true = w.is_allowed-is ∙ ap not w.if-not-self.true in cc
           | in-Some+else-not-self w ↦
               let found = found_at _ _ _ w.in-Some.is c.requires.spelled in
               let of_desk : c.args.self.now.is_of_desk ≡ true = w.if-not-self.false in
