@@ -1,5 +1,5 @@
 -- What is read of a script.
-use Rattle.std.proofs.Common.{arith, sym, ◌∙◌, ap, subst, ◌≡◌, ◌≢◌, ◌⊎◌, ℕ, ◌+◌, ◌-◌, ◌<◌, ◌≤◌, Bool, true, false, cond, Option, None, Some, Result, Ok, Err, List, [], ◌∷◌, ◌++◌, All, length, get_or, drop, take, refl, inl, inr, ◌==◌, nat_lt, vec_len, length-append, take_all, le_refl}
+use Rattle.std.proofs.Common.{arith, sym, ◌∙◌, ap, subst, ◌≡◌, ◌≢◌, ◌⊎◌, ℕ, ◌+◌, ◌-◌, ◌<◌, ◌≤◌, Bool, true, false, cond, Option, None, Some, Ok, Err, List, [], ◌∷◌, ◌++◌, All, length, get_or, drop, take, refl, inl, inr, ◌==◌, nat_lt, vec_len, length-append, take_all}
 use lib.Seq.{get_or-append-add}
 use Rattle.std.proofs.lemmas.List.{take_more}
 use Rattle.std.proofs.lemmas.List.Elements.{All-nil, All-append, All-more, All-push}
@@ -11,9 +11,9 @@ use Rattle.std.specs.Global.{Vec}
 use Rattle.std.specs.Option.{is_some}
 use Rattle.std.specs.Io.{StartsWith, StopsAt, IsEmptyOrEndsWith, appended_bytes}
 use Rattle.std.specs.Io.BufRead.{ends_with_byte, strip_last}
-use Rattle.std.specs.Io.KnownBytes.{Consumes, IsAtEnd}
+use Rattle.std.specs.Io.KnownBytes.{Consumes}
 use Rattle.trace_script.specs.Lines.{IsOfRecord, SaysSame}
-use Rattle.trace_script.specs.Reading.{IsUsedUp, IsTaken, IsTooLong, IsReadLine, AreTaken, IsUnread, Advances, IsSilent, IsCommand, IsRefused, TellsLine, HasNext, HasEnded, Breaks, HasStopped}
+use Rattle.trace_script.specs.Reading.{IsUsedUp, IsTaken, IsTooLong, IsReadLine, AreTaken, IsUnread, Advances, IsSilent, IsCommand, TellsLine, HasNext, HasEnded, Breaks, HasStopped}
 use Rattle.trace_script.specs.declared.line.Line.{Line}
 use Rattle.trace_script.specs.declared.line.Line.TheVariants as lines
 use Rattle.trace_script.specs.declared.fault.ScriptFault.{ScriptFault}

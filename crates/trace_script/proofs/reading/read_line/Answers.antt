@@ -1,4 +1,4 @@
-use Rattle.std.proofs.Common.{arith, ◌∙◌, ap, ◌≡◌, ◌≢◌, Ok, true, false, inl, ◌<◌, length}
+use Rattle.std.proofs.Common.{arith, ◌∙◌, ap, ◌≡◌, ◌≢◌, Ok, true, false, inl}
 use Rattle.trace_script.proofs.Taken.{read_more, no_break_more, stops_more, read_whole}
 use Rattle.trace_script.proofs.reading.read_line.Goals as goal
 use Rattle.trace_script.proofs.reading.read_line.Goals.{then-branch-via-then-branch, then-branch-via-else-branch+then-len-gt-LONGEST}

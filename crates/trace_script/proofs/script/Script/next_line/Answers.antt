@@ -1,8 +1,8 @@
-use Rattle.std.proofs.Common.{refl, ◌∙◌, ◌≡◌, subst, Bool, Ok, Err, true, false, rules}
+use Rattle.std.proofs.Common.{refl, ◌∙◌, ◌≡◌, subst, Bool, Err, false, rules}
 use Rattle.std.specs.Option.{is_some}
 use Rattle.std.proofs.lemmas.Result.{err_from_is_err_and}
-use Rattle.trace_script.specs.Reading.{TellsLine, Advances}
-use Rattle.trace_script.proofs.Taken.{advanced, no_line, passed_none, passed_more, next_found, stopped_line, stopped_read, stopped_after}
+use Rattle.trace_script.specs.Reading.{TellsLine}
+use Rattle.trace_script.proofs.Taken.{advanced, no_line, passed_none, passed_more, stopped_line, stopped_read, stopped_after}
 use Rattle.trace_script.proofs.script.Script.next_line.Goals as goal
 
 pub loop-line-init : goal.loop-line-init
