@@ -1,7 +1,7 @@
 -- Flags and their letters.
 use Rattle.std.proofs.Common.{arith, Option, None, Some, sym, ◌∙◌, ap, subst, ◌≡◌, ◌≢◌, ℕ, ◌<◌, ◌≤◌, ◌+◌, Bool, true, false, cond, List, [], ◌∷◌, length, codes, refl, inl, inr, ◌⊎◌, IsTrue, ◌↔◌}
 use Rattle.std.specs.Prelude.{nat_eq}
-use Rattle.std.specs.List.{list_any, count_by}
+use Rattle.std.specs.List.{list_any}
 use Rattle.std.proofs.lemmas.List.Sums.{sum_by-cons}
 use Rattle.std.proofs.lemmas.Bool.Decides.{nat_tests}
 use Rattle.trace_message.specs.declared.event.Flags.{Flags}

@@ -4,5 +4,6 @@ pub mod Numbers
 pub mod One
 pub mod Others
 pub mod Rows
+pub mod Taken
 pub mod Terms
 pub mod Words

@@ -1,13 +1,12 @@
 -- No words spell two lines.
-use Rattle.std.proofs.Common.{sym, ◌∙◌, ap, subst, ◌≡◌, ℕ, pos, false, true, List, [], ◌∷◌, Vec, Global, inl, inr}
+use Rattle.std.proofs.Common.{sym, ◌∙◌, ap, subst, ◌≡◌, ℕ, pos, false, true, List, Vec, Global, inl, inr}
 use Rattle.entry_codec.specs.Seen.{view}
 use Rattle.entry_codec.specs.Entries.{Message}
 use Rattle.entry_codec.specs.declared.model.Entry.TheVariants as held
 use Rattle.trace_message.specs.Events.{EventData, event_view, call, return_from, exception_from, send, send_lost, receive}
-use Rattle.trace_message.specs.declared.event.Event.{Event}
 use Rattle.trace_script.specs.Keywords.{Behind}
 use Rattle.trace_script.specs.Lines.{SaysSame, IsSameAtDesk}
-use Rattle.trace_script.specs.Spellings.{IsNumberIn, Sole, Two, Three, First, words}
+use Rattle.trace_script.specs.Spellings.{IsNumberIn, Sole, Two, Three, First}
 use Rattle.trace_script.specs.Table.{IsByte, IsHeld, IsTerm, IsAtom, IsArguments, IsArity, IsTracee, IsLong, IsFlags, IsEvent, DeskRow, Creates, Resumes, Crashes, PlainRow, HeldRow, Row, Spells}
 use Rattle.trace_script.specs.declared.keyword.Keyword.{Keyword}
 use Rattle.trace_script.specs.declared.keyword.Keyword.TheVariants as keywords

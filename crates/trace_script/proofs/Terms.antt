@@ -1,7 +1,7 @@
 -- Terms and atoms are spelled by one word each.
 use Rattle.std.proofs.Common.{arith, sym, subst, ◌∙◌, ap, ◌≡◌, ◌≢◌, ◌≤◌, ℕ, refl, Option, None, Some, List, [], ◌∷◌, ◌++◌, length, take, drop, Vec, Global}
 use Rattle.std.proofs.lemmas.List.{append-nil, take-append-drop, length-take}
-use Rattle.trace_terms.specs.Data.{Data, list, Members, member, no_members}
+use Rattle.trace_terms.specs.Data.{Data, list, Members}
 use Rattle.trace_terms.specs.View.{view, view_step, members_of}
 use Rattle.trace_terms.specs.declared.term.Term.{Term, List as ListTerm, roll-Term, out-Term, roll-out-Term, map-Term, fold-roll-Term}
 use Rattle.trace_terms.specs.declared.term.Term.TheOpen.{Term-F}

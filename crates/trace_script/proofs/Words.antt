@@ -1,5 +1,5 @@
 -- So many words, and what they spell.
-use Rattle.std.proofs.Common.{inl, inr, ◌⊎◌, Result, Ok, Err, sym, subst, ap, ◌≡◌, ◌≢◌, ℕ, Option, None, Some, List, [], ◌∷◌, length}
+use Rattle.std.proofs.Common.{inl, inr, Result, Ok, Err, subst, ap, ◌≡◌, ◌≢◌, ℕ, Option, None, Some, List, [], ◌∷◌, length}
 use Rattle.std.specs.Result.{OkIff, result_ok}
 use Rattle.trace_script.specs.Keywords.{text_of, Behind}
 use Rattle.trace_script.specs.Table.{PlainRow, HeldRow, IsOfDesk, Row}

@@ -1,16 +1,15 @@
 // The lines of a script, read one at a time.
-ghost use Rattle.std.specs.Prelude.{IfOk, IfSome};
+ghost use Rattle.std.specs.Prelude.{IfOk, IfSome, ◌≤◌, length, IsUtf8};
 ghost use Rattle.trace_script.specs.Lines.{IsWithinLimits, IsOfRecord};
+ghost use Rattle.trace_script.specs.Reading.{Advances, IsSilent, TellsLine, TellsNext};
+ghost use Rattle.trace_script.specs.Spellings.{IsFound};
 ghost use Rattle.trace_script.specs.Table.{Spells};
 
 use crate::fault::ScriptFault;
 use crate::line::{Line, parse};
+use crate::reading::{LONGEST, drop_break, read_line};
 use std::alloc::{AllocError, Global};
-use std::io;
-use std::io::{BufRead, Read};
-
-/// Bytes of the longest line.
-const LONGEST: usize = 300_000;
+use std::io::BufRead;
 
 /// Bytes of the longest script.
 const MOST_BYTES: u64 = 1_099_511_627_776;
@@ -60,32 +59,36 @@ impl<'r, R: BufRead> Script<'r, R> {
         ScriptFault::BadCommand { line: self.number }
     }
 
-    /// Whether there is a line more, whose text then is in `text`.
+    /// Whether there is a line more, whose text then is in `text`, as far as it was read.
     fn advance(&mut self) -> Result<bool, ScriptFault>
-        ensures { self.new.is_of_desk ≡ self.old.is_of_desk }
+        ensures same { self.new.is_of_desk ≡ self.old.is_of_desk }
+        ensures name { self.new.reader.ghost_name ≡ self.old.reader.ghost_name }
+        ensures advances { Advances (R.remaining self.old.reader.now) (R.remaining self.new.reader.now) self.new.text.items result }
     {
-        self.text.clear();
-        let Ok(count) = read_line(&mut *self.reader, &mut self.text) else {
-            return Err(ScriptFault::Read);
-        };
-        let Some(left) = self.left.checked_sub(count as u64) else {
+        read_line(&mut *self.reader, &mut self.text)?;
+        if self.text.is_empty() {
+            return Ok(false);
+        }
+        let Some(left) = self.left.checked_sub(self.text.len() as u64) else {
             return Err(ScriptFault::Read);
         };
         self.left = left;
         self.number = self.number.saturating_add(1);
-        if self.text.last() == Some(&b'\n') {
-            self.text.pop();
-        }
-        Ok(count > 0)
+        drop_break(&mut self.text);
+        Ok(true)
     }
 
     /// The line, where it may stand in this script.
     fn allowed(&self, line: Option<Line>) -> Result<Option<Line>, ScriptFault>
         requires limits { IfSome line IsWithinLimits }
-        requires spelled { IfSome line (λ it. Spells it self.now.text.items) }
+        requires spelled { IsFound (λ it. Spells it self.now.text.items) line }
+        requires utf8 { IsUtf8 self.now.text.items }
+        requires short { length self.now.text.items ≤ 300000 }
+        requires says { IsSilent self.now.text.items → ⊥ }
         ensures sound { IfOk result (λ found. IfSome found IsWithinLimits) }
         ensures spells { IfOk result (λ found. IfSome found (λ line. Spells line self.now.text.items)) }
         ensures of_desk { self.now.is_of_desk ≡ true → IfOk result (λ found. IfSome found IsOfRecord) }
+        ensures tells { TellsLine self.now.is_of_desk self.now.text.items result }
     {
         let is_allowed = match &line {
             Some(line) => !self.is_of_desk || line.is_of_desk(),
@@ -103,6 +106,7 @@ impl<'r, R: BufRead> Script<'r, R> {
         ensures sound { IfOk result (λ found. IfSome found IsWithinLimits) }
         ensures spells { IfOk result (λ found. IfSome found (λ line. Spells line self.now.text.items)) }
         ensures of_desk { self.now.is_of_desk ≡ true → IfOk result (λ found. IfSome found IsOfRecord) }
+        ensures tells { TellsLine self.now.is_of_desk self.now.text.items result }
     {
         if self.text.len() > LONGEST {
             return Err(self.bad_command());
@@ -122,6 +126,8 @@ impl<'r, R: BufRead> Script<'r, R> {
         ensures spells { IfOk result (λ found. IfSome found (λ line. Spells line self.new.text.items)) }
         ensures of_desk { self.old.is_of_desk ≡ true → IfOk result (λ found. IfSome found IsOfRecord) }
         ensures same { self.new.is_of_desk ≡ self.old.is_of_desk }
+        ensures name { self.new.reader.ghost_name ≡ self.old.reader.ghost_name }
+        ensures next { TellsNext self.old.is_of_desk (R.remaining self.old.reader.now) (R.remaining self.new.reader.now) result }
     {
         for _line in 0..u64::MAX {
             if !self.advance()? {
@@ -133,11 +139,6 @@ impl<'r, R: BufRead> Script<'r, R> {
             }
             drop(found);
         }
-        Ok(None)
+        Err(ScriptFault::Read)
     }
-}
-
-/// Puts the next line behind the text, or as much of it as shows that it is too long.
-fn read_line<R: BufRead>(reader: &mut R, text: &mut Vec<u8>) -> io::Result<usize> {
-    reader.take(LONGEST as u64 + 1).read_until(b'\n', text)
 }

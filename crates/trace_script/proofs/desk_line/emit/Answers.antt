@@ -1,8 +1,6 @@
 use Rattle.std.proofs.Common.{refl}
 use Rattle.trace_script.specs.Spellings.{texts}
-use Rattle.trace_script.proofs.Keywords.{found_at}
 use Rattle.trace_script.proofs.Words.{found_as}
-use Rattle.std.proofs.Common.{ℕ, List}
 use Rattle.trace_message.specs.Events.{event_view}
 use Rattle.trace_message.specs.declared.event.Event.{Event}
 use Rattle.trace_script.specs.Keywords.{Behind}

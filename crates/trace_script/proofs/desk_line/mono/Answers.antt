@@ -1,4 +1,4 @@
-use Rattle.std.proofs.Common.{arith, sym, ◌∙◌, ◌≡◌, rules}
+use Rattle.std.proofs.Common.{arith, sym, ◌∙◌, ◌≡◌}
 use Rattle.trace_script.proofs.Words.{any_number, one_sole, no_value}
 use Rattle.trace_script.proofs.Numbers.{only_number}
 use Rattle.trace_script.specs.Spellings.{IsNumber, texts}

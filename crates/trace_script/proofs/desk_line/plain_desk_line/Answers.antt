@@ -1,4 +1,3 @@
-use Rattle.std.proofs.Common.{rules}
 use Rattle.trace_script.specs.Spellings.{texts}
 use Rattle.trace_script.proofs.Others.{not_at_desk}
 use Rattle.trace_script.proofs.desk_line.plain_desk_line.Goals as goal

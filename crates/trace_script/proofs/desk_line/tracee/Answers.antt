@@ -1,4 +1,4 @@
-use Rattle.std.proofs.Common.{ℕ, List}
+use Rattle.std.proofs.Common.{ℕ}
 use Rattle.trace_script.specs.Spellings.{Three, texts}
 use Rattle.trace_script.specs.Table.{IsTracee, IsLong, IsFlags}
 use Rattle.trace_script.proofs.Words.{first_not_others}

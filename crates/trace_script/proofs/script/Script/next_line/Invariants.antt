@@ -1,5 +1,10 @@
 use Rattle.std.proofs.Common.{◌≡◌}
+use Rattle.trace_script.proofs.Taken.{HasPassed}
 use Rattle.trace_script.proofs.script.Script.next_line.Given as goal
 
 abbrev pub invariant-loop-line : goal.invariant-loop-line
-invariant-loop-line g l = l.self.is_of_desk ≡ l.fn.self.is_of_desk
+invariant-loop-line g l = record {
+  desk : l.self.is_of_desk ≡ l.fn.self.is_of_desk;
+  name : l.self.reader.ghost_name ≡ l.fn.self.reader.ghost_name;
+  passed : HasPassed (g.R.Read.remaining l.fn.self.reader.now) (g.R.Read.remaining l.self.reader.now);
+}

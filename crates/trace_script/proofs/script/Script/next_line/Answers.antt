@@ -1,0 +1,34 @@
+use Rattle.std.proofs.Common.{refl, ◌∙◌, ◌≡◌, subst, Bool, Err, false, rules}
+use Rattle.std.specs.Option.{is_some}
+use Rattle.std.proofs.lemmas.Result.{err_from_is_err_and}
+use Rattle.trace_script.specs.Reading.{TellsLine}
+use Rattle.trace_script.proofs.Taken.{advanced, no_line, passed_none, passed_more, stopped_line, stopped_read, stopped_after}
+use Rattle.trace_script.proofs.script.Script.next_line.Goals as goal
+
+pub loop-line-init : goal.loop-line-init
+loop-line-init g c = record { desk = refl; name = refl; passed = passed_none _ }
+
+pub returns-in_err-advance-clause-next : goal.returns-in_err-advance-clause-next
+returns-in_err-advance-clause-next g c =
+    let told = c.in_err-advance.ensures.advances in
+    let p = err_from_is_err_and c.from_residual.result c.from_residual.ensures.1 in
+    rw (p.1, p.2) (stopped_read c.args.self.now.is_of_desk _ _ _ c.in_err-advance.field-0.0 c.loop-line.invariant.passed told.0 told.1)
+
+pub returns-in_err-found-clause-next : goal.returns-in_err-found-clause-next
+returns-in_err-found-clause-next g c =
+    let desk = c.advance.ensures.same ∙ c.loop-line.invariant.desk in
+    let taken = advanced _ _ c.advance.new.self.text.items _ (search rules) c.in_ok-advance.ensures.advances in
+    let p = err_from_is_err_and c.from_residual-in_err-found.result c.from_residual-in_err-found.ensures.1 in
+    rw (p.1, p.2)
+    (stopped_line c.args.self.now.is_of_desk _ _ _ c.advance.new.self.text.items c.in_err-found.field-0.0 c.loop-line.invariant.passed taken
+    (subst (λ (of_desk : Bool). TellsLine of_desk c.advance.new.self.text.items (Err c.in_err-found.field-0.0)) desk c.in_err-found.ensures.tells))
+
+pub loop-line-preserved : goal.loop-line-preserved
+loop-line-preserved g c = let none : false ≡ is_some c.in_ok-found.found = cc in record {
+  desk = c.advance.ensures.same ∙ c.loop-line.invariant.desk;
+  name = c.advance.ensures.name ∙ c.loop-line.invariant.name;
+  passed = passed_more _ _ _ c.advance.new.self.text.items c.loop-line.invariant.passed (advanced _ _ c.advance.new.self.text.items _ (search rules) c.in_ok-advance.ensures.advances) (no_line _ _ c.in_ok-found.found none c.in_ok-found.ensures.tells);
+}
+
+pub returns-clause-next : goal.returns-clause-next
+returns-clause-next g c = stopped_after c.args.self.now.is_of_desk _ _ c.loop-line.invariant.passed

@@ -1,0 +1,120 @@
+-- How a script is read, line by line.
+use Rattle.std.specs.Prelude.{◌≡◌, ◌≢◌, ◌⊎◌, ℕ, ◌<◌, ◌≤◌, Bool, true, false, Option, Some, None, Result, Ok, Err, List, [], ◌∷◌, ◌++◌, length, slice_get, slice_index, ◌-◌, All, OnSome}
+use Rattle.std.specs.Str.{IsUtf8}
+use Rattle.std.specs.Io.{StopsAt}
+use Rattle.std.specs.Io.KnownBytes.{Consumes, IsAtEnd}
+use Rattle.trace_script.specs.Lines.{IsOfRecord}
+use Rattle.trace_script.specs.Table.{Spells}
+use Rattle.trace_script.specs.declared.line.Line.{Line}
+use Rattle.trace_script.specs.declared.fault.ScriptFault.{ScriptFault}
+use Rattle.trace_script.specs.declared.fault.ScriptFault.TheVariants as faults
+
+-- a reader that had known bytes has none left
+abbrev pub IsUsedUp : Option (List ℕ) → Option (List ℕ) → Type 0
+IsUsedUp was is = OnSome was (IsAtEnd is)
+
+-- a line was taken off what a reader has left: its text, which has no line break, and then one; the last line may end without
+pub record IsTaken (was is : Option (List ℕ)) (text : List ℕ) : Type 0 where
+  pub bytes : List ℕ
+  pub consumes : Consumes was is bytes
+  pub no_break : All (λ b. b ≢ 10) text
+  pub ends : (bytes ≡ text ++ 10 ∷ []) ⊎ ((bytes ≡ text) × (0 < length text) × IsUsedUp was is)
+
+-- what was read of a line: no line break but at its end, and that, or so much as shows that it is too long, or all that was left
+pub record IsReadLine (was is : Option (List ℕ)) (bytes : List ℕ) : Type 0 where
+  pub stops : StopsAt bytes 10
+  pub ends : (300000 < length bytes) ⊎ ((0 < length bytes) × (slice_index bytes (length bytes - 1) ≡ 10)) ⊎ IsUsedUp was is
+
+-- lines were taken, one after another
+pub data AreTaken (was : Option (List ℕ)) : List (List ℕ) → Option (List ℕ) → Type 0 where
+  none : AreTaken was [] was
+  more : {texts : List (List ℕ)} {mid is : Option (List ℕ)} (text : List ℕ) → AreTaken was texts mid → IsTaken mid is text → AreTaken was (texts ++ text ∷ []) is
+
+-- so much of a line was taken as shows that it is too long
+pub record IsTooLong (was is : Option (List ℕ)) (text : List ℕ) : Type 0 where
+  pub long : 300000 < length text
+  pub no_break : All (λ b. b ≢ 10) text
+  pub consumes : Consumes was is text
+
+-- the fault isn't that a line is refused
+abbrev pub IsUnread : ScriptFault → Type 0
+IsUnread (faults.BadCommand number) = ⊥
+IsUnread faults.Read = Unit {0}
+IsUnread faults.NoMemory = Unit {0}
+
+-- a line was taken, or so much as shows that it is too long; or there was none left
+abbrev pub Advances : Option (List ℕ) → Option (List ℕ) → List ℕ → Result Bool ScriptFault → Type 0
+Advances was is text (Ok true) = IsTaken was is text ⊎ IsTooLong was is text
+Advances was is text (Ok false) = Consumes was is [] × IsUsedUp was is
+Advances was is text (Err fault) = ((part : List ℕ) × Consumes was is part) × IsUnread fault
+
+-- a line that says nothing: it is empty or a remark
+pub record IsSilent (text : List ℕ) : Type 0 where
+  pub utf8 : IsUtf8 text
+  pub short : length text ≤ 300000
+  pub says_nothing : (text ≡ []) ⊎ (slice_get text 0 ≡ Some 35)
+
+-- the text of a line that may stand in a script, in one for a desk alone or in any
+pub record IsCommand (of_desk : Bool) (line : Line) (text : List ℕ) : Type 0 where
+  pub utf8 : IsUtf8 text
+  pub short : length text ≤ 300000
+  pub spells : Spells line text
+  pub allowed : of_desk ≡ true → IsOfRecord line
+
+-- the text of a line that is refused: it has too many bytes or is no UTF-8, or it says something and spells no line that may stand there
+pub data IsRefused (of_desk : Bool) (text : List ℕ) : Type 0 where
+  too_long : 300000 < length text → IsRefused of_desk text
+  no_text : (IsUtf8 text → ⊥) → IsRefused of_desk text
+  no_line : (IsSilent text → ⊥) → ((line : Line) → IsCommand of_desk line text → ⊥) → IsRefused of_desk text
+
+-- what is told of the text of a line
+abbrev pub TellsLine : Bool → List ℕ → Result (Option Line) ScriptFault → Type 0
+TellsLine of_desk text (Ok (Some line)) = IsCommand of_desk line text
+TellsLine of_desk text (Ok None) = IsSilent text
+TellsLine of_desk text (Err (faults.BadCommand number)) = IsRefused of_desk text
+TellsLine of_desk text (Err faults.Read) = ⊥
+TellsLine of_desk text (Err faults.NoMemory) = Unit {0}
+
+-- lines that say nothing were taken, and then the text of this line
+pub record HasNext (of_desk : Bool) (was is : Option (List ℕ)) (line : Line) : Type 0 where
+  pub silent : List (List ℕ)
+  pub each : All IsSilent silent
+  pub mid : Option (List ℕ)
+  pub before : AreTaken was silent mid
+  pub text : List ℕ
+  pub taken : IsTaken mid is text
+  pub command : IsCommand of_desk line text
+
+-- lines that say nothing were taken, and then there was nothing left
+pub record HasEnded (was is : Option (List ℕ)) : Type 0 where
+  pub silent : List (List ℕ)
+  pub each : All IsSilent silent
+  pub mid : Option (List ℕ)
+  pub before : AreTaken was silent mid
+  pub no_more : Consumes mid is []
+  pub used_up : IsUsedUp mid is
+
+-- lines that say nothing were taken, and then the text of a line that is refused; or a read failed, or there was no memory
+pub data Breaks (of_desk : Bool) (mid is : Option (List ℕ)) : ScriptFault → Type 0 where
+  refused : (number : ℕ) (text : List ℕ) → IsRefused of_desk text → IsTaken mid is text ⊎ IsTooLong mid is text → Breaks of_desk mid is (faults.BadCommand number)
+  unread : (part : List ℕ) → Consumes mid is part → Breaks of_desk mid is faults.Read
+  no_memory : (part : List ℕ) → Consumes mid is part → Breaks of_desk mid is faults.NoMemory
+
+-- the same, behind lines that say nothing
+pub record HasStopped (of_desk : Bool) (was is : Option (List ℕ)) (fault : ScriptFault) : Type 0 where
+  pub silent : List (List ℕ)
+  pub each : All IsSilent silent
+  pub mid : Option (List ℕ)
+  pub before : AreTaken was silent mid
+  pub breaks : Breaks of_desk mid is fault
+
+-- what is told of the next line
+abbrev pub TellsNext : Bool → Option (List ℕ) → Option (List ℕ) → Result (Option Line) ScriptFault → Type 0
+TellsNext of_desk was is (Ok (Some line)) = HasNext of_desk was is line
+TellsNext of_desk was is (Ok None) = HasEnded was is
+TellsNext of_desk was is (Err fault) = HasStopped of_desk was is fault
+
+-- the lines that a script gave, one after another
+pub data AreGiven (of_desk : Bool) (was : Option (List ℕ)) : List Line → Option (List ℕ) → Type 0 where
+  none : AreGiven of_desk was [] was
+  more : {lines : List Line} {mid is : Option (List ℕ)} (line : Line) → AreGiven of_desk was lines mid → HasNext of_desk mid is line → AreGiven of_desk was (lines ++ line ∷ []) is
