@@ -30,11 +30,11 @@ abbrev pub OnlyLooks : FolderStore → FolderStore → Type 0
 OnlyLooks old new = OnlyReads honest_of clock_of reads_of images_of moments_of old new
 
 -- a script's lines were run at the desk of a port over this opening, which then was dropped
-abbrev pub RanAtDesk : Opened → Origin → FolderStore → FolderStore → Result (Option Leave) SimFault → (List ℕ → Type 0) → Type 0
-RanAtDesk (openings.File opening) origin old new left Writes =
-    WasHeld (file_told folder.ghosts pending.ghosts) in_desk (opened_told pending.ghosts opening (device_of folder.ghosts old)) (opened_answer origin) left (device_of folder.ghosts new) Writes
-RanAtDesk (openings.Wrap opening) origin old new left Writes =
-    WasHeld (wrap_told folder.ghosts pending.ghosts) in_desk (wrap_opened_told pending.ghosts opening (device_of folder.ghosts old)) (opened_answer origin) left (device_of folder.ghosts new) Writes
+abbrev pub RanAtDesk : Opened → Origin → FolderStore → FolderStore → Stretch → Result (Option Leave) SimFault → (List ℕ → Type 0) → Type 0
+RanAtDesk (openings.File opening) origin old new over left Writes =
+    WasHeld (file_told folder.ghosts pending.ghosts) in_desk (opened_told pending.ghosts opening (device_of folder.ghosts old)) (opened_answer origin) over left (device_of folder.ghosts new) Writes
+RanAtDesk (openings.Wrap opening) origin old new over left Writes =
+    WasHeld (wrap_told folder.ghosts pending.ghosts) in_desk (wrap_opened_told pending.ghosts opening (device_of folder.ghosts old)) (opened_answer origin) over left (device_of folder.ghosts new) Writes
 
 -- what is answered behind the lines: one line more where the port was given up
 abbrev pub IsAnswered : Result (Option Leave) SimFault → Result Unit SimFault → Option (List ℕ) → Option (List ℕ) → Type 0

@@ -4,6 +4,7 @@ pub mod Answers
 pub mod Sides
 pub mod DeskLines
 pub mod Asked
+pub mod Read
 pub mod Held
 pub mod Stored
 pub mod Places

@@ -30,10 +30,10 @@ use Rattle.trace_script.specs.declared.line.Line.{Line}
 use Rattle.trace_script.specs.declared.line.Line.TheVariants as lines
 use Rattle.trace_script.specs.declared.line.Unsynced.{Unsynced}
 use Rattle.trace_script.specs.Lines.{pick_of}
-use Rattle.trace_script.specs.declared.fault.ScriptFault.{ScriptFault}
-use Rattle.recorder.specs.Faults.{script_fault}
+use Rattle.trace_script.specs.Reading.{Place, place, HasNext, HasEnded}
 use Rattle.recorder.specs.Sides.{Alone}
 use Rattle.recorder.specs.Held.{WasHeld}
+use Rattle.recorder.specs.Read.{Stretch, stretch, IsBrokenOff}
 use Rattle.recorder.specs.Openings.{told_of, Opens, IsNoSpec}
 use Rattle.recorder.specs.Stored.{TellsStore, TellsFiles}
 use Rattle.recorder.specs.Texts.{greeting, line_of}
@@ -62,30 +62,34 @@ LeavesSo Created spec old new =
 LeavesSo Resumed spec old new = Leaves (device old) (device new) (λ image. (device old).images image ⊎ ReadsAlike (reads_of old) image)
 
 -- lines were run on a port over this opening, which then was dropped
-abbrev pub RanOn : Opened → Origin → MemStore → MemStore → Result (Option Leave) SimFault → (List ℕ → Type 0) → Type 0
-RanOn (openings.File opening) origin old new left Writes =
-    WasHeld (file_told mem.ghosts pending.ghosts) Alone (opened_told pending.ghosts opening (device old)) (greeting origin) left (device new) Writes
-RanOn (openings.Wrap opening) origin old new left Writes =
-    WasHeld (wrap_told mem.ghosts pending.ghosts) Alone (wrap_opened_told pending.ghosts opening (device old)) (greeting origin) left (device new) Writes
+abbrev pub RanOn : Opened → Origin → MemStore → MemStore → Stretch → Result (Option Leave) SimFault → (List ℕ → Type 0) → Type 0
+RanOn (openings.File opening) origin old new over left Writes =
+    WasHeld (file_told mem.ghosts pending.ghosts) Alone (opened_told pending.ghosts opening (device old)) (greeting origin) over left (device new) Writes
+RanOn (openings.Wrap opening) origin old new over left Writes =
+    WasHeld (wrap_told mem.ghosts pending.ghosts) Alone (wrap_opened_told pending.ghosts opening (device old)) (greeting origin) over left (device new) Writes
 
 -- a port was made over the store, and the lines behind this one were run on it until it was given up
-pub record WasRun (origin : Origin) (spec : Spec) (old new : MemStore) (left : Result (Option Leave) SimFault) (Writes : List ℕ → Type 0) : Type 0 where
+pub record WasRun (origin : Origin) (spec : Spec) (old new : MemStore) (over : Stretch) (left : Result (Option Leave) SimFault) (Writes : List ℕ → Type 0) : Type 0 where
   pub mid : MemStore
   pub opening : Opened
   pub opens : Opens (reads_of old) (told_of opening (device mid)) spec origin
   pub moments : LeavesSo origin spec old mid
-  pub ran : RanOn opening origin mid new left Writes
+  pub ran : RanOn opening origin mid new over left Writes
 
 -- a run that a fault ended, as what came of its line
 abbrev pub ended_so : Result (Option Leave) SimFault → Result (Option Leave) Stop
 ended_so (Ok left) = Ok left
 ended_so (Err fault) = Err (stops.Failed fault)
 
--- what comes of a line that makes a port: it was run so, or there is no port
-abbrev pub ComesOf : Origin → Spec → MemStore → MemStore → Result (Option Leave) Stop → (List ℕ → Type 0) → Type 0
-ComesOf origin spec old new (Ok left) Writes = WasRun origin spec old new (Ok left) Writes
-ComesOf origin spec old new (Err (stops.Failed fault)) Writes = WasRun origin spec old new (Err fault) Writes
-ComesOf origin spec old new (Err (stops.Refused refusal)) Writes = LeavesSo origin spec old new × Writes []
+-- no more of the script was read
+abbrev pub ReadsNothing : Stretch → Type 0
+ReadsNothing over = over.to ≡ over.from
+
+-- what comes of a line that makes a port, and of the stretch of the script behind it: it was run so, or there is no port
+abbrev pub ComesOf : Origin → Spec → MemStore → MemStore → Stretch → Result (Option Leave) Stop → (List ℕ → Type 0) → Type 0
+ComesOf origin spec old new over (Ok left) Writes = WasRun origin spec old new over (Ok left) Writes
+ComesOf origin spec old new over (Err (stops.Failed fault)) Writes = WasRun origin spec old new over (Err fault) Writes
+ComesOf origin spec old new over (Err (stops.Refused refusal)) Writes = LeavesSo origin spec old new × ReadsNothing over × Writes []
 
 -- a crash left what was picked of the store and is answered of, or it can't leave that and the store stays as it is
 pub data Crashes (unsynced : Unsynced) (old new : MemStore) : List ℕ → Type 0 where
@@ -135,43 +139,47 @@ DoesAlone line old new (Err (stops.Refused refusal)) Writes = ⊥
 abbrev pub IsNoWrap : MemStore → MemStore → Result (Option Leave) Stop → (List ℕ → Type 0) → Type 0
 IsNoWrap old new result Writes = (new ≡ old) × (result ≡ Err (stops.Refused (refusals.Create BadSpec))) × Writes []
 
--- what comes of a line
-abbrev pub Runs : Line → MemStore → MemStore → Result (Option Leave) Stop → (List ℕ → Type 0) → Type 0
-Runs (lines.CreateFile limit) old new result Writes = ComesOf Created File old new result Writes
-Runs (lines.ResumeFile limit) old new result Writes = ComesOf Resumed File old new result Writes
-Runs (lines.CreateWrap size count) old new result Writes = ComesOf Created (Wrap size count) old new result Writes ⊎ (IsNoSpec (Wrap size count) × IsNoWrap old new result Writes)
-Runs (lines.CreateTime millis count) old new result Writes = ComesOf Created (Timed millis count) old new result Writes ⊎ (IsNoSpec (Timed millis count) × IsNoWrap old new result Writes)
-Runs lines.ResumeWrap old new result Writes = (spec : Spec) → ComesOf Resumed spec old new result Writes
-Runs line old new result Writes = DoesAlone line old new result Writes
+-- what comes of a line, with those behind it that its port takes
+abbrev pub Runs : Line → MemStore → MemStore → Stretch → Result (Option Leave) Stop → (List ℕ → Type 0) → Type 0
+Runs (lines.CreateFile limit) old new over result Writes = ComesOf Created File old new over result Writes
+Runs (lines.ResumeFile limit) old new over result Writes = ComesOf Resumed File old new over result Writes
+Runs (lines.CreateWrap size count) old new over result Writes = ComesOf Created (Wrap size count) old new over result Writes ⊎ (IsNoSpec (Wrap size count) × ReadsNothing over × IsNoWrap old new result Writes)
+Runs (lines.CreateTime millis count) old new over result Writes = ComesOf Created (Timed millis count) old new over result Writes ⊎ (IsNoSpec (Timed millis count) × ReadsNothing over × IsNoWrap old new result Writes)
+Runs lines.ResumeWrap old new over result Writes = (spec : Spec) → ComesOf Resumed spec old new over result Writes
+Runs line old new over result Writes = ReadsNothing over × DoesAlone line old new result Writes
 
 -- a line was run whole: with its port, if it made one, and what is answered once that is no more
-pub record IsRunWhole (line : Line) (old new : MemStore) (result : Result Unit SimFault) (was now : Option (List ℕ)) : Type 0 where
+pub record IsRunWhole (line : Line) (old new : MemStore) (over : Stretch) (result : Result Unit SimFault) (was now : Option (List ℕ)) : Type 0 where
   pub mid : MemStore
   pub between : Option (List ℕ)
   pub left : Result (Option Leave) Stop
-  pub runs : Runs line old mid left (λ text. Appends was between text)
+  pub runs : Runs line old mid over left (λ text. Appends was between text)
   pub over : OnOk result ((text : List ℕ) × IsOver left mid new text × Appends between now text)
   pub fault : IfErr result (IsItsFault left)
 
--- lines were run whole one after another, each on the store that the one before it left
-pub data AreRun (first : MemStore) (out : Option (List ℕ)) : List Line → MemStore → Option (List ℕ) → Type 0 where
-  none : AreRun first out [] first out
-  more : {before : List Line} {mid new : MemStore} {was now : Option (List ℕ)} (line : Line) → AreRun first out before mid was → IsRunWhole line mid new (Ok tt) was now → AreRun first out (before ++ line ∷ []) new now
+-- lines were run whole one after another, each on the store that the one before it left; with those that their ports took they are the script's up to here
+pub data AreRun (first : MemStore) (start : Place) (out : Option (List ℕ)) : List Line → MemStore → Place → Option (List ℕ) → Type 0 where
+  none : AreRun first start out [] first start out
+  more : {before : List Line} {mid new : MemStore} {from next to : Place} {was now : Option (List ℕ)} (line : Line) → AreRun first start out before mid from was → HasNext false from next line
+      → IsRunWhole line mid new (stretch false next to) (Ok tt) was now → AreRun first start out (before ++ line ∷ []) new to now
 
 -- the lines of a script were run; where a fault ended that, it is the script's, or that of the line which came next
-pub data Simulates (old new : MemStore) (was now : Option (List ℕ)) : Result Unit SimFault → Type 0 where
-  to_end : (done : List Line) → AreRun old was done new now → Simulates old new was now (Ok tt)
-  no_line : (done : List Line) (fault : ScriptFault) → AreRun old was done new now → Simulates old new was now (Err (script_fault fault))
-  broken_off : {mid : MemStore} {between : Option (List ℕ)} (done : List Line) (line : Line) (fault : SimFault) → AreRun old was done mid between → IsRunWhole line mid new (Err fault) between now → Simulates old new was now (Err fault)
+pub data Simulates (old new : MemStore) (start end : Place) (was now : Option (List ℕ)) : Result Unit SimFault → Type 0 where
+  to_end : {last : Place} (done : List Line) → AreRun old start was done new last now → HasEnded last end → Simulates old new start end was now (Ok tt)
+  no_line : {last : Place} (done : List Line) (fault : SimFault) → AreRun old start was done new last now → IsBrokenOff false last end fault → Simulates old new start end was now (Err fault)
+  broken_off : {mid : MemStore} {last next : Place} {between : Option (List ℕ)} (done : List Line) (line : Line) (fault : SimFault) → AreRun old start was done mid last between → HasNext false last next line
+      → IsRunWhole line mid new (stretch false next end) (Err fault) between now → Simulates old new start end was now (Err fault)
 
 -- of two causes the first
 abbrev pub first_of : Result Unit SimFault → Result Unit SimFault → Result Unit SimFault
 first_of (Ok done) later = later
 first_of (Err fault) later = Err fault
 
--- a script was run over a store that was blank at first and had one file, and what was written was written out
-pub data IsRun (was now : Option (List ℕ)) : Result Unit SimFault → Type 0 where
-  runs : {old new : MemStore} {mid : Option (List ℕ)} {done : Result Unit SimFault} → IsSettled old (replicate 1 []) → fuse_of old ≡ Whole → Simulates old new was mid done → Keeps mid now → IsRun was now done
-  not_written_out : {old new : MemStore} {mid : Option (List ℕ)} → IsSettled old (replicate 1 []) → fuse_of old ≡ Whole → Simulates old new was mid (Ok tt) → Keeps mid now → IsRun was now (Err faults.Write)
+-- a script, of which a reader had and has this left, was run over a store that was blank at first and had one file, and what was written was written out
+pub data IsRun (had left : Option (List ℕ)) (was now : Option (List ℕ)) : Result Unit SimFault → Type 0 where
+  runs : {old new : MemStore} {lines : ℕ} {mid : Option (List ℕ)} {done : Result Unit SimFault} → IsSettled old (replicate 1 []) → fuse_of old ≡ Whole → Simulates old new (place 0 had) (place lines left) was mid done → Keeps mid now
+      → IsRun had left was now done
+  not_written_out : {old new : MemStore} {lines : ℕ} {mid : Option (List ℕ)} → IsSettled old (replicate 1 []) → fuse_of old ≡ Whole → Simulates old new (place 0 had) (place lines left) was mid (Ok tt) → Keeps mid now
+      → IsRun had left was now (Err faults.Write)
   -- there was no memory for the script or its store
-  no_memory : Keeps was now → IsRun was now (Err faults.NoMemory)
+  no_memory : Keeps was now → IsRun had left was now (Err faults.NoMemory)

@@ -3,6 +3,9 @@ pub mod Keywords
 pub mod Numbers
 pub mod One
 pub mod Others
+pub mod Present
+pub mod Records
 pub mod Rows
+pub mod Taken
 pub mod Terms
 pub mod Words

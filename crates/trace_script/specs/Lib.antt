@@ -1,4 +1,5 @@
 pub mod Keywords
 pub mod Lines
+pub mod Reading
 pub mod Spellings
 pub mod Table

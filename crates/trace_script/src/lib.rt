@@ -8,6 +8,7 @@ mod fault;
 mod keyword;
 mod laws;
 mod line;
+mod reading;
 mod script;
 mod spelling;
 

@@ -1,16 +1,11 @@
 // The lines of a script, read one at a time.
-ghost use Rattle.std.specs.Prelude.{IfOk, IfSome};
-ghost use Rattle.trace_script.specs.Lines.{IsWithinLimits, IsOfRecord};
-ghost use Rattle.trace_script.specs.Table.{Spells};
+ghost use Rattle.std.specs.Prelude.{◌≡◌, ◌↔◌, ◌<◌, ◌≤◌, ◌+◌, ◌^◌, IsTrue, length, slice_index};
 
 use crate::fault::ScriptFault;
 use crate::line::{Line, parse};
+use crate::reading::{LONGEST, read_line, with_break};
 use std::alloc::{AllocError, Global};
-use std::io;
-use std::io::{BufRead, Read};
-
-/// Bytes of the longest line.
-const LONGEST: usize = 300_000;
+use std::io::BufRead;
 
 /// Bytes of the longest script.
 const MOST_BYTES: u64 = 1_099_511_627_776;
@@ -19,18 +14,29 @@ const MOST_BYTES: u64 = 1_099_511_627_776;
 pub struct Script<'r, R: BufRead> {
     alloc: Global,
     reader: &'r mut R,
+    /// The bytes of the present line, without its line break.
     text: Vec<u8>,
+    /// How many lines were read.
     number: u64,
+    /// How many bytes may still come.
     left: u64,
     /// Whether each line that isn't for a port in a desk is a bad command.
     is_of_desk: bool,
+    ghost counted: { number + left ≤ 2 ^ 40 },
 }
 
 impl<'r, R: BufRead> Script<'r, R> {
-    ghost use Rattle.std.specs.Prelude.{◌≡◌, false, true};
+    ghost use Rattle.std.specs.Prelude.{◌≡◌, ◌⊎◌, Ok, false, true, IfErr, IfOk, IfSome, MatchOption, MatchResult};
+    ghost use Rattle.trace_script.specs.Lines.{IsWithinLimits, IsOfRecord};
+    ghost use Rattle.trace_script.specs.Spellings.{IsFound};
+    ghost use Rattle.trace_script.specs.Table.{Spells};
+    ghost use Rattle.trace_script.specs.Reading.{place, IsTaken, IsTooLong, IsOver, IsCutOff, IsSilent, IsCommand, IsRefused, HasNext, HasEnded, HasStopped};
 
     pub fn new(alloc: Global, reader: &'r mut R) -> Result<Script<'r, R>, AllocError>
-        ensures { IfOk result (λ script. script.is_of_desk ≡ false) }
+        ensures of_desk { IfOk result (λ script. script.is_of_desk ≡ false) }
+        ensures name { IfOk result (λ script. script.reader.ghost_name ≡ reader.entry.ghost_name) }
+        ensures now { IfOk result (λ script. script.reader.now ≡ reader.entry.now) }
+        ensures number { IfOk result (λ script. script.number ≡ 0) }
     {
         let text = Vec::with_capacity(alloc, LONGEST + 1)?;
         Ok(Script {
@@ -45,12 +51,14 @@ impl<'r, R: BufRead> Script<'r, R> {
 
     /// A script whose every line is for a port in a desk.
     pub fn of_desk(alloc: Global, reader: &'r mut R) -> Result<Script<'r, R>, AllocError>
-        ensures { IfOk result (λ script. script.is_of_desk ≡ true) }
+        ensures of_desk { IfOk result (λ script. script.is_of_desk ≡ true) }
+        ensures name { IfOk result (λ script. script.reader.ghost_name ≡ reader.entry.ghost_name) }
+        ensures now { IfOk result (λ script. script.reader.now ≡ reader.entry.now) }
+        ensures number { IfOk result (λ script. script.number ≡ 0) }
     {
-        Ok(Script {
-            is_of_desk: true,
-            ..Script::new(alloc, reader)?
-        })
+        let mut script = Script::new(alloc, reader)?;
+        script.is_of_desk = true;
+        Ok(script)
     }
 
     /// The fault of the present line.
@@ -62,47 +70,53 @@ impl<'r, R: BufRead> Script<'r, R> {
 
     /// Whether there is a line more, whose text then is in `text`.
     fn advance(&mut self) -> Result<bool, ScriptFault>
-        ensures { self.new.is_of_desk ≡ self.old.is_of_desk }
+        ensures same { self.new.is_of_desk ≡ self.old.is_of_desk }
+        ensures name { self.new.reader.ghost_name ≡ self.old.reader.ghost_name }
+        ensures line { let was = place self.old.number (R.remaining self.old.reader.now) in
+            let is = place self.new.number (R.remaining self.new.reader.now) in
+            result ≡ Ok true → IsTaken was is self.new.text.items ⊎ IsTooLong was is self.new.text.items }
+        ensures none { result ≡ Ok false → IsOver (place self.old.number (R.remaining self.old.reader.now)) (place self.new.number (R.remaining self.new.reader.now)) }
+        ensures fault { IfErr result (IsCutOff (R.remaining self.old.reader.now) (R.remaining self.new.reader.now)) }
     {
         self.text.clear();
-        let Ok(count) = read_line(&mut *self.reader, &mut self.text) else {
-            return Err(ScriptFault::Read);
-        };
-        let Some(left) = self.left.checked_sub(count as u64) else {
+        let ending = read_line(&mut *self.reader, &mut self.text)?;
+        let size = with_break(self.text.len(), ending) as u64;
+        if size == 0 {
+            return Ok(false);
+        }
+        let Some(left) = self.left.checked_sub(size) else {
             return Err(ScriptFault::Read);
         };
         self.left = left;
-        self.number = self.number.saturating_add(1);
-        if self.text.last() == Some(&b'\n') {
-            self.text.pop();
-        }
-        Ok(count > 0)
+        self.number += 1;
+        Ok(true)
     }
 
     /// The line, where it may stand in this script.
-    fn allowed(&self, line: Option<Line>) -> Result<Option<Line>, ScriptFault>
+    fn allowed(&self, line: Option<Line>) -> Result<Line, ScriptFault>
         requires limits { IfSome line IsWithinLimits }
-        requires spelled { IfSome line (λ it. Spells it self.now.text.items) }
-        ensures sound { IfOk result (λ found. IfSome found IsWithinLimits) }
-        ensures spells { IfOk result (λ found. IfSome found (λ line. Spells line self.now.text.items)) }
-        ensures of_desk { self.now.is_of_desk ≡ true → IfOk result (λ found. IfSome found IsOfRecord) }
+        requires spelled { IsFound (λ it. Spells it self.now.text.items) line }
+        ensures sound { IfOk result IsWithinLimits }
+        ensures spells { IfOk result (λ it. Spells it self.now.text.items) }
+        ensures of_desk { self.now.is_of_desk ≡ true → IfOk result IsOfRecord }
+        ensures refused { IfErr result (λ fault. (fault ≡ ScriptFault.BadCommand self.now.number)
+            × ((it : Line) → Spells it self.now.text.items → (self.now.is_of_desk ≡ true → IsOfRecord it) → ⊥)) }
     {
-        let is_allowed = match &line {
-            Some(line) => !self.is_of_desk || line.is_of_desk(),
-            None => false,
+        let Some(line) = line else {
+            return Err(self.bad_command());
         };
-        if is_allowed {
-            return Ok(line);
+        if self.is_of_desk && !line.is_of_desk() {
+            drop(line);
+            return Err(self.bad_command());
         }
-        drop(line);
-        Err(self.bad_command())
+        Ok(line)
     }
 
     /// The line that the text spells; None where it is empty or a remark.
     fn present(&self) -> Result<Option<Line>, ScriptFault>
         ensures sound { IfOk result (λ found. IfSome found IsWithinLimits) }
-        ensures spells { IfOk result (λ found. IfSome found (λ line. Spells line self.now.text.items)) }
-        ensures of_desk { self.now.is_of_desk ≡ true → IfOk result (λ found. IfSome found IsOfRecord) }
+        ensures found { IfOk result (λ found. MatchOption found (IsSilent self.now.text.items) (λ line. IsCommand self.now.is_of_desk line self.now.text.items)) }
+        ensures fault { IfErr result (λ fault. ((fault ≡ ScriptFault.BadCommand self.now.number) × IsRefused self.now.is_of_desk self.now.text.items) ⊎ (fault ≡ ScriptFault.NoMemory)) }
     {
         if self.text.len() > LONGEST {
             return Err(self.bad_command());
@@ -110,10 +124,14 @@ impl<'r, R: BufRead> Script<'r, R> {
         let Ok(text) = str::from_utf8(&self.text) else {
             return Err(self.bad_command());
         };
-        if text.is_empty() || text.starts_with('#') {
+        if text.is_empty() {
             return Ok(None);
         }
-        self.allowed(parse(self.alloc, text)?)
+        if is_remark(text.as_bytes()) {
+            return Ok(None);
+        }
+        let line = self.allowed(parse(self.alloc, text)?)?;
+        Ok(Some(line))
     }
 
     /// The next line that isn't empty or a remark.
@@ -122,6 +140,11 @@ impl<'r, R: BufRead> Script<'r, R> {
         ensures spells { IfOk result (λ found. IfSome found (λ line. Spells line self.new.text.items)) }
         ensures of_desk { self.old.is_of_desk ≡ true → IfOk result (λ found. IfSome found IsOfRecord) }
         ensures same { self.new.is_of_desk ≡ self.old.is_of_desk }
+        ensures name { self.new.reader.ghost_name ≡ self.old.reader.ghost_name }
+        ensures read { let was = place self.old.number (R.remaining self.old.reader.now) in
+            let is = place self.new.number (R.remaining self.new.reader.now) in
+            MatchResult result
+            (λ found. MatchOption found (HasEnded was is) (HasNext self.old.is_of_desk was is)) (HasStopped self.old.is_of_desk was is) }
     {
         for _line in 0..u64::MAX {
             if !self.advance()? {
@@ -133,11 +156,12 @@ impl<'r, R: BufRead> Script<'r, R> {
             }
             drop(found);
         }
-        Ok(None)
+        Err(ScriptFault::Read)
     }
 }
 
-/// Puts the next line behind the text, or as much of it as shows that it is too long.
-fn read_line<R: BufRead>(reader: &mut R, text: &mut Vec<u8>) -> io::Result<usize> {
-    reader.take(LONGEST as u64 + 1).read_until(b'\n', text)
+fn is_remark(text: &[u8]) -> bool
+    ensures { IsTrue result ↔ ((slice_index text.now 0 ≡ 35) × (0 < length text.now)) }
+{
+    matches!(text, [b'#', ..])
 }
