@@ -8,6 +8,7 @@ pub mod Running
 pub mod Simulating
 pub mod Starting
 pub mod Storing
+pub mod Through
 pub mod Turning
 pub mod Written
 pub mod Commanding

@@ -5,6 +5,7 @@ pub mod Sides
 pub mod DeskLines
 pub mod Asked
 pub mod Held
+pub mod Read
 pub mod Stored
 pub mod Places
 pub mod Openings

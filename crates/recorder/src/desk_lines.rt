@@ -6,7 +6,8 @@ ghost use Rattle.trace_script.specs.Lines.{IsWithinLimits, IsNumbered};
 ghost use Rattle.recorder.specs.Sides.{AtDesk, first_side, desk_seen, seat_seen, side_seen};
 ghost use Rattle.recorder.specs.DeskLines.{IsAskedFor, IsAskedAtDesk};
 ghost use Rattle.recorder.specs.Asked.{IsAsked};
-ghost use Rattle.recorder.specs.Held.{Ran, IsAtDesk};
+ghost use Rattle.recorder.specs.Held.{IsAtDesk};
+ghost use Rattle.recorder.specs.Read.{RanThrough, stretch};
 
 use crate::answer::Answer;
 use crate::answers::Answers;
@@ -33,7 +34,10 @@ pub fn run_desk<P: TracePort, R: BufRead, W: Write>(
     ensures name { desk.new.port.ghost_name ≡ desk.old.port.ghost_name }
     ensures same { P.lender desk.new.port.now ≡ P.lender desk.old.port.now }
     ensures writer { answers.new.writer.ghost_name ≡ answers.old.writer.ghost_name }
-    ensures run { Ran P.told (AtDesk (first_side (desk_seen P.TracePort desk.old))) result (IsAtDesk (desk_seen P.TracePort desk.new))
+    ensures of_desk { script.new.is_of_desk ≡ script.old.is_of_desk }
+    ensures reader { script.new.reader.ghost_name ≡ script.old.reader.ghost_name }
+    ensures run { let over = stretch script.old.is_of_desk (R.remaining script.old.reader.now) (R.remaining script.new.reader.now) in
+        RanThrough P.told (AtDesk (first_side (desk_seen P.TracePort desk.old))) over result (IsAtDesk (desk_seen P.TracePort desk.new))
         (λ text. Appends (W.contents answers.old.writer.now) (W.contents answers.new.writer.now) text) }
 {
     let mut attached = Attached::new(alloc);
@@ -49,7 +53,7 @@ pub fn run_desk<P: TracePort, R: BufRead, W: Write>(
             },
         }
     }
-    Ok(None)
+    Err(SimFault::Read)
 }
 
 /// Asks a desk, or its port, what the line says, and lets go of the line.

@@ -29,4 +29,4 @@ returns-clause-run g c =
     ran_on told (Alone p) (AtDesk (new_side p)) c.run_desk.result (λ end. IsLetGo told end c.port-1.given.0) _ _ _
     (one_told told (Alone p) (AtDesk (new_side p)) lines.Desk (Answered Done) Done _ _ (no_effect, comes_to_desk) refl c.in_ok-tell.ensures.text)
     (ran_to_end told (AtDesk (new_side p)) c.run_desk.result (desk_seen g.P.TracePort end) c.port-1.given.0 _ finished
-    (ran_from_new told p first c.run_desk.result (IsAtDesk (desk_seen g.P.TracePort end)) _ begun c.run_desk.ensures.run))
+    (ran_from_new told p first c.run_desk.result (IsAtDesk (desk_seen g.P.TracePort end)) _ begun c.run_desk.ensures.run.ran))
