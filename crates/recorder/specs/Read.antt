@@ -1,7 +1,5 @@
 -- How the lines of a script were read while they were run.
-use Rattle.std.specs.Prelude.{◌≡◌, ℕ, Bool, Option, Some, None, List, [], ◌∷◌, Result, Ok, Err}
-use Rattle.std.specs.declared.vec.Vec.{Vec}
-use Rattle.std.specs.declared.alloc.Global.{Global}
+use Rattle.std.specs.Prelude.{◌≡◌, ◌≤◌, ℕ, Bool, Option, Some, None, List, [], ◌∷◌, Result, Ok, Err}
 use Rattle.trace_port.specs.Port.{Told}
 use Rattle.trace_script.specs.Reading.{HasNext, HasEnded, HasStopped, AreGiven}
 use Rattle.trace_script.specs.declared.line.Line.{Line}
@@ -24,10 +22,15 @@ pub record Stretch : Type 0 where
 abbrev pub stretch : Bool → Option (List ℕ) → Option (List ℕ) → Stretch
 stretch of_desk from to = record { of_desk = of_desk; from = from; to = to }
 
+-- the line names a file that isn't one of so many
+abbrev pub IsBeyond : ℕ → Line → Type 0
+IsBeyond files (lines.Bytes file bytes) = files ≤ file
+IsBeyond files _ = ⊥
+
 -- why no line more was done: the script gives none, or the next one names a file that isn't there, or what the last one was answered wasn't written
 pub data IsBrokenOff (of_desk : Bool) (from to : Option (List ℕ)) : SimFault → Type 0 where
   no_line : (why : ScriptFault) → HasStopped of_desk from to why → IsBrokenOff of_desk from to (script_fault why)
-  no_file : (number : ℕ) {file : ℕ} {bytes : Vec ℕ Global} → HasNext of_desk from to (lines.Bytes file bytes) → IsBrokenOff of_desk from to (script_fault (scripts.BadCommand number))
+  no_file : (number files : ℕ) (line : Line) → HasNext of_desk from to line → IsBeyond files line → IsBrokenOff of_desk from to (script_fault (scripts.BadCommand number))
   not_written : to ≡ from → IsBrokenOff of_desk from to faults.Write
 
 -- what was read behind the lines that were done

@@ -1,5 +1,5 @@
 // What a run does while a port is held in a desk.
-ghost use Rattle.std.specs.Prelude.{◌≡◌, ◌≤◌};
+ghost use Rattle.std.specs.Prelude.{◌≡◌, ◌≤◌, true};
 ghost use Rattle.std.specs.Io.KnownBytes.{Appends};
 ghost use Rattle.tracees.specs.Effects.{Effect, no_effect};
 ghost use Rattle.trace_script.specs.Lines.{IsWithinLimits, IsNumbered};
@@ -7,7 +7,7 @@ ghost use Rattle.recorder.specs.Sides.{AtDesk, first_side, desk_seen, seat_seen,
 ghost use Rattle.recorder.specs.DeskLines.{IsAskedFor, IsAskedAtDesk};
 ghost use Rattle.recorder.specs.Asked.{IsAsked};
 ghost use Rattle.recorder.specs.Held.{IsAtDesk};
-ghost use Rattle.recorder.specs.Read.{RanThrough, stretch};
+ghost use Rattle.recorder.specs.Read.{IsBeyond, RanThrough, stretch};
 
 use crate::answer::Answer;
 use crate::answers::Answers;
@@ -42,18 +42,29 @@ pub fn run_desk<P: TracePort, R: BufRead, W: Write>(
 {
     let mut attached = Attached::new(alloc);
     for _line in 0..u64::MAX {
-        match script.next_line()? {
-            None => return Ok(None),
-            Some(Line::Bytes(file, _)) if file >= files => return Err(SimFault::from(
-                script.bad_command(),
-            )),
-            Some(line) => match ask_owned(alloc, desk, &mut attached, line) {
-                Reply::Told(answer) => answers.tell(answer)?,
-                Reply::Left(leave) => return Ok(Some(leave)),
-            },
+        let Some(line) = script.next_line()? else {
+            return Ok(None);
+        };
+        if is_beyond(&line, files) {
+            drop(line);
+            return Err(SimFault::from(script.bad_command()));
+        }
+        match ask_owned(alloc, desk, &mut attached, line) {
+            Reply::Told(answer) => answers.tell(answer)?,
+            Reply::Left(leave) => return Ok(Some(leave)),
         }
     }
     Err(SimFault::Read)
+}
+
+/// Whether the line names a file that isn't one of so many.
+fn is_beyond(line: &Line, files: u32) -> bool
+    ensures { result ≡ true → IsBeyond files line.now }
+{
+    match line {
+        Line::Bytes(file, _) => *file >= files,
+        _ => false,
+    }
 }
 
 /// Asks a desk, or its port, what the line says, and lets go of the line.

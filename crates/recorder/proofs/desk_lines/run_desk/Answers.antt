@@ -1,14 +1,13 @@
-use Rattle.std.proofs.Common.{map, Some, refl, ap, subst, ◌∙◌, ◌≡◌, Bool, Err}
+use Rattle.std.proofs.Common.{map, Some, refl, ap, subst, ◌∙◌, ◌≡◌, Bool, Err, rules}
 use Rattle.std.proofs.lemmas.Result.{err_from_is_err_and}
 use Rattle.trace_script.specs.Reading.{HasNext, HasStopped}
 use Rattle.trace_script.specs.declared.line.Line.{Line}
 use Rattle.trace_script.specs.declared.fault.ScriptFault.TheVariants as scripts
-use Rattle.trace_script.specs.declared.line.Line.TheVariants as lines
 use Rattle.recorder.specs.declared.fault.SimFault.TheVariants as faults
 use Rattle.recorder.specs.Sides.{AtDesk, first_side, desk_seen, seat_seen, side_seen}
 use Rattle.recorder.specs.Held.{IsAtDesk}
 use Rattle.recorder.specs.Read.{IsBrokenOff}
-use Rattle.recorder.proofs.Through.{reads_none, reads_on, asked_of, next_line, no_more, none_read, ran_through, left_through, failed_through, failed_behind}
+use Rattle.recorder.proofs.Through.{reads_none, reads_on, next_line, no_more, none_read, ran_through, left_through, failed_through, failed_behind}
 use Rattle.recorder.proofs.desk_lines.run_desk.Goals as goal
 
 pub loop-line-init : goal.loop-line-init
@@ -24,42 +23,41 @@ loop-line-init g c =
           c.new-attached.ensures.moment (ap (map seat_seen) c.new-attached.ensures.none);
     }
 
-pub returns-in_err-next_line-clause-run : goal.returns-in_err-next_line-clause-run
-returns-in_err-next_line-clause-run g c =
+pub returns-in_err-line-clause-run : goal.returns-in_err-line-clause-run
+returns-in_err-line-clause-run g c =
     let told = g.P.TracePort.told in
     let first = AtDesk (first_side (desk_seen g.P.TracePort c.args.desk.now)) in
     let p = err_from_is_err_and c.from_residual.result c.from_residual.ensures.1 in
     rw (p.1, p.2) (failed_through told first (AtDesk (side_seen g.P.TracePort c.loop-line.desk c.loop-line.attached)) (IsAtDesk (desk_seen g.P.TracePort c.loop-line.desk)) _ _ _ _ c.args.script.now.is_of_desk _ _ _ c.loop-line.invariant.run refl
-    (IsBrokenOff.no_line c.in_err-next_line.field-0.0 (subst (λ (d : Bool). HasStopped d (g.R.Read.remaining c.loop-line.script.reader.now) (g.R.Read.remaining c.next_line.new.self.reader.now) c.in_err-next_line.field-0.0) c.loop-line.invariant.of_desk c.in_err-next_line.ensures.next)))
+    (IsBrokenOff.no_line c.in_err-line.field-0.0 (subst (λ (d : Bool). HasStopped d (g.R.Read.remaining c.loop-line.script.reader.now) (g.R.Read.remaining c.next_line.new.self.reader.now) c.in_err-line.field-0.0) c.loop-line.invariant.of_desk c.in_err-line.ensures.next)))
 
-pub returns-in-None-clause-run : goal.returns-in-None-clause-run
-returns-in-None-clause-run g c =
+pub returns-in_default-clause-run : goal.returns-in_default-clause-run
+returns-in_default-clause-run g c =
     ran_through g.P.TracePort.told (AtDesk (first_side (desk_seen g.P.TracePort c.args.desk.now))) (AtDesk (side_seen g.P.TracePort c.loop-line.desk c.loop-line.attached)) (IsAtDesk (desk_seen g.P.TracePort c.loop-line.desk)) _ _ c.args.script.now.is_of_desk _ _ _ c.loop-line.invariant.run refl
-    (no_more c.loop-line.script.is_of_desk _ _ _ c.in-None.is c.in_ok-next_line.ensures.next)
+    (no_more c.loop-line.script.is_of_desk _ _ _ (search rules) c.in_ok-line.ensures.next)
 
-pub returns-in-Some-Bytes-clause-run : goal.returns-in-Some-Bytes-clause-run
-returns-in-Some-Bytes-clause-run g c =
-    let at : c.in_ok-next_line.field-0 ≡ Some (lines.Bytes c.in-Some-Bytes.file c.in-Some-Bytes.field-0-1) = cc in
-    let next = next_line c.args.script.now.is_of_desk c.loop-line.script.is_of_desk _ _ _ (lines.Bytes c.in-Some-Bytes.file c.in-Some-Bytes.field-0-1) c.loop-line.invariant.of_desk at c.in_ok-next_line.ensures.next in
+pub returns-then-is_beyond-clause-run : goal.returns-then-is_beyond-clause-run
+returns-then-is_beyond-clause-run g c =
+    let next = next_line c.args.script.now.is_of_desk c.loop-line.script.is_of_desk _ _ _ _ c.loop-line.invariant.of_desk c.in-Some.is c.in_ok-line.ensures.next in
     rw (c.from.ensures, c.bad_command.ensures) (failed_through g.P.TracePort.told (AtDesk (first_side (desk_seen g.P.TracePort c.args.desk.now))) (AtDesk (side_seen g.P.TracePort c.loop-line.desk c.loop-line.attached)) (IsAtDesk (desk_seen g.P.TracePort c.loop-line.desk)) _ _ _ _ c.args.script.now.is_of_desk _ _ _ c.loop-line.invariant.run refl
-    (IsBrokenOff.no_file c.next_line.new.self.number next))
+    (IsBrokenOff.no_file c.next_line.new.self.number c.args.files _ next (c.is_beyond.ensures c.if-is_beyond.true)))
 
 pub returns-in_err-tell-in-Told-clause-run : goal.returns-in_err-tell-in-Told-clause-run
 returns-in_err-tell-in-Told-clause-run g c =
-    let next = next_line c.args.script.now.is_of_desk c.loop-line.script.is_of_desk _ _ _ _ c.loop-line.invariant.of_desk c.in-Some.is c.in_ok-next_line.ensures.next in
+    let next = next_line c.args.script.now.is_of_desk c.loop-line.script.is_of_desk _ _ _ _ c.loop-line.invariant.of_desk c.in-Some.is c.in_ok-line.ensures.next in
     let p = err_from_is_err_and c.from_residual-in_err-tell-in-Told.result c.from_residual-in_err-tell-in-Told.ensures.1 in
     rw (p.1, p.2, c.in_err-tell-in-Told.ensures.fault) (failed_behind g.P.TracePort.told (AtDesk (first_side (desk_seen g.P.TracePort c.args.desk.now))) (AtDesk (side_seen g.P.TracePort c.loop-line.desk c.loop-line.attached)) (AtDesk (side_seen g.P.TracePort c.ask_owned.new.desk c.ask_owned.new.attached)) (IsAtDesk (desk_seen g.P.TracePort c.ask_owned.new.desk)) _
-    c.in-Some.line c.ask_owned.result c.in-Told.answer _ _ c.args.script.now.is_of_desk _ _ _ c.loop-line.invariant.run (asked_of _ _ _ _ c.in-Some.line _ (grind arith) c.ask_owned.ensures.step) c.in-Told.is refl next faults.Write (IsBrokenOff.not_written refl))
+    _ c.ask_owned.result c.in-Told.answer _ _ c.args.script.now.is_of_desk _ _ _ c.loop-line.invariant.run c.ask_owned.ensures.step c.in-Told.is refl next faults.Write (IsBrokenOff.not_written refl))
 
 pub returns-in-Left-clause-run : goal.returns-in-Left-clause-run
 returns-in-Left-clause-run g c =
-    let next = next_line c.args.script.now.is_of_desk c.loop-line.script.is_of_desk _ _ _ _ c.loop-line.invariant.of_desk c.in-Some.is c.in_ok-next_line.ensures.next in
+    let next = next_line c.args.script.now.is_of_desk c.loop-line.script.is_of_desk _ _ _ _ c.loop-line.invariant.of_desk c.in-Some.is c.in_ok-line.ensures.next in
     left_through g.P.TracePort.told (AtDesk (first_side (desk_seen g.P.TracePort c.args.desk.now))) (AtDesk (side_seen g.P.TracePort c.loop-line.desk c.loop-line.attached)) (AtDesk (side_seen g.P.TracePort c.ask_owned.new.desk c.ask_owned.new.attached)) (IsAtDesk (desk_seen g.P.TracePort c.ask_owned.new.desk))
-    c.in-Some.line c.ask_owned.result c.in-Left.leave _ _ c.args.script.now.is_of_desk _ _ _ c.loop-line.invariant.run (asked_of _ _ _ _ c.in-Some.line _ (search rules) c.ask_owned.ensures.step) c.in-Left.is refl next
+    _ c.ask_owned.result c.in-Left.leave _ _ c.args.script.now.is_of_desk _ _ _ c.loop-line.invariant.run c.ask_owned.ensures.step c.in-Left.is refl next
 
 pub loop-line-preserved : goal.loop-line-preserved
 loop-line-preserved g c =
-    let next = next_line c.args.script.now.is_of_desk c.loop-line.script.is_of_desk _ _ _ _ c.loop-line.invariant.of_desk c.in-Some.is c.in_ok-next_line.ensures.next in
+    let next = next_line c.args.script.now.is_of_desk c.loop-line.script.is_of_desk _ _ _ _ c.loop-line.invariant.of_desk c.in-Some.is c.in_ok-line.ensures.next in
     record {
       name = c.ask_owned.ensures.name ∙ c.loop-line.invariant.name;
       same = c.ask_owned.ensures.same ∙ c.loop-line.invariant.same;
@@ -67,7 +65,7 @@ loop-line-preserved g c =
       of_desk = c.next_line.ensures.same ∙ c.loop-line.invariant.of_desk;
       reader = c.next_line.ensures.name ∙ c.loop-line.invariant.reader;
       run = reads_on g.P.TracePort.told (AtDesk (first_side (desk_seen g.P.TracePort c.args.desk.now))) (AtDesk (side_seen g.P.TracePort c.loop-line.desk c.loop-line.attached)) (AtDesk (side_seen g.P.TracePort c.ask_owned.new.desk c.ask_owned.new.attached))
-          c.in-Some.line c.ask_owned.result c.in-Told.answer _ _ _ c.args.script.now.is_of_desk _ _ _ c.loop-line.invariant.run (asked_of _ _ _ _ c.in-Some.line _ ((cc)) c.ask_owned.ensures.step) c.in-Told.is next c.in_ok-tell-in-Told.ensures.text;
+          _ c.ask_owned.result c.in-Told.answer _ _ _ c.args.script.now.is_of_desk _ _ _ c.loop-line.invariant.run c.ask_owned.ensures.step c.in-Told.is next c.in_ok-tell-in-Told.ensures.text;
     }
 
 pub returns-clause-run : goal.returns-clause-run
