@@ -23,6 +23,7 @@ import importing
 import installing
 import keeping
 import listing
+import live
 import locking
 import machine
 import memory
@@ -35,7 +36,7 @@ import wording
 from cases import Skipped
 from program import Program
 
-GROUPS = (rows, scripts, listing, pretty, recording, importing, foreign, absent, keeping, telling, crashes, images, machine, faults, locking, wording, installing, memory)
+GROUPS = (rows, scripts, listing, pretty, recording, importing, foreign, absent, keeping, telling, crashes, images, machine, faults, locking, live, wording, installing, memory)
 
 
 def words():

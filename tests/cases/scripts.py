@@ -125,7 +125,8 @@ def a_script_whose_answers_can_not_be_written_is_told(program):
     with open(program.folder / "answers", "wb") as narrow:
         # the signal for it stays ignored, as it is here
         ran = subprocess.run([program.path, "sim"], stdout=narrow, preexec_fn=limit, restore_signals=False, **how)
-    same((ran.returncode, ran.stderr), (1, b"dbgrec: refused 2 Write\n"))
+    why = b"standard output can't be written: File too large (os error 27)\n"
+    same((ran.returncode, ran.stderr), (1, b"dbgrec: refused 2 Write\n" + why))
     same((program.folder / "answers").read_bytes(), b"end_of_tr")
 
 

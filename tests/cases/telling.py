@@ -145,4 +145,5 @@ def a_listing_onto_a_full_device_is_a_fault(program):
     for command in ("list", "export"):
         with open("/dev/full", "wb") as full:
             ran = subprocess.run([program.path, command, "t"], cwd=program.folder, stdout=full, stderr=subprocess.PIPE, check=False)
-        same((ran.returncode, ran.stderr), (1, b"dbgrec: refused 2 Write\n"))
+        why = b"standard output can't be written: No space left on device (os error 28)\n"
+        same((ran.returncode, ran.stderr), (1, b"dbgrec: refused 2 Write\n" + why))

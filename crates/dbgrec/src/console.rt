@@ -1,9 +1,11 @@
 // The system's clock, and standard error.
+ghost use Rattle.std.specs.Prelude.{◌≡◌, ◌≤◌};
+ghost use Rattle.trace_reader.specs.Observing.{newest_time};
 
 use std::io::IsTerminal;
 use std::thread;
 use std::time::{Clock, Duration, Instant};
-use trace_reader::{Host, Progress};
+use trace_reader::{Host, Observed, Progress};
 
 /// Milliseconds until a run counts as long, and between two of its lines.
 const PATIENCE: u64 = 1_000;
@@ -19,10 +21,12 @@ pub struct Console {
     rt: HostRuntime,
     began: Option<Instant>,
     millis: u64,
+    observed: Observed,
     /// Somebody may look.
     is_seen: bool,
     /// When the last line was shown.
     shown: Option<u64>,
+    ghost risen: { newest_time observed.notes ≤ millis },
 }
 
 impl Console {
@@ -31,9 +35,23 @@ impl Console {
         Console {
             began: Instant::now(&rt).ok(),
             millis: 0,
+            observed: Observed::new(),
             is_seen: !is_quiet && rt.stderr().is_terminal(),
             shown: None,
             rt,
+        }
+    }
+
+    /// Looks at the clock.
+    fn look(&mut self)
+        ensures same { self.new.observed ≡ self.old.observed }
+        ensures rises { self.old.millis ≤ self.new.millis }
+    {
+        if let Some(began) = self.began
+            && let Ok(elapsed) = began.elapsed(&self.rt)
+        {
+            let now = u64::try_from(elapsed.as_millis()).unwrap_or(u64::MAX);
+            self.millis = self.millis.max(now);
         }
     }
 
@@ -46,23 +64,23 @@ impl Console {
 }
 
 impl Host for Console {
-    ghost clock = { λ console. console.millis };
+    ghost observed = { λ console. console.observed.notes };
 
     fn millis(&mut self) -> u64 {
-        if let Some(began) = self.began
-            && let Ok(elapsed) = began.elapsed(&self.rt)
-        {
-            let now = u64::try_from(elapsed.as_millis()).unwrap_or(u64::MAX);
-            self.millis = self.millis.max(now);
-        }
+        self.look();
+        self.observed.note_time(self.millis);
         self.millis
+    }
+
+    fn note_read(&mut self, bytes: &[u8]) {
+        self.observed.note_read(bytes);
     }
 
     fn show(&mut self, progress: Progress) {
         if !self.is_seen {
             return;
         }
-        self.millis();
+        self.look();
         if self.is_due() {
             let Progress {
                 entries,

@@ -4,12 +4,12 @@
 mod console;
 mod outlet;
 
-use clap::error::ErrorKind;
+use clap::error::ErrorKind as MisuseKind;
 use command_line::{Misuse, Request, TraceRequest, asked_for};
 use console::Console;
 use outlet::Outlet;
 use recorder::{Complaint, SimFault, files_for, serve_sim, serve_stream, serve_trace};
-use std::io::IsTerminal;
+use std::io::{ErrorKind, IsTerminal};
 use std::process::ExitCode;
 use std::{env, io};
 use trace_reader::Watched;
@@ -63,10 +63,23 @@ fn fail(rt: &HostRuntime, complaint: &Complaint) -> ExitCode {
     ExitCode::from(complaint.status())
 }
 
+/// Tells that standard output can't be written, and why. A reader that has closed it knows.
+fn fail_to_write(rt: &HostRuntime, complaint: &Complaint, reason: Option<io::Error>) -> ExitCode {
+    let Some(reason) = reason else {
+        return fail(rt, complaint);
+    };
+    if reason.kind() == ErrorKind::BrokenPipe {
+        return ExitCode::FAILURE;
+    }
+    let code = fail(rt, complaint);
+    let _ = eprintln!(rt; "standard output can't be written: {reason}");
+    code
+}
+
 /// Tells what is wrong with the command line, or shows the help that it asks for.
 fn correct(rt: &HostRuntime, misuse: Misuse<'_>) -> ExitCode {
     match misuse {
-        Misuse::Form(error) if error.kind() == ErrorKind::OutOfMemory => {
+        Misuse::Form(error) if error.kind() == MisuseKind::OutOfMemory => {
             fail(rt, &Complaint::from(SimFault::NoMemory))
         }
         Misuse::Form(error) => {
@@ -91,7 +104,9 @@ fn run(rt: &HostRuntime, words: &[String], output: &mut Outlet) -> ExitCode {
     let done = serve(rt, request, output);
     let code = match &done {
         Ok(()) => ExitCode::SUCCESS,
-        Err(complaint) if complaint.is_of_writer() && output.is_closed() => ExitCode::FAILURE,
+        Err(complaint) if complaint.is_of_writer() => {
+            fail_to_write(rt, complaint, output.reason())
+        }
         Err(complaint) => fail(rt, complaint),
     };
     drop(done);

@@ -1,16 +1,16 @@
 // Standard output.
 
-use std::io::{self, BufWriter, ErrorKind, Write};
+use std::io::{self, BufWriter, Write};
 use std::rt::Stdout;
 
 /// What is written at a time, in bytes.
 const BUFFER: usize = 65_536;
 
-/// Standard output, by a buffer. It knows whether its reader has closed it.
+/// Standard output, by a buffer. It knows why a write failed.
 #[derive(Drop)]
 pub struct Outlet {
     inner: BufWriter<Stdout>,
-    is_closed: bool,
+    reason: Option<io::Error>,
 }
 
 impl Outlet {
@@ -19,22 +19,20 @@ impl Outlet {
     pub fn new(rt: &HostRuntime) -> io::Result<Outlet> {
         Ok(Outlet {
             inner: BufWriter::with_capacity(rt.alloc(), BUFFER, rt.stdout())?,
-            is_closed: false,
+            reason: None,
         })
     }
 
-    /// Its reader has closed it.
-    pub fn is_closed(&self) -> bool {
-        self.is_closed
+    /// Why the last write that failed did so.
+    pub fn reason(&self) -> Option<io::Error> {
+        self.reason
     }
 
     fn noted<T>(&mut self, answer: io::Result<T>) -> io::Result<T>
         ensures { result ≡ answer }
     {
-        if let Err(reason) = &answer
-            && reason.kind() == ErrorKind::BrokenPipe
-        {
-            self.is_closed = true;
+        if let Err(reason) = &answer {
+            self.reason = Some(*reason);
         }
         answer
     }

@@ -1,5 +1,5 @@
 -- What comes of a line of a script while no port is held.
-use Rattle.std.proofs.Common.{◌≡◌, ℕ, Option, List, [], replicate, Result, Ok, Err, OnOk, IfErr, inl, sym, subst}
+use Rattle.std.proofs.Common.{◌≡◌, ℕ, Bool, false, Option, List, [], replicate, Result, Ok, Err, OnOk, IfErr, inl, sym, subst}
 use Rattle.std.specs.Io.KnownBytes.{Keeps}
 use Rattle.trace_store.specs.declared.mem_store.MemStore.{MemStore}
 use Rattle.segment.specs.Specification.{Spec}
@@ -7,7 +7,10 @@ use Rattle.trace_port.specs.Openings.{IsKept}
 use Rattle.trace_port.proofs.Leaving.{weaker}
 use Rattle.trace_store.specs.MemStore.{fuse_of, IsSettled}
 use Rattle.trace_store.specs.declared.fuse.Fuse.TheVariants.{Whole}
-use Rattle.recorder.specs.Simulated.{device, LeavesSo, WasRun, ComesOf, ended_so, Simulates, IsRun, runs, not_written_out, first_of}
+use Rattle.trace_script.specs.Reading.{Progress}
+use Rattle.trace_script.specs.declared.line.Line.{Line}
+use Rattle.recorder.specs.Read.{Stretch, stretch, first_lines}
+use Rattle.recorder.specs.Simulated.{device, IsRunWhole, LeavesSo, WasRun, ComesOf, ended_so, Simulates, IsRun, runs, not_written_out, first_of}
 use Rattle.recorder.specs.declared.fault.SimFault.TheVariants as faults
 use Rattle.recorder.specs.declared.fault.SimFault.{SimFault}
 use Rattle.recorder.specs.declared.reply.Leave.{Leave}
@@ -15,9 +18,14 @@ use Rattle.recorder.specs.declared.reply.Origin.{Origin}
 use Rattle.recorder.specs.declared.reply.Origin.TheVariants.{Resumed}
 
 -- its port was run
-pub was_run : (origin : Origin) (spec : Spec) (old new : MemStore) (left : Result (Option Leave) SimFault) (Writes : List ℕ → Type 0) → WasRun origin spec old new left Writes → ComesOf origin spec old new (ended_so left) Writes
-was_run origin spec old new (Ok left) Writes run = run
-was_run origin spec old new (Err fault) Writes run = run
+pub was_run : (origin : Origin) (spec : Spec) (old new : MemStore) (over : Stretch) (left : Result (Option Leave) SimFault) (Writes : List ℕ → Type 0) → WasRun origin spec old new over left Writes → ComesOf origin spec old new over (ended_so left) Writes
+was_run origin spec old new over (Ok left) Writes run = run
+was_run origin spec old new over (Err fault) Writes run = run
+
+-- a line was run whole, in a script of the same kind
+pub whole_so : (of_desk here : Bool) (line : Line) (old new : MemStore) (behind to : Progress) (result : Result Unit SimFault) (was now : Option (List ℕ)) → here ≡ of_desk → IsRunWhole line old new (stretch here behind to) result was now
+    → IsRunWhole line old new (stretch of_desk behind to) result was now
+whole_so of_desk here line old new behind to result was now same run = subst (λ (d : Bool). IsRunWhole line old new (stretch d behind to) result was now) same run
 
 -- nothing was written to make it
 pub only_kept : (spec : Spec) (old new : MemStore) → IsKept (device old) (device new) → LeavesSo Resumed spec old new
@@ -34,8 +42,8 @@ answered_so (Ok done) text Q Writes is wrote = (text, is, wrote)
 answered_so (Err fault) text Q Writes is wrote = wrote
 
 -- a script was run, and what it wrote was written out or not
-pub is_run : (old new : MemStore) (was mid now : Option (List ℕ)) (done flushed : Result Unit SimFault) → IsSettled old (replicate 1 []) → fuse_of old ≡ Whole → Simulates old new was mid done → Keeps mid now → IfErr flushed (λ fault. fault ≡ faults.Write)
-    → IsRun was now (first_of done flushed)
-is_run old new was mid now (Ok done) (Ok out) blank whole run keeps written = runs blank whole run keeps
-is_run old new was mid now (Ok done) (Err fault) blank whole run keeps written = subst (λ (f : SimFault). IsRun was now (Err f)) (sym written) (not_written_out blank whole run keeps)
-is_run old new was mid now (Err fault) flushed blank whole run keeps written = runs blank whole run keeps
+pub is_run : (old new : MemStore) (count : ℕ) (had has was mid now : Option (List ℕ)) (done flushed : Result Unit SimFault) → IsSettled old (replicate 1 []) → fuse_of old ≡ Whole → Simulates old new (first_lines false count had has) was mid done → Keeps mid now → IfErr flushed (λ fault. fault ≡ faults.Write)
+    → IsRun had has was now (first_of done flushed)
+is_run old new count had has was mid now (Ok done) (Ok out) blank whole run keeps written = runs count blank whole run keeps
+is_run old new count had has was mid now (Ok done) (Err fault) blank whole run keeps written = subst (λ (f : SimFault). IsRun had has was now (Err f)) (sym written) (not_written_out count blank whole run keeps)
+is_run old new count had has was mid now (Err fault) flushed blank whole run keeps written = runs count blank whole run keeps

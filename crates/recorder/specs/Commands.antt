@@ -17,6 +17,7 @@ use Rattle.trace_files.specs.Clearing.{AreCleared, IsClearing, HasNoForeign}
 use Rattle.trace_files.specs.Standing.{IsStanding}
 use Rattle.trace_files.specs.declared.standing.Standing.TheVariants as standings
 use Rattle.trace_reader.specs.Listings.{ListsStore, ExportsStore}
+use Rattle.trace_reader.specs.Observing.{Observations}
 use Rattle.trace_reader.specs.Reading.{IsWhyNotRead, IsWrittenOf}
 use Rattle.trace_reader.specs.Streamed.{StopsBy}
 use Rattle.trace_reader.specs.Wiping.{HasForeign, IsWhyNotWiped, IsNotToWipe}
@@ -30,7 +31,7 @@ use Rattle.command_line.specs.declared.request.TraceRequest.TheVariants as reque
 use Rattle.recorder.specs.Complaints.{status_told}
 use Rattle.recorder.specs.Faults.{status_of, run_fault, read_fault, wipe_fault}
 use Rattle.recorder.specs.Files.{OnlyLooks, WasRecorded, WasFed}
-use Rattle.recorder.specs.Incoming.{Outside}
+use Rattle.recorder.specs.Incoming.{Outside, outside}
 use Rattle.recorder.specs.Openings.{wanted, told_of, Suits, Opens, IsOpenedSo, IsWhyNotOpened}
 use Rattle.recorder.specs.Places.{turn_of}
 use Rattle.recorder.specs.Texts.{line_of}
@@ -95,18 +96,18 @@ pub record IsNotOpened (spec : Spec) (old new : FolderStore) (fault : SimFault) 
   pub untouched : honest_of new → HasForeign (reads_of old) → OnlyLooks old new
   pub moments : honest_of new → IsOpenedSo (device old) (device new) spec
 
--- a trace was opened and a script's lines were run at its port; or nothing was done but the opening, or not even that
-pub data Records (spec : Spec) (old new : FolderStore) (was now : Option (List ℕ)) : Result Unit Complaint → Type 0 where
-  runs : {mid : FolderStore} {opened : Opened} {origin : Origin} {result : Result Unit Complaint} (done : Result Unit SimFault) → IsOpened spec old mid opened origin → WasRecorded opened origin mid new done was now → IsToldAs done result
-      → Records spec old new was now result
-  not_opened : {mid : FolderStore} (fault : SimFault) (complaint : Complaint) → IsNotOpened spec old mid fault → OnlyLooks mid new → Keeps was now → IsToldOf fault complaint → Records spec old new was now (Err complaint)
-  no_memory : (complaint : Complaint) → new ≡ old → Keeps was now → status_told complaint ≡ 1 → Records spec old new was now (Err complaint)
+-- a trace was opened and the lines of a script, which had these bytes, were run at its port; or nothing was done but the opening, or not even that
+pub data Records (spec : Spec) (old new : FolderStore) (had was now : Option (List ℕ)) : Result Unit Complaint → Type 0 where
+  runs : {mid : FolderStore} {opened : Opened} {origin : Origin} {result : Result Unit Complaint} {has : Option (List ℕ)} (done : Result Unit SimFault) → IsOpened spec old mid opened origin → WasRecorded opened origin mid new had has done was now → IsToldAs done result
+      → Records spec old new had was now result
+  not_opened : {mid : FolderStore} (fault : SimFault) (complaint : Complaint) → IsNotOpened spec old mid fault → OnlyLooks mid new → Keeps was now → IsToldOf fault complaint → Records spec old new had was now (Err complaint)
+  no_memory : (complaint : Complaint) → new ≡ old → Keeps was now → status_told complaint ≡ 1 → Records spec old new had was now (Err complaint)
 
--- a trace was opened and a stream put into its port; or nothing was done but the opening
-pub data Feeds (spec : Spec) (rules : Rules) (old new : FolderStore) (saw : Outside) (was now : Option (List ℕ)) : Result Unit Complaint → Type 0 where
-  feeds : {mid last : FolderStore} {opened : Opened} {origin : Origin} {result : Result Unit Complaint} (sees : Outside) (done : Result Unit SimFault) → IsOpened spec old mid opened origin
-      → WasFed opened origin rules mid last saw sees done (λ text. Appends was now text) → OnlyLooks last new → IsExplained done result → Feeds spec rules old new saw was now result
-  not_opened : {mid : FolderStore} (fault : SimFault) (complaint : Complaint) → IsNotOpened spec old mid fault → OnlyLooks mid new → Keeps was now → IsToldOf fault complaint → Feeds spec rules old new saw was now (Err complaint)
+-- a trace was opened and a stream put into its port, by what was seen before and what was observed until the end; or nothing was done but the opening
+pub data Feeds (spec : Spec) (rules : Rules) (old new : FolderStore) (saw : Outside) (observed : Observations) (was now : Option (List ℕ)) : Result Unit Complaint → Type 0 where
+  feeds : {mid last : FolderStore} {opened : Opened} {origin : Origin} {result : Result Unit Complaint} (remaining : Option (List ℕ)) (reads : ℕ) (done : Result Unit SimFault) → IsOpened spec old mid opened origin
+      → WasFed opened origin rules mid last saw (outside remaining reads observed) done (λ text. Appends was now text) → OnlyLooks last new → IsExplained done result → Feeds spec rules old new saw observed was now result
+  not_opened : {mid : FolderStore} (fault : SimFault) (complaint : Complaint) → IsNotOpened spec old mid fault → OnlyLooks mid new → observed ≡ saw.observed → Keeps was now → IsToldOf fault complaint → Feeds spec rules old new saw observed was now (Err complaint)
 
 -- whether files that aren't of a trace are cleared, too
 abbrev pub clearing_of : Bool → Clearing
@@ -129,11 +130,11 @@ Changes (requests.List asked is_pretty) = ⊥
 Changes (requests.Export asked) = ⊥
 Changes _ = Unit {0}
 
--- what is done with a trace for what the command line asks, by what is seen of the stream that comes in and of the clock, and the bytes that are written
-abbrev pub Serves : TraceRequest → Files → Files → Outside → Option (List ℕ) → Option (List ℕ) → Result Unit Complaint → Type 0
-Serves (requests.List asked is_pretty) old new saw was now result = (honest_of new.store → IsRead (ListsStore (style_of is_pretty)) (as_lines (style_of is_pretty)) (reads_of old.store) was now result) × OnlyLooks old.store new.store
-Serves (requests.Export asked) old new saw was now result = (honest_of new.store → IsRead ExportsStore as_bytes (reads_of old.store) was now result) × OnlyLooks old.store new.store
-Serves (requests.Wipe asked is_forced) old new saw was now result = (honest_of new.store → Clears (clearing_of is_forced) old.store new.store was now result)
+-- what is done with a trace for what the command line asks, by what is seen of the stream that comes in, what is observed until the end, and the bytes that are written
+abbrev pub Serves : TraceRequest → Files → Files → Outside → Observations → Option (List ℕ) → Option (List ℕ) → Result Unit Complaint → Type 0
+Serves (requests.List asked is_pretty) old new saw observed was now result = (honest_of new.store → IsRead (ListsStore (style_of is_pretty)) (as_lines (style_of is_pretty)) (reads_of old.store) was now result) × OnlyLooks old.store new.store
+Serves (requests.Export asked) old new saw observed was now result = (honest_of new.store → IsRead ExportsStore as_bytes (reads_of old.store) was now result) × OnlyLooks old.store new.store
+Serves (requests.Wipe asked is_forced) old new saw observed was now result = (honest_of new.store → Clears (clearing_of is_forced) old.store new.store was now result)
     × (honest_of new.store → IsNotToWipe (clearing_of is_forced) (reads_of old.store) → OnlyLooks old.store new.store) × (honest_of new.store → LeavesOnly clock_of moments_of old.store new.store (IsClearing (images_of old.store)))
-Serves (requests.Record asked) old new saw was now result = Records (wanted old.place.kind (turn_of asked)) old.store new.store was now result
-Serves (requests.Import asked rules) old new saw was now result = Feeds (wanted old.place.kind (turn_of asked)) rules old.store new.store saw was now result
+Serves (requests.Record asked) old new saw observed was now result = Records (wanted old.place.kind (turn_of asked)) old.store new.store saw.remaining was now result
+Serves (requests.Import asked rules) old new saw observed was now result = Feeds (wanted old.place.kind (turn_of asked)) rules old.store new.store saw observed was now result

@@ -1,5 +1,5 @@
 -- What is done with the real files of a trace.
-use Rattle.std.specs.Prelude.{◌≡◌, ℕ, Option, Some, None, List, Result, Ok, Err, OnOk}
+use Rattle.std.specs.Prelude.{◌≡◌, ℕ, true, Option, Some, None, List, Result, Ok, Err, OnOk}
 use Rattle.std.specs.Io.KnownBytes.{Appends}
 use Rattle.segment.specs.Pieces.{OnlyReads}
 use Rattle.trace_store.specs.FolderStore.{honest_of, reads_of, images_of, moments_of, clock_of}
@@ -15,6 +15,7 @@ use Rattle.command_line.specs.declared.request.Rules.{Rules}
 use Rattle.recorder.specs.Answers.{opened_answer}
 use Rattle.recorder.specs.Sides.{in_desk}
 use Rattle.recorder.specs.Texts.{line_of}
+use Rattle.recorder.specs.Read.{Stretch, first_lines}
 use Rattle.recorder.specs.Held.{WasHeld}
 use Rattle.recorder.specs.Incoming.{Outside}
 use Rattle.recorder.specs.Importing.{WasImported}
@@ -29,12 +30,12 @@ use Rattle.recorder.specs.declared.reply.Origin.{Origin}
 abbrev pub OnlyLooks : FolderStore → FolderStore → Type 0
 OnlyLooks old new = OnlyReads honest_of clock_of reads_of images_of moments_of old new
 
--- a script's lines were run at the desk of a port over this opening, which then was dropped
-abbrev pub RanAtDesk : Opened → Origin → FolderStore → FolderStore → Result (Option Leave) SimFault → (List ℕ → Type 0) → Type 0
-RanAtDesk (openings.File opening) origin old new left Writes =
-    WasHeld (file_told folder.ghosts pending.ghosts) in_desk (opened_told pending.ghosts opening (device_of folder.ghosts old)) (opened_answer origin) left (device_of folder.ghosts new) Writes
-RanAtDesk (openings.Wrap opening) origin old new left Writes =
-    WasHeld (wrap_told folder.ghosts pending.ghosts) in_desk (wrap_opened_told pending.ghosts opening (device_of folder.ghosts old)) (opened_answer origin) left (device_of folder.ghosts new) Writes
+-- the first lines of a script, each for a desk, were run at the desk of a port over this opening, which then was dropped
+abbrev pub RanAtDesk : Opened → Origin → FolderStore → FolderStore → Stretch → Result (Option Leave) SimFault → (List ℕ → Type 0) → Type 0
+RanAtDesk (openings.File opening) origin old new over left Writes =
+    WasHeld (file_told folder.ghosts pending.ghosts) in_desk (opened_told pending.ghosts opening (device_of folder.ghosts old)) (opened_answer origin) 0 over left (device_of folder.ghosts new) Writes
+RanAtDesk (openings.Wrap opening) origin old new over left Writes =
+    WasHeld (wrap_told folder.ghosts pending.ghosts) in_desk (wrap_opened_told pending.ghosts opening (device_of folder.ghosts old)) (opened_answer origin) 0 over left (device_of folder.ghosts new) Writes
 
 -- what is answered behind the lines: one line more where the port was given up
 abbrev pub IsAnswered : Result (Option Leave) SimFault → Result Unit SimFault → Option (List ℕ) → Option (List ℕ) → Type 0
@@ -42,11 +43,12 @@ IsAnswered (Ok None) result mid new = (result ≡ Ok tt) × (new ≡ mid)
 IsAnswered (Ok (Some leave)) result mid new = OnOk result (Appends mid new (line_of Done))
 IsAnswered (Err fault) result mid new = (result ≡ Err fault) × (new ≡ mid)
 
--- a script was recorded so
-pub record WasRecorded (opened : Opened) (origin : Origin) (old new : FolderStore) (result : Result Unit SimFault) (was now : Option (List ℕ)) : Type 0 where
+-- a script whose reader had these bytes, and has those left, was recorded so
+pub record WasRecorded (opened : Opened) (origin : Origin) (old new : FolderStore) (had has : Option (List ℕ)) (result : Result Unit SimFault) (was now : Option (List ℕ)) : Type 0 where
   pub left : Result (Option Leave) SimFault
+  pub count : ℕ
   pub mid : Option (List ℕ)
-  pub ran : RanAtDesk opened origin old new left (λ text. Appends was mid text)
+  pub ran : RanAtDesk opened origin old new (first_lines true count had has) left (λ text. Appends was mid text)
   pub answered : IsAnswered left result mid now
 
 -- an entry stream was put into a port over this opening, which then was closed and dropped

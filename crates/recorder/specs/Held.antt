@@ -19,6 +19,7 @@ use Rattle.recorder.specs.declared.fault.SimFault.{SimFault}
 use Rattle.recorder.specs.Texts.{line_of}
 use Rattle.recorder.specs.Sides.{Held, Alone, AtDesk, port_of}
 use Rattle.recorder.specs.Asked.{IsAsked}
+use Rattle.recorder.specs.Read.{Stretch, AreTheLines}
 
 -- a line that was read, and what came of it
 pub record Exchange : Type 0 where
@@ -26,6 +27,11 @@ pub record Exchange : Type 0 where
   pub reply : Reply
   -- what the port accepted and covered
   pub effect : Effect
+
+-- the lines that were read
+abbrev pub lines_of : List Exchange → List Line
+lines_of [] = []
+lines_of (one ∷ more) = one.line ∷ lines_of more
 
 -- what is held is asked one line after another, until one leaves it or no more is read
 pub data AreAsked {P : Type 0} (told : P → Told) : Held P → List Exchange → Option Leave → Held P → Type 0 where
@@ -80,11 +86,12 @@ abbrev pub IsLetGo : {P : Type 0} → (P → Told) → Held P → P → Type 0
 IsLetGo told (Alone p) q = q ≡ p
 IsLetGo told (AtDesk side) q = Finishes (told side.desk.port) (told q)
 
--- lines were run on what was held at first, and what is held then stands so; and, unless a fault ended that, what was written is what was answered
-pub record Ran {P : Type 0} (told : P → Told) (first : Held P) (left : Result (Option Leave) SimFault) (Stands : Held P → Type 0) (Writes : List ℕ → Type 0) : Type 0 where
+-- the lines of a stretch of a script were run on what was held at first, with so many files there, and what is held then stands so; and, unless a fault ended that, what was written is what was answered
+pub record Ran {P : Type 0} (told : P → Told) (first : Held P) (files : ℕ) (over : Stretch) (left : Result (Option Leave) SimFault) (Stands : Held P → Type 0) (Writes : List ℕ → Type 0) : Type 0 where
   pub done : List Exchange
   pub end : Held P
   pub asks : AreAsked told first done (left_by left) end
+  pub read : AreTheLines files over left (lines_of done)
   pub stands : Stands end
   pub text : IfOk left (λ _. Writes (written done))
 
@@ -110,9 +117,10 @@ pub record IsHeld {P : Type 0} (told : P → Told) (start : P → Held P) (opene
   pub whole : last.honest → (v0 : View) (c : ℕ) → Fits opened v0 [] c → Leaves opened.device last (Sound opened.spec v0 (accepted asked) c)
   pub lines : last.honest → (v0 : View) (c : ℕ) → Fits opened v0 [] c → IsSoundThroughout told (start first) asked leave end last v0 c
 
--- lines were run on a port over an opening, which then was dropped; and, unless a fault ended that, what was written is how it was opened and what it answered
-pub record WasHeld {P : Type 0} (told : P → Told) (start : P → Held P) (opened : Told) (greets : ℕ → Answer) (left : Result (Option Leave) SimFault) (last : Device) (Writes : List ℕ → Type 0) : Type 0 where
+-- the lines of a stretch of a script were run on a port over an opening, with so many files there, and the port then was dropped; and, unless a fault ended that, what was written is how it was opened and what it answered
+pub record WasHeld {P : Type 0} (told : P → Told) (start : P → Held P) (opened : Told) (greets : ℕ → Answer) (files : ℕ) (over : Stretch) (left : Result (Option Leave) SimFault) (last : Device) (Writes : List ℕ → Type 0) : Type 0 where
   pub done : List Exchange
   pub held : IsHeld told start opened done (left_by left) last
+  pub read : AreTheLines files over left (lines_of done)
   -- it was told how many entries the opening found
   pub text : IfOk left (λ _. Writes (line_of (greets (told held.first).total) ++ written done))

@@ -4,6 +4,7 @@ pub mod Answers
 pub mod Sides
 pub mod DeskLines
 pub mod Asked
+pub mod Read
 pub mod Held
 pub mod Stored
 pub mod Places
@@ -12,6 +13,7 @@ pub mod Incoming
 pub mod Parts
 pub mod Importing
 pub mod Files
+pub mod Live
 pub mod Complaints
 pub mod Simulated
 pub mod Commands

@@ -1,5 +1,5 @@
 -- What a line of a script does to the store in memory while no port is held.
-use Rattle.std.specs.Prelude.{◌≡◌, ◌⊎◌, ℕ, Option, Some, None, List, [], ◌∷◌, ◌++◌, set, replicate, Result, Ok, Err, OnOk, IfErr, false}
+use Rattle.std.specs.Prelude.{◌≡◌, ◌⊎◌, ℕ, Bool, Option, Some, None, List, [], ◌∷◌, ◌++◌, length, set, replicate, Result, Ok, Err, OnOk, IfErr, false}
 use Rattle.std.specs.Io.KnownBytes.{Appends, Keeps}
 use Rattle.std.specs.declared.vec.Vec.{Vec}
 use Rattle.std.specs.declared.alloc.Global.{Global}
@@ -29,10 +29,12 @@ use Rattle.wrap_port.specs.WrapPort.{wrap_told}
 use Rattle.trace_script.specs.declared.line.Line.{Line}
 use Rattle.trace_script.specs.declared.line.Line.TheVariants as lines
 use Rattle.trace_script.specs.declared.line.Unsynced.{Unsynced}
-use Rattle.trace_script.specs.Lines.{pick_of}
+use Rattle.trace_script.specs.Lines.{pick_of, IsOfFiles}
+use Rattle.trace_script.specs.Reading.{Progress, HasNext, HasEnded, HasStopped}
 use Rattle.trace_script.specs.declared.fault.ScriptFault.{ScriptFault}
 use Rattle.recorder.specs.Faults.{script_fault}
 use Rattle.recorder.specs.Sides.{Alone}
+use Rattle.recorder.specs.Read.{Stretch, stretch, first_lines, ReadsNothing}
 use Rattle.recorder.specs.Held.{WasHeld}
 use Rattle.recorder.specs.Openings.{told_of, Opens, IsNoSpec}
 use Rattle.recorder.specs.Stored.{TellsStore, TellsFiles}
@@ -61,31 +63,31 @@ LeavesSo Created spec old new =
     Leaves (device old) (device new) (λ image. (device old).images image ⊎ ReadsAs spec empty false image) × ((IsBlank (readings (reads_of old)) → ⊥) → Leaves (device old) (device new) (device old).images)
 LeavesSo Resumed spec old new = Leaves (device old) (device new) (λ image. (device old).images image ⊎ ReadsAlike (reads_of old) image)
 
--- lines were run on a port over this opening, which then was dropped
-abbrev pub RanOn : Opened → Origin → MemStore → MemStore → Result (Option Leave) SimFault → (List ℕ → Type 0) → Type 0
-RanOn (openings.File opening) origin old new left Writes =
-    WasHeld (file_told mem.ghosts pending.ghosts) Alone (opened_told pending.ghosts opening (device old)) (greeting origin) left (device new) Writes
-RanOn (openings.Wrap opening) origin old new left Writes =
-    WasHeld (wrap_told mem.ghosts pending.ghosts) Alone (wrap_opened_told pending.ghosts opening (device old)) (greeting origin) left (device new) Writes
+-- the lines of a stretch of a script were run on a port over this opening, which then was dropped
+abbrev pub RanOn : Opened → Origin → MemStore → MemStore → Stretch → Result (Option Leave) SimFault → (List ℕ → Type 0) → Type 0
+RanOn (openings.File opening) origin old new over left Writes =
+    WasHeld (file_told mem.ghosts pending.ghosts) Alone (opened_told pending.ghosts opening (device old)) (greeting origin) (length (reads_of old)) over left (device new) Writes
+RanOn (openings.Wrap opening) origin old new over left Writes =
+    WasHeld (wrap_told mem.ghosts pending.ghosts) Alone (wrap_opened_told pending.ghosts opening (device old)) (greeting origin) (length (reads_of old)) over left (device new) Writes
 
 -- a port was made over the store, and the lines behind this one were run on it until it was given up
-pub record WasRun (origin : Origin) (spec : Spec) (old new : MemStore) (left : Result (Option Leave) SimFault) (Writes : List ℕ → Type 0) : Type 0 where
+pub record WasRun (origin : Origin) (spec : Spec) (old new : MemStore) (over : Stretch) (left : Result (Option Leave) SimFault) (Writes : List ℕ → Type 0) : Type 0 where
   pub mid : MemStore
   pub opening : Opened
   pub opens : Opens (reads_of old) (told_of opening (device mid)) spec origin
   pub moments : LeavesSo origin spec old mid
-  pub ran : RanOn opening origin mid new left Writes
+  pub ran : RanOn opening origin mid new over left Writes
 
 -- a run that a fault ended, as what came of its line
 abbrev pub ended_so : Result (Option Leave) SimFault → Result (Option Leave) Stop
 ended_so (Ok left) = Ok left
 ended_so (Err fault) = Err (stops.Failed fault)
 
--- what comes of a line that makes a port: it was run so, or there is no port
-abbrev pub ComesOf : Origin → Spec → MemStore → MemStore → Result (Option Leave) Stop → (List ℕ → Type 0) → Type 0
-ComesOf origin spec old new (Ok left) Writes = WasRun origin spec old new (Ok left) Writes
-ComesOf origin spec old new (Err (stops.Failed fault)) Writes = WasRun origin spec old new (Err fault) Writes
-ComesOf origin spec old new (Err (stops.Refused refusal)) Writes = LeavesSo origin spec old new × Writes []
+-- what comes of a line that makes a port, and of the stretch of the script behind it: it was run so, or there is no port
+abbrev pub ComesOf : Origin → Spec → MemStore → MemStore → Stretch → Result (Option Leave) Stop → (List ℕ → Type 0) → Type 0
+ComesOf origin spec old new over (Ok left) Writes = WasRun origin spec old new over (Ok left) Writes
+ComesOf origin spec old new over (Err (stops.Failed fault)) Writes = WasRun origin spec old new over (Err fault) Writes
+ComesOf origin spec old new over (Err (stops.Refused refusal)) Writes = LeavesSo origin spec old new × ReadsNothing over × Writes []
 
 -- a crash left what was picked of the store and is answered of, or it can't leave that and the store stays as it is
 pub data Crashes (unsynced : Unsynced) (old new : MemStore) : List ℕ → Type 0 where
@@ -135,43 +137,47 @@ DoesAlone line old new (Err (stops.Refused refusal)) Writes = ⊥
 abbrev pub IsNoWrap : MemStore → MemStore → Result (Option Leave) Stop → (List ℕ → Type 0) → Type 0
 IsNoWrap old new result Writes = (new ≡ old) × (result ≡ Err (stops.Refused (refusals.Create BadSpec))) × Writes []
 
--- what comes of a line
-abbrev pub Runs : Line → MemStore → MemStore → Result (Option Leave) Stop → (List ℕ → Type 0) → Type 0
-Runs (lines.CreateFile limit) old new result Writes = ComesOf Created File old new result Writes
-Runs (lines.ResumeFile limit) old new result Writes = ComesOf Resumed File old new result Writes
-Runs (lines.CreateWrap size count) old new result Writes = ComesOf Created (Wrap size count) old new result Writes ⊎ (IsNoSpec (Wrap size count) × IsNoWrap old new result Writes)
-Runs (lines.CreateTime millis count) old new result Writes = ComesOf Created (Timed millis count) old new result Writes ⊎ (IsNoSpec (Timed millis count) × IsNoWrap old new result Writes)
-Runs lines.ResumeWrap old new result Writes = (spec : Spec) → ComesOf Resumed spec old new result Writes
-Runs line old new result Writes = DoesAlone line old new result Writes
+-- what comes of a line, and of the stretch of the script behind it that its port takes
+abbrev pub Runs : Line → MemStore → MemStore → Stretch → Result (Option Leave) Stop → (List ℕ → Type 0) → Type 0
+Runs (lines.CreateFile limit) old new over result Writes = ComesOf Created File old new over result Writes
+Runs (lines.ResumeFile limit) old new over result Writes = ComesOf Resumed File old new over result Writes
+Runs (lines.CreateWrap size count) old new over result Writes = ComesOf Created (Wrap size count) old new over result Writes ⊎ (IsNoSpec (Wrap size count) × IsNoWrap old new result Writes × ReadsNothing over)
+Runs (lines.CreateTime millis count) old new over result Writes = ComesOf Created (Timed millis count) old new over result Writes ⊎ (IsNoSpec (Timed millis count) × IsNoWrap old new result Writes × ReadsNothing over)
+Runs lines.ResumeWrap old new over result Writes = (spec : Spec) → ComesOf Resumed spec old new over result Writes
+Runs line old new over result Writes = DoesAlone line old new result Writes × ReadsNothing over
 
--- a line was run whole: with its port, if it made one, and what is answered once that is no more
-pub record IsRunWhole (line : Line) (old new : MemStore) (result : Result Unit SimFault) (was now : Option (List ℕ)) : Type 0 where
+-- a line was run whole: with its port, if it made one, the stretch of the script that this took, and what is answered once that is no more
+pub record IsRunWhole (line : Line) (old new : MemStore) (taken : Stretch) (result : Result Unit SimFault) (was now : Option (List ℕ)) : Type 0 where
   pub mid : MemStore
   pub between : Option (List ℕ)
   pub left : Result (Option Leave) Stop
-  pub runs : Runs line old mid left (λ text. Appends was between text)
+  pub runs : Runs line old mid taken left (λ text. Appends was between text)
   pub over : OnOk result ((text : List ℕ) × IsOver left mid new text × Appends between now text)
   pub fault : IfErr result (IsItsFault left)
 
--- lines were run whole one after another, each on the store that the one before it left
-pub data AreRun (first : MemStore) (out : Option (List ℕ)) : List Line → MemStore → Option (List ℕ) → Type 0 where
-  none : AreRun first out [] first out
-  more : {before : List Line} {mid new : MemStore} {was now : Option (List ℕ)} (line : Line) → AreRun first out before mid was → IsRunWhole line mid new (Ok tt) was now → AreRun first out (before ++ line ∷ []) new now
+-- lines were run whole one after another, each on the store that the one before it left, and each was the next one of the script, behind all that was read for the one before it
+pub data AreRun (of_desk : Bool) (first : MemStore) (from : Progress) (out : Option (List ℕ)) : List Line → MemStore → Progress → Option (List ℕ) → Type 0 where
+  none : AreRun of_desk first from out [] first from out
+  more : {before : List Line} {mid new : MemStore} {at behind to : Progress} {was now : Option (List ℕ)} (line : Line) → AreRun of_desk first from out before mid at was → HasNext of_desk at behind line → IsOfFiles (length (reads_of mid)) line
+      → IsRunWhole line mid new (stretch of_desk behind to) (Ok tt) was now → AreRun of_desk first from out (before ++ line ∷ []) new to now
 
--- the lines of a script were run; where a fault ended that, it is the script's, or that of the line which came next
-pub data Simulates (old new : MemStore) (was now : Option (List ℕ)) : Result Unit SimFault → Type 0 where
-  to_end : (done : List Line) → AreRun old was done new now → Simulates old new was now (Ok tt)
-  no_line : (done : List Line) (fault : ScriptFault) → AreRun old was done new now → Simulates old new was now (Err (script_fault fault))
-  broken_off : {mid : MemStore} {between : Option (List ℕ)} (done : List Line) (line : Line) (fault : SimFault) → AreRun old was done mid between → IsRunWhole line mid new (Err fault) between now → Simulates old new was now (Err fault)
+-- the lines of a stretch of a script were run to its end; or the next one is none, or names a file that isn't there, which its number tells; or a fault of the line that came next ended that
+pub data Simulates (old new : MemStore) (over : Stretch) (was now : Option (List ℕ)) : Result Unit SimFault → Type 0 where
+  to_end : {last : Progress} (done : List Line) → AreRun over.of_desk old over.from was done new last now → HasEnded last over.to → Simulates old new over was now (Ok tt)
+  no_line : {last : Progress} (done : List Line) (fault : ScriptFault) → AreRun over.of_desk old over.from was done new last now → HasStopped over.of_desk last over.to fault → Simulates old new over was now (Err (script_fault fault))
+  no_file : {last : Progress} (done : List Line) (line : Line) → AreRun over.of_desk old over.from was done new last now → HasNext over.of_desk last over.to line → (IsOfFiles (length (reads_of new)) line → ⊥)
+      → Simulates old new over was now (Err (faults.BadCommand over.to.lines))
+  broken_off : {mid : MemStore} {last behind : Progress} {between : Option (List ℕ)} (done : List Line) (line : Line) (fault : SimFault) → AreRun over.of_desk old over.from was done mid last between → HasNext over.of_desk last behind line → IsOfFiles (length (reads_of mid)) line
+      → IsRunWhole line mid new (stretch over.of_desk behind over.to) (Err fault) between now → Simulates old new over was now (Err fault)
 
 -- of two causes the first
 abbrev pub first_of : Result Unit SimFault → Result Unit SimFault → Result Unit SimFault
 first_of (Ok done) later = later
 first_of (Err fault) later = Err fault
 
--- a script was run over a store that was blank at first and had one file, and what was written was written out
-pub data IsRun (was now : Option (List ℕ)) : Result Unit SimFault → Type 0 where
-  runs : {old new : MemStore} {mid : Option (List ℕ)} {done : Result Unit SimFault} → IsSettled old (replicate 1 []) → fuse_of old ≡ Whole → Simulates old new was mid done → Keeps mid now → IsRun was now done
-  not_written_out : {old new : MemStore} {mid : Option (List ℕ)} → IsSettled old (replicate 1 []) → fuse_of old ≡ Whole → Simulates old new was mid (Ok tt) → Keeps mid now → IsRun was now (Err faults.Write)
-  -- there was no memory for the script or its store
-  no_memory : Keeps was now → IsRun was now (Err faults.NoMemory)
+-- a script was run, whose reader had these bytes and has those left, over a store that was blank at first and had one file, and what was written was written out
+pub data IsRun (had has was now : Option (List ℕ)) : Result Unit SimFault → Type 0 where
+  runs : {old new : MemStore} {mid : Option (List ℕ)} {done : Result Unit SimFault} (count : ℕ) → IsSettled old (replicate 1 []) → fuse_of old ≡ Whole → Simulates old new (first_lines false count had has) was mid done → Keeps mid now → IsRun had has was now done
+  not_written_out : {old new : MemStore} {mid : Option (List ℕ)} (count : ℕ) → IsSettled old (replicate 1 []) → fuse_of old ≡ Whole → Simulates old new (first_lines false count had has) was mid (Ok tt) → Keeps mid now → IsRun had has was now (Err faults.Write)
+  -- there was no memory for its store
+  no_memory : has ≡ had → Keeps was now → IsRun had has was now (Err faults.NoMemory)

@@ -33,6 +33,8 @@ pub enum Advice {
     DamagedToOpen {
         name: String,
     },
+    /// Another process writes the trace, and each reading was refused.
+    IsWritten,
     /// Files of different traces.
     Apart {
         one: String,
@@ -77,6 +79,9 @@ impl fmt::Display for Advice {
                     "{name} is damaged there: list shows the entries before it, wipe clears the trace"
                 )
             }
+            Advice::IsWritten => f.write_str(
+                "another process writes this trace, and its files changed while they were read: try again",
+            ),
             Advice::Apart { one, other } => {
                 let (one, other) = (Shown(one.as_str()), Shown(other.as_str()));
                 write!(f, "{one} and {other} don't belong together")

@@ -1,11 +1,13 @@
 // What a run does while a port is held in a desk.
-ghost use Rattle.std.specs.Prelude.{◌≡◌, ◌≤◌};
+ghost use Rattle.std.specs.Prelude.{◌≡◌, ◌≤◌, true, false};
 ghost use Rattle.std.specs.Io.KnownBytes.{Appends};
 ghost use Rattle.tracees.specs.Effects.{Effect, no_effect};
-ghost use Rattle.trace_script.specs.Lines.{IsWithinLimits, IsNumbered};
+ghost use Rattle.trace_script.specs.Lines.{IsWithinLimits, IsNumbered, IsOfFiles};
+ghost use Rattle.trace_script.specs.Reading.{progress};
 ghost use Rattle.recorder.specs.Sides.{AtDesk, first_side, desk_seen, seat_seen, side_seen};
 ghost use Rattle.recorder.specs.DeskLines.{IsAskedFor, IsAskedAtDesk};
 ghost use Rattle.recorder.specs.Asked.{IsAsked};
+ghost use Rattle.recorder.specs.Read.{stretch};
 ghost use Rattle.recorder.specs.Held.{Ran, IsAtDesk};
 
 use crate::answer::Answer;
@@ -33,23 +35,38 @@ pub fn run_desk<P: TracePort, R: BufRead, W: Write>(
     ensures name { desk.new.port.ghost_name ≡ desk.old.port.ghost_name }
     ensures same { P.lender desk.new.port.now ≡ P.lender desk.old.port.now }
     ensures writer { answers.new.writer.ghost_name ≡ answers.old.writer.ghost_name }
-    ensures run { Ran P.told (AtDesk (first_side (desk_seen P.TracePort desk.old))) result (IsAtDesk (desk_seen P.TracePort desk.new))
+    ensures of_desk { script.new.is_of_desk ≡ script.old.is_of_desk }
+    ensures reader { script.new.reader.ghost_name ≡ script.old.reader.ghost_name }
+    ensures run { let over = stretch script.old.is_of_desk (progress script.old.number (R.remaining script.old.reader.now)) (progress script.new.number (R.remaining script.new.reader.now)) in
+        Ran P.told (AtDesk (first_side (desk_seen P.TracePort desk.old))) files over result (IsAtDesk (desk_seen P.TracePort desk.new))
         (λ text. Appends (W.contents answers.old.writer.now) (W.contents answers.new.writer.now) text) }
 {
     let mut attached = Attached::new(alloc);
     for _line in 0..u64::MAX {
-        match script.next_line()? {
-            None => return Ok(None),
-            Some(Line::Bytes(file, _)) if file >= files => return Err(SimFault::from(
-                script.bad_command(),
-            )),
-            Some(line) => match ask_owned(alloc, desk, &mut attached, line) {
-                Reply::Told(answer) => answers.tell(answer)?,
-                Reply::Left(leave) => return Ok(Some(leave)),
-            },
+        let Some(line) = script.next_line()? else {
+            return Ok(None);
+        };
+        if is_beyond(&line, files) {
+            drop(line);
+            return Err(SimFault::from(script.bad_command()));
+        }
+        match ask_owned(alloc, desk, &mut attached, line) {
+            Reply::Told(answer) => answers.tell(answer)?,
+            Reply::Left(leave) => return Ok(Some(leave)),
         }
     }
-    Ok(None)
+    Err(SimFault::Read)
+}
+
+/// Whether the line names a file that isn't one of so many.
+pub fn is_beyond(line: &Line, files: u32) -> bool
+    ensures beyond { result ≡ true → IsOfFiles files line.now → ⊥ }
+    ensures within { result ≡ false → IsOfFiles files line.now }
+{
+    match line {
+        Line::Bytes(file, _) => *file >= files,
+        _ => false,
+    }
 }
 
 /// Asks a desk, or its port, what the line says, and lets go of the line.

@@ -12,6 +12,7 @@ mod fault;
 mod files;
 mod import;
 mod incoming;
+mod live;
 mod locked;
 mod lookup;
 mod notices;

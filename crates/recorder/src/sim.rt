@@ -1,10 +1,12 @@
 // A script over a store in memory.
-ghost use Rattle.std.specs.Prelude.{◌≡◌, ◌≢◌, ◌<◌, ◌≤◌, ℕ, List, length, OnOk, IfErr};
+ghost use Rattle.std.specs.Prelude.{◌≡◌, ◌≢◌, ◌<◌, ◌≤◌, ℕ, List, length, OnOk, IfErr, false};
 ghost use Rattle.std.specs.Io.KnownBytes.{Appends};
 ghost use Rattle.trace_store.specs.MemStore.{reads_of};
-ghost use Rattle.trace_script.specs.Lines.{IsWithinLimits, HasFile};
+ghost use Rattle.trace_script.specs.Lines.{IsWithinLimits, IsOfFiles};
+ghost use Rattle.trace_script.specs.Reading.{progress};
 ghost use Rattle.segment.specs.Specification.{Spec, File};
 ghost use Rattle.wrap_port.specs.WrapSpecs.{wrap_seen};
+ghost use Rattle.recorder.specs.Read.{stretch};
 ghost use Rattle.recorder.specs.Simulated.{ended_so, ComesOf, Crashes, Does, DoesAlone, Runs, IsRunWhole, Simulates, IsOver, IsItsFault, IsRun, first_of as first_told};
 ghost use Rattle.recorder.specs.Texts.{line_of};
 ghost use Rattle.trace_port.specs.declared.create.CreateFault.TheVariants as creating;
@@ -17,6 +19,7 @@ ghost use Rattle.recorder.specs.declared.reply.Origin.TheVariants.{Created, Resu
 use crate::answer::Answer;
 use crate::answers::Answers;
 use crate::contents::with_bytes;
+use crate::desk_lines::is_beyond;
 use crate::fault::SimFault;
 use crate::port_lines::{hold_file, hold_wrap};
 use crate::refusal::Refusal;
@@ -37,23 +40,23 @@ pub fn run_sim<R: BufRead, W: Write>(
     reader: &mut R,
     writer: &mut W,
 ) -> Result<(), SimFault>
-    ensures { IsRun (W.contents writer.old) (W.contents writer.new) result }
+    ensures { IsRun (R.remaining reader.old) (R.remaining reader.new) (W.contents writer.old) (W.contents writer.new) result }
 {
-    let Ok(mut script) = Script::new(alloc, reader) else {
-        return Err(SimFault::NoMemory);
-    };
-    let done = run_script(alloc, &mut script, writer);
-    drop(script);
-    done
+    let mut text = Vec::new(alloc);
+    let mut script = Script::new(alloc, reader, &mut text);
+    run_script(alloc, &mut script, writer)
 }
 
-/// Runs the lines of a script over a blank store of one file.
+/// Runs the lines of a script, of which none is read yet, over a blank store of one file.
 fn run_script<R: BufRead, W: Write>(
     alloc: Global,
     script: &mut Script<'_, R>,
     writer: &mut W,
 ) -> Result<(), SimFault>
-    ensures { IsRun (W.contents writer.old) (W.contents writer.new) result }
+    requires any { script.old.is_of_desk ≡ false }
+    requires first { script.old.number ≡ 0 }
+    ensures reader { script.new.reader.ghost_name ≡ script.old.reader.ghost_name }
+    ensures run { IsRun (R.remaining script.old.reader.now) (R.remaining script.new.reader.now) (W.contents writer.old) (W.contents writer.new) result }
 {
     let Ok(mut store) = MemStore::blank(alloc, 1) else {
         return Err(SimFault::NoMemory);
@@ -86,18 +89,22 @@ pub fn run_lines<R: BufRead, W: Write>(
     answers: &mut Answers<'_, W>,
 ) -> Result<(), SimFault>
     ensures name { answers.new.writer.ghost_name ≡ answers.old.writer.ghost_name }
-    ensures simulates { Simulates store.old store.new (W.contents answers.old.writer.now) (W.contents answers.new.writer.now) result }
+    ensures of_desk { script.new.is_of_desk ≡ script.old.is_of_desk }
+    ensures reader { script.new.reader.ghost_name ≡ script.old.reader.ghost_name }
+    ensures simulates { let over = stretch script.old.is_of_desk (progress script.old.number (R.remaining script.old.reader.now)) (progress script.new.number (R.remaining script.new.reader.now)) in
+        Simulates store.old store.new over (W.contents answers.old.writer.now) (W.contents answers.new.writer.now) result }
 {
     for _line in 0..u64::MAX {
-        match script.next_line()? {
-            None => return Ok(()),
-            Some(Line::Bytes(file, _)) if file >= store.files() => {
-                return Err(SimFault::from(script.bad_command()));
-            }
-            Some(line) => run_whole(alloc, store, line, script, answers)?,
+        let Some(line) = script.next_line()? else {
+            return Ok(());
+        };
+        if is_beyond(&line, store.files()) {
+            drop(line);
+            return Err(SimFault::from(script.bad_command()));
         }
+        run_whole(alloc, store, line, script, answers)?;
     }
-    Ok(())
+    Err(SimFault::Read)
 }
 
 /// Runs a line with the lines that its port takes, and answers how that was left.
@@ -109,9 +116,12 @@ fn run_whole<R: BufRead, W: Write>(
     answers: &mut Answers<'_, W>,
 ) -> Result<(), SimFault>
     requires sound { IsWithinLimits line }
-    requires file { HasFile (reads_of store.old) line }
+    requires file { IsOfFiles (length (reads_of store.old)) line }
     ensures name { answers.new.writer.ghost_name ≡ answers.old.writer.ghost_name }
-    ensures run { IsRunWhole line store.old store.new result (W.contents answers.old.writer.now) (W.contents answers.new.writer.now) }
+    ensures of_desk { script.new.is_of_desk ≡ script.old.is_of_desk }
+    ensures reader { script.new.reader.ghost_name ≡ script.old.reader.ghost_name }
+    ensures run { let over = stretch script.old.is_of_desk (progress script.old.number (R.remaining script.old.reader.now)) (progress script.new.number (R.remaining script.new.reader.now)) in
+        IsRunWhole line store.old store.new over result (W.contents answers.old.writer.now) (W.contents answers.new.writer.now) }
 {
     let left = run_line(alloc, &mut *store, &line, script, &mut *answers);
     drop(line);
@@ -127,9 +137,12 @@ fn run_line<R: BufRead, W: Write>(
     answers: &mut Answers<'_, W>,
 ) -> Result<Option<Leave>, Stop>
     requires sound { IsWithinLimits line.now }
-    requires file { HasFile (reads_of store.old) line.now }
+    requires file { IsOfFiles (length (reads_of store.old)) line.now }
     ensures name { answers.new.writer.ghost_name ≡ answers.old.writer.ghost_name }
-    ensures runs { Runs line.now store.old store.new result (λ text. Appends (W.contents answers.old.writer.now) (W.contents answers.new.writer.now) text) }
+    ensures of_desk { script.new.is_of_desk ≡ script.old.is_of_desk }
+    ensures reader { script.new.reader.ghost_name ≡ script.old.reader.ghost_name }
+    ensures runs { let over = stretch script.old.is_of_desk (progress script.old.number (R.remaining script.old.reader.now)) (progress script.new.number (R.remaining script.new.reader.now)) in
+        Runs line.now store.old store.new over result (λ text. Appends (W.contents answers.old.writer.now) (W.contents answers.new.writer.now) text) }
 {
     match line {
         Line::CreateFile(limit) => create_file(alloc, store, *limit, script, answers),
@@ -166,7 +179,7 @@ fn run_alone<W: Write>(
     answers: &mut Answers<'_, W>,
 ) -> Result<Option<Leave>, Stop>
     requires sound { IsWithinLimits line.now }
-    requires file { HasFile (reads_of store.old) line.now }
+    requires file { IsOfFiles (length (reads_of store.old)) line.now }
     ensures name { answers.new.writer.ghost_name ≡ answers.old.writer.ghost_name }
     ensures does { DoesAlone line.now store.old store.new result (λ text. Appends (W.contents answers.old.writer.now) (W.contents answers.new.writer.now) text) }
 {
@@ -195,7 +208,10 @@ fn create_file<R: BufRead, W: Write>(
     answers: &mut Answers<'_, W>,
 ) -> Result<Option<Leave>, Stop>
     ensures name { answers.new.writer.ghost_name ≡ answers.old.writer.ghost_name }
-    ensures comes { ComesOf Created File store.old store.new result (λ text. Appends (W.contents answers.old.writer.now) (W.contents answers.new.writer.now) text) }
+    ensures of_desk { script.new.is_of_desk ≡ script.old.is_of_desk }
+    ensures reader { script.new.reader.ghost_name ≡ script.old.reader.ghost_name }
+    ensures comes { let over = stretch script.old.is_of_desk (progress script.old.number (R.remaining script.old.reader.now)) (progress script.new.number (R.remaining script.new.reader.now)) in
+        ComesOf Created File store.old store.new over result (λ text. Appends (W.contents answers.old.writer.now) (W.contents answers.new.writer.now) text) }
 {
     match begin_create(alloc, &mut *store, limit) {
         Ok(opening) => {
@@ -222,7 +238,10 @@ fn resume_file<R: BufRead, W: Write>(
     answers: &mut Answers<'_, W>,
 ) -> Result<Option<Leave>, Stop>
     ensures name { answers.new.writer.ghost_name ≡ answers.old.writer.ghost_name }
-    ensures comes { ComesOf Resumed File store.old store.new result (λ text. Appends (W.contents answers.old.writer.now) (W.contents answers.new.writer.now) text) }
+    ensures of_desk { script.new.is_of_desk ≡ script.old.is_of_desk }
+    ensures reader { script.new.reader.ghost_name ≡ script.old.reader.ghost_name }
+    ensures comes { let over = stretch script.old.is_of_desk (progress script.old.number (R.remaining script.old.reader.now)) (progress script.new.number (R.remaining script.new.reader.now)) in
+        ComesOf Resumed File store.old store.new over result (λ text. Appends (W.contents answers.old.writer.now) (W.contents answers.new.writer.now) text) }
 {
     match begin_resume(alloc, &mut *store, limit) {
         Ok(opening) => {
@@ -248,7 +267,10 @@ fn resume_wrap<R: BufRead, W: Write>(
     answers: &mut Answers<'_, W>,
 ) -> Result<Option<Leave>, Stop>
     ensures name { answers.new.writer.ghost_name ≡ answers.old.writer.ghost_name }
-    ensures comes { (spec : Spec) → ComesOf Resumed spec store.old store.new result (λ text. Appends (W.contents answers.old.writer.now) (W.contents answers.new.writer.now) text) }
+    ensures of_desk { script.new.is_of_desk ≡ script.old.is_of_desk }
+    ensures reader { script.new.reader.ghost_name ≡ script.old.reader.ghost_name }
+    ensures comes { let over = stretch script.old.is_of_desk (progress script.old.number (R.remaining script.old.reader.now)) (progress script.new.number (R.remaining script.new.reader.now)) in
+        (spec : Spec) → ComesOf Resumed spec store.old store.new over result (λ text. Appends (W.contents answers.old.writer.now) (W.contents answers.new.writer.now) text) }
 {
     match wrap_port::begin_resume(alloc, &mut *store) {
         Ok(opening) => {
@@ -275,7 +297,10 @@ fn create_wrap<R: BufRead, W: Write>(
     answers: &mut Answers<'_, W>,
 ) -> Result<Option<Leave>, Stop>
     ensures name { answers.new.writer.ghost_name ≡ answers.old.writer.ghost_name }
-    ensures comes { ComesOf Created (wrap_seen spec) store.old store.new result (λ text. Appends (W.contents answers.old.writer.now) (W.contents answers.new.writer.now) text) }
+    ensures of_desk { script.new.is_of_desk ≡ script.old.is_of_desk }
+    ensures reader { script.new.reader.ghost_name ≡ script.old.reader.ghost_name }
+    ensures comes { let over = stretch script.old.is_of_desk (progress script.old.number (R.remaining script.old.reader.now)) (progress script.new.number (R.remaining script.new.reader.now)) in
+        ComesOf Created (wrap_seen spec) store.old store.new over result (λ text. Appends (W.contents answers.old.writer.now) (W.contents answers.new.writer.now) text) }
 {
     match wrap_port::begin_create(alloc, &mut *store, spec) {
         Ok(opening) => {
@@ -301,7 +326,7 @@ fn run_store_line<W: Write>(
     answers: &mut Answers<'_, W>,
 ) -> Result<(), SimFault>
     requires sound { IsWithinLimits line.now }
-    requires file { HasFile (reads_of store.old) line.now }
+    requires file { IsOfFiles (length (reads_of store.old)) line.now }
     ensures name { answers.new.writer.ghost_name ≡ answers.old.writer.ghost_name }
     ensures does { OnOk result ((text : List ℕ) × Does store.old store.new line.now text × Appends (W.contents answers.old.writer.now) (W.contents answers.new.writer.now) text) }
 {

@@ -13,7 +13,7 @@ use Rattle.std.specs.Io.{StartsWith, StopsAt, IsEmptyOrEndsWith, appended_bytes}
 use Rattle.std.specs.Io.BufRead.{ends_with_byte, strip_last}
 use Rattle.std.specs.Io.KnownBytes.{Consumes}
 use Rattle.trace_script.specs.Lines.{IsOfRecord, SaysSame}
-use Rattle.trace_script.specs.Reading.{IsUsedUp, IsTaken, IsTooLong, IsReadLine, AreTaken, IsUnread, Advances, IsSilent, IsCommand, TellsLine, HasNext, HasEnded, Breaks, HasStopped}
+use Rattle.trace_script.specs.Reading.{Progress, IsUsedUp, IsTaken, IsTooLong, IsOver, IsReadLine, AreTaken, IsUnread, Advances, IsSilent, IsCommand, TellsLine, HasNext, HasEnded, Breaks, HasStopped}
 use Rattle.trace_script.specs.declared.line.Line.{Line}
 use Rattle.trace_script.specs.declared.line.Line.TheVariants as lines
 use Rattle.trace_script.specs.declared.fault.ScriptFault.{ScriptFault}
@@ -75,75 +75,79 @@ all_of : (xs : List ℕ) → 0 < length xs → StopsAt xs 10 → get_or xs (leng
 all_of xs some stops last =
     subst (All (λ b. b ≢ 10)) (take_all (length xs - 1 + 1) xs (omega (arith, some))) (All-more (λ b. b ≢ 10) xs (length xs - 1) 0 (omega (arith, some)) stops last)
 
-taken_by : (was is : Option (List ℕ)) (bytes : List ℕ) (b : Bool) → ends_with_byte 10 bytes ≡ b → Consumes was is bytes → IsReadLine was is bytes → 0 < length bytes
+taken_by : (was is : Progress) (bytes : List ℕ) (b : Bool) → ends_with_byte 10 bytes ≡ b → Consumes was.left is.left bytes → IsReadLine was.left is.left bytes → 0 < length bytes → is.lines ≡ was.lines + 1
     → IsTaken was is (cond b (take (length bytes - 1) bytes) bytes) ⊎ IsTooLong was is (cond b (take (length bytes - 1) bytes) bytes)
-taken_by was is bytes true e p line some = inl (record { bytes = bytes; consumes = p; no_break = line.stops; ends = inl (split_last bytes some (last_is bytes e)) })
-taken_by was is bytes false e p line some =
+taken_by was is bytes true e p line some counts = inl (record { bytes = bytes; consumes = p; no_break = line.stops; ends = inl (split_last bytes some (last_is bytes e)); counts = counts })
+taken_by was is bytes false e p line some counts =
     let last = last_isnt bytes some e in
     let all = all_of bytes some line.stops last in
     elim line.ends [
-      | inl long ↦ inr (record { long = long; no_break = all; consumes = p })
-      | inr q ↦ elim q [ inl broken ↦ absurd (last broken.1) | inr up ↦ inl (record { bytes = bytes; consumes = p; no_break = all; ends = inr (refl, some, up) }) ]
+      | inl long ↦ inr (record { long = long; no_break = all; consumes = p; counts = counts })
+      | inr q ↦ elim q [ inl broken ↦ absurd (last broken.1) | inr up ↦ inl (record { bytes = bytes; consumes = p; no_break = all; ends = inr (refl, some, up); counts = counts }) ]
     ]
 
-pub taken : (was is : Option (List ℕ)) (bytes text : List ℕ) → Consumes was is bytes → IsReadLine was is bytes → 0 < length bytes → text ≡ strip_last 10 bytes → IsTaken was is text ⊎ IsTooLong was is text
-taken was is bytes text p line some e = subst (λ (t : List ℕ). IsTaken was is t ⊎ IsTooLong was is t) (sym e) (taken_by was is bytes (ends_with_byte 10 bytes) refl p line some)
+pub taken : (was is : Progress) (bytes text : List ℕ) → Consumes was.left is.left bytes → IsReadLine was.left is.left bytes → 0 < length bytes → text ≡ strip_last 10 bytes → is.lines ≡ was.lines + 1 → IsTaken was is text ⊎ IsTooLong was is text
+taken was is bytes text p line some e counts = subst (λ (t : List ℕ). IsTaken was is t ⊎ IsTooLong was is t) (sym e) (taken_by was is bytes (ends_with_byte 10 bytes) refl p line some counts)
 
 pub some_bytes : (v : Vec ℕ) → false ≡ (vec_len v == 0) → 0 < length v.items
 some_bytes v t = let counted = v.ok.0 in grind (arith, nat_tests)
 
-pub nothing_left : (was is : Option (List ℕ)) (bytes : List ℕ) → length bytes ≡ 0 → Consumes was is bytes → IsReadLine was is bytes → Consumes was is [] × IsUsedUp was is
-nothing_left was is [] none p line = (p, elim line.ends [ inl long ↦ absurd (omega (arith, long)) | inr q ↦ elim q [ inl broken ↦ absurd (omega (arith, broken.0)) | inr up ↦ up ] ])
-nothing_left was is (x ∷ xs) none p line = absurd (omega (arith, none))
+pub nothing_left : (was is : Progress) (bytes : List ℕ) → length bytes ≡ 0 → Consumes was.left is.left bytes → IsReadLine was.left is.left bytes → is.lines ≡ was.lines → IsOver was is
+nothing_left was is [] none p line counts = record {
+  no_more = p;
+  used_up = elim line.ends [ inl long ↦ absurd (omega (arith, long)) | inr q ↦ elim q [ inl broken ↦ absurd (omega (arith, broken.0)) | inr up ↦ up ] ];
+  counts = counts;
+}
+nothing_left was is (x ∷ xs) none p line counts = absurd (omega (arith, none))
 
-pub advanced : (was is : Option (List ℕ)) (text : List ℕ) (more : Bool) → more ≡ true → Advances was is text (Ok more) → IsTaken was is text ⊎ IsTooLong was is text
+pub advanced : (was is : Progress) (text : List ℕ) (more : Bool) → more ≡ true → Advances was is text (Ok more) → IsTaken was is text ⊎ IsTooLong was is text
 advanced was is text more e told = let Told : Bool → Type 0 = λ b. Advances was is text (Ok b) in subst Told e told
 
 -- ---- lines, one after another
 
 -- lines that say nothing were taken
-pub record HasPassed (was mid : Option (List ℕ)) : Type 0 where
+pub record HasPassed (was mid : Progress) : Type 0 where
   pub silent : List (List ℕ)
   pub each : All IsSilent silent
   pub before : AreTaken was silent mid
 
-pub passed_none : (was : Option (List ℕ)) → HasPassed was was
+pub passed_none : (was : Progress) → HasPassed was was
 passed_none was = record { silent = []; each = All-nil IsSilent; before = AreTaken.none }
 
-is_taken : (mid is : Option (List ℕ)) (text : List ℕ) → IsTaken mid is text ⊎ IsTooLong mid is text → length text ≤ 300000 → IsTaken mid is text
+is_taken : (mid is : Progress) (text : List ℕ) → IsTaken mid is text ⊎ IsTooLong mid is text → length text ≤ 300000 → IsTaken mid is text
 is_taken mid is text t short = elim t [ inl h ↦ h | inr h ↦ absurd (omega (arith, short, h.long)) ]
 
-consumed : (mid is : Option (List ℕ)) (text : List ℕ) → IsTaken mid is text ⊎ IsTooLong mid is text → (part : List ℕ) × Consumes mid is part
+consumed : (mid is : Progress) (text : List ℕ) → IsTaken mid is text ⊎ IsTooLong mid is text → (part : List ℕ) × Consumes mid.left is.left part
 consumed mid is text t = elim t [ inl h ↦ (h.bytes, h.consumes) | inr h ↦ (text, h.consumes) ]
 
-pub passed_more : (was mid is : Option (List ℕ)) (text : List ℕ) → HasPassed was mid → IsTaken mid is text ⊎ IsTooLong mid is text → IsSilent text → HasPassed was is
+pub passed_more : (was mid is : Progress) (text : List ℕ) → HasPassed was mid → IsTaken mid is text ⊎ IsTooLong mid is text → IsSilent text → HasPassed was is
 passed_more was mid is text h t s = record { silent = h.silent ++ text ∷ []; each = All-push IsSilent h.silent text h.each s; before = AreTaken.more text h.before (is_taken mid is text t s.short) }
 
-pub no_line : (of_desk : Bool) (text : List ℕ) (found : Option Line) → false ≡ is_some found → TellsLine of_desk text (Ok found) → IsSilent text
-no_line of_desk text None e told = told
-no_line of_desk text (Some line) e told = let same : false ≡ true = e in cc
+pub no_line : (of_desk : Bool) (number : ℕ) (text : List ℕ) (found : Option Line) → false ≡ is_some found → TellsLine of_desk number text (Ok found) → IsSilent text
+no_line of_desk number text None e told = told
+no_line of_desk number text (Some line) e told = let same : false ≡ true = e in cc
 
-pub next_found : (of_desk : Bool) (was mid is : Option (List ℕ)) (text : List ℕ) (line : Line) → HasPassed was mid → IsTaken mid is text ⊎ IsTooLong mid is text → IsCommand of_desk line text → HasNext of_desk was is line
+pub next_found : (of_desk : Bool) (was mid is : Progress) (text : List ℕ) (line : Line) → HasPassed was mid → IsTaken mid is text ⊎ IsTooLong mid is text → IsCommand of_desk line text → HasNext of_desk was is line
 next_found of_desk was mid is text line h t k = record { silent = h.silent; each = h.each; mid = mid; before = h.before; text = text; taken = is_taken mid is text t k.short; command = k }
 
-pub ended : (was mid is : Option (List ℕ)) → HasPassed was mid → Consumes mid is [] × IsUsedUp mid is → HasEnded was is
-ended was mid is h p = record { silent = h.silent; each = h.each; mid = mid; before = h.before; no_more = p.0; used_up = p.1 }
+pub ended : (was mid is : Progress) → HasPassed was mid → IsOver mid is → HasEnded was is
+ended was mid is h over = record { silent = h.silent; each = h.each; mid = mid; before = h.before; over = over }
 
-stopped : (of_desk : Bool) (was mid is : Option (List ℕ)) (fault : ScriptFault) → HasPassed was mid → Breaks of_desk mid is fault → HasStopped of_desk was is fault
+stopped : (of_desk : Bool) (was mid is : Progress) (fault : ScriptFault) → HasPassed was mid → Breaks of_desk mid is fault → HasStopped of_desk was is fault
 stopped of_desk was mid is fault h b = record { silent = h.silent; each = h.each; mid = mid; before = h.before; breaks = b }
 
-pub stopped_line : (of_desk : Bool) (was mid is : Option (List ℕ)) (text : List ℕ) (fault : ScriptFault) → HasPassed was mid → IsTaken mid is text ⊎ IsTooLong mid is text → TellsLine of_desk text (Err fault) → HasStopped of_desk was is fault
-stopped_line of_desk was mid is text (faults.BadCommand number) h t k = stopped of_desk was mid is (faults.BadCommand number) h (Breaks.refused number text k t)
+pub stopped_line : (of_desk : Bool) (was mid is : Progress) (text : List ℕ) (fault : ScriptFault) → HasPassed was mid → IsTaken mid is text ⊎ IsTooLong mid is text → TellsLine of_desk is.lines text (Err fault) → HasStopped of_desk was is fault
+stopped_line of_desk was mid is text (faults.BadCommand number) h t k = stopped of_desk was mid is (faults.BadCommand number) h (subst (λ (n : ℕ). Breaks of_desk mid is (faults.BadCommand n)) (sym k.0) (Breaks.refused text k.1 t))
 stopped_line of_desk was mid is text faults.Read h t k = absurd k
 stopped_line of_desk was mid is text faults.NoMemory h t k = let p = consumed mid is text t in stopped of_desk was mid is faults.NoMemory h (Breaks.no_memory p.0 p.1)
 
-pub stopped_read : (of_desk : Bool) (was mid is : Option (List ℕ)) (fault : ScriptFault) → HasPassed was mid → (part : List ℕ) × Consumes mid is part → IsUnread fault → HasStopped of_desk was is fault
+pub stopped_read : (of_desk : Bool) (was mid is : Progress) (fault : ScriptFault) → HasPassed was mid → (part : List ℕ) × Consumes mid.left is.left part → IsUnread fault → HasStopped of_desk was is fault
 stopped_read of_desk was mid is (faults.BadCommand number) h p k = absurd k
 stopped_read of_desk was mid is faults.Read h p k = stopped of_desk was mid is faults.Read h (Breaks.unread p.0 p.1)
 stopped_read of_desk was mid is faults.NoMemory h p k = stopped of_desk was mid is faults.NoMemory h (Breaks.no_memory p.0 p.1)
 
-pub stopped_after : (of_desk : Bool) (was is : Option (List ℕ)) → HasPassed was is → HasStopped of_desk was is faults.Read
-stopped_after of_desk was is h = stopped of_desk was is is faults.Read h (Breaks.unread [] (Consumes-nil is))
+pub stopped_after : (of_desk : Bool) (was is : Progress) → HasPassed was is → HasStopped of_desk was is faults.Read
+stopped_after of_desk was is h = stopped of_desk was is is faults.Read h (Breaks.unread [] (Consumes-nil is.left))
 
 -- ---- lines that say the same stand in the same scripts
 

@@ -1,7 +1,6 @@
 -- What a line of a script may say.
-use Rattle.std.specs.Prelude.{◌≡◌, ℕ, ◌≤◌, ◌<◌, ⊤, length, Vec}
+use Rattle.std.specs.Prelude.{◌≡◌, ℕ, ◌≤◌, ◌<◌, ⊤, Vec}
 use Rattle.std.specs.declared.alloc.Global.{Global}
-use Rattle.trace_store.specs.Disk.{Image}
 use Rattle.entry_codec.specs.Entries.{IsLawful}
 use Rattle.entry_codec.specs.Seen.{view}
 use Rattle.trace_store.specs.declared.pick.Pick.{Pick}
@@ -39,10 +38,10 @@ IsOfRecord lines.Abandon = Unit {0}
 IsOfRecord (lines.AtDesk line) = Unit {0}
 IsOfRecord _ = ⊥
 
--- the file that the line names is one of these
-abbrev pub HasFile : Image → Line → Type 0
-HasFile image (lines.Bytes file bytes) = file < length image
-HasFile image _ = ⊤
+-- the line names no file, or one of so many
+abbrev pub IsOfFiles : ℕ → Line → Type 0
+IsOfFiles files (lines.Bytes file bytes) = file < files
+IsOfFiles files _ = ⊤
 
 -- what a crash is asked to leave of what is unsynced
 abbrev pub pick_of : Unsynced → Pick

@@ -1,14 +1,14 @@
 // The lines of a script, read one at a time.
 ghost use Rattle.std.specs.Prelude.{IfOk, IfSome, ◌≤◌, length, IsUtf8};
 ghost use Rattle.trace_script.specs.Lines.{IsWithinLimits, IsOfRecord};
-ghost use Rattle.trace_script.specs.Reading.{Advances, IsSilent, TellsLine, TellsNext};
+ghost use Rattle.trace_script.specs.Reading.{progress, Advances, IsSilent, TellsLine, TellsNext};
 ghost use Rattle.trace_script.specs.Spellings.{IsFound};
 ghost use Rattle.trace_script.specs.Table.{Spells};
 
 use crate::fault::ScriptFault;
 use crate::line::{Line, parse};
 use crate::reading::{LONGEST, drop_break, read_line};
-use std::alloc::{AllocError, Global};
+use std::alloc::Global;
 use std::io::BufRead;
 
 /// Bytes of the longest script.
@@ -18,8 +18,11 @@ const MOST_BYTES: u64 = 1_099_511_627_776;
 pub struct Script<'r, R: BufRead> {
     alloc: Global,
     reader: &'r mut R,
-    text: Vec<u8>,
+    /// The present line, in room that is lent.
+    text: &'r mut Vec<u8>,
+    /// How many lines were taken off the reader.
     number: u64,
+    /// How many bytes may still come.
     left: u64,
     /// Whether each line that isn't for a port in a desk is a bad command.
     is_of_desk: bool,
@@ -28,28 +31,38 @@ pub struct Script<'r, R: BufRead> {
 impl<'r, R: BufRead> Script<'r, R> {
     ghost use Rattle.std.specs.Prelude.{◌≡◌, false, true};
 
-    pub fn new(alloc: Global, reader: &'r mut R) -> Result<Script<'r, R>, AllocError>
-        ensures { IfOk result (λ script. script.is_of_desk ≡ false) }
+    /// A script of which nothing is read yet. Each of its lines is held in the text.
+    pub fn new(alloc: Global, reader: &'r mut R, text: &'r mut Vec<u8>) -> Script<'r, R>
+        ensures of_desk { result.is_of_desk ≡ false }
+        ensures name { result.reader.ghost_name ≡ reader.entry.ghost_name }
+        ensures now { result.reader.now ≡ reader.entry.now }
+        ensures number { result.number ≡ 0 }
     {
-        let text = Vec::with_capacity(alloc, LONGEST + 1)?;
-        Ok(Script {
+        Script {
             alloc,
             reader,
             text,
             number: 0,
             left: MOST_BYTES,
             is_of_desk: false,
-        })
+        }
     }
 
     /// A script whose every line is for a port in a desk.
-    pub fn of_desk(alloc: Global, reader: &'r mut R) -> Result<Script<'r, R>, AllocError>
-        ensures { IfOk result (λ script. script.is_of_desk ≡ true) }
+    pub fn of_desk(alloc: Global, reader: &'r mut R, text: &'r mut Vec<u8>) -> Script<'r, R>
+        ensures of_desk { result.is_of_desk ≡ true }
+        ensures name { result.reader.ghost_name ≡ reader.entry.ghost_name }
+        ensures now { result.reader.now ≡ reader.entry.now }
+        ensures number { result.number ≡ 0 }
     {
-        Ok(Script {
+        Script {
+            alloc,
+            reader,
+            text,
+            number: 0,
+            left: MOST_BYTES,
             is_of_desk: true,
-            ..Script::new(alloc, reader)?
-        })
+        }
     }
 
     /// The fault of the present line.
@@ -63,32 +76,35 @@ impl<'r, R: BufRead> Script<'r, R> {
     fn advance(&mut self) -> Result<bool, ScriptFault>
         ensures same { self.new.is_of_desk ≡ self.old.is_of_desk }
         ensures name { self.new.reader.ghost_name ≡ self.old.reader.ghost_name }
-        ensures advances { Advances (R.remaining self.old.reader.now) (R.remaining self.new.reader.now) self.new.text.items result }
+        ensures advances { Advances (progress self.old.number (R.remaining self.old.reader.now)) (progress self.new.number (R.remaining self.new.reader.now)) self.new.text.now.items result }
     {
-        read_line(&mut *self.reader, &mut self.text)?;
+        read_line(&mut *self.reader, &mut *self.text)?;
         if self.text.is_empty() {
             return Ok(false);
         }
         let Some(left) = self.left.checked_sub(self.text.len() as u64) else {
             return Err(ScriptFault::Read);
         };
+        let Some(number) = self.number.checked_add(1) else {
+            return Err(ScriptFault::Read);
+        };
         self.left = left;
-        self.number = self.number.saturating_add(1);
-        drop_break(&mut self.text);
+        self.number = number;
+        drop_break(&mut *self.text);
         Ok(true)
     }
 
     /// The line, where it may stand in this script.
     fn allowed(&self, line: Option<Line>) -> Result<Option<Line>, ScriptFault>
         requires limits { IfSome line IsWithinLimits }
-        requires spelled { IsFound (λ it. Spells it self.now.text.items) line }
-        requires utf8 { IsUtf8 self.now.text.items }
-        requires short { length self.now.text.items ≤ 300000 }
-        requires says { IsSilent self.now.text.items → ⊥ }
+        requires spelled { IsFound (λ it. Spells it self.now.text.now.items) line }
+        requires utf8 { IsUtf8 self.now.text.now.items }
+        requires short { length self.now.text.now.items ≤ 300000 }
+        requires says { IsSilent self.now.text.now.items → ⊥ }
         ensures sound { IfOk result (λ found. IfSome found IsWithinLimits) }
-        ensures spells { IfOk result (λ found. IfSome found (λ line. Spells line self.now.text.items)) }
+        ensures spells { IfOk result (λ found. IfSome found (λ line. Spells line self.now.text.now.items)) }
         ensures of_desk { self.now.is_of_desk ≡ true → IfOk result (λ found. IfSome found IsOfRecord) }
-        ensures tells { TellsLine self.now.is_of_desk self.now.text.items result }
+        ensures tells { TellsLine self.now.is_of_desk self.now.number self.now.text.now.items result }
     {
         let is_allowed = match &line {
             Some(line) => !self.is_of_desk || line.is_of_desk(),
@@ -104,14 +120,14 @@ impl<'r, R: BufRead> Script<'r, R> {
     /// The line that the text spells; None where it is empty or a remark.
     fn present(&self) -> Result<Option<Line>, ScriptFault>
         ensures sound { IfOk result (λ found. IfSome found IsWithinLimits) }
-        ensures spells { IfOk result (λ found. IfSome found (λ line. Spells line self.now.text.items)) }
+        ensures spells { IfOk result (λ found. IfSome found (λ line. Spells line self.now.text.now.items)) }
         ensures of_desk { self.now.is_of_desk ≡ true → IfOk result (λ found. IfSome found IsOfRecord) }
-        ensures tells { TellsLine self.now.is_of_desk self.now.text.items result }
+        ensures tells { TellsLine self.now.is_of_desk self.now.number self.now.text.now.items result }
     {
         if self.text.len() > LONGEST {
             return Err(self.bad_command());
         }
-        let Ok(text) = str::from_utf8(&self.text) else {
+        let Ok(text) = str::from_utf8(&*self.text) else {
             return Err(self.bad_command());
         };
         if text.is_empty() || text.starts_with('#') {
@@ -123,11 +139,11 @@ impl<'r, R: BufRead> Script<'r, R> {
     /// The next line that isn't empty or a remark.
     pub fn next_line(&mut self) -> Result<Option<Line>, ScriptFault>
         ensures sound { IfOk result (λ found. IfSome found IsWithinLimits) }
-        ensures spells { IfOk result (λ found. IfSome found (λ line. Spells line self.new.text.items)) }
+        ensures spells { IfOk result (λ found. IfSome found (λ line. Spells line self.new.text.now.items)) }
         ensures of_desk { self.old.is_of_desk ≡ true → IfOk result (λ found. IfSome found IsOfRecord) }
         ensures same { self.new.is_of_desk ≡ self.old.is_of_desk }
         ensures name { self.new.reader.ghost_name ≡ self.old.reader.ghost_name }
-        ensures next { TellsNext self.old.is_of_desk (R.remaining self.old.reader.now) (R.remaining self.new.reader.now) result }
+        ensures next { TellsNext self.old.is_of_desk (progress self.old.number (R.remaining self.old.reader.now)) (progress self.new.number (R.remaining self.new.reader.now)) result }
     {
         for _line in 0..u64::MAX {
             if !self.advance()? {

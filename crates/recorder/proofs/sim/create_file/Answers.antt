@@ -9,7 +9,7 @@ use Rattle.recorder.proofs.sim.create_file.Goals as goal
 pub returns-in-Ok-clause-comes : goal.returns-in-Ok-clause-comes
 returns-in-Ok-clause-comes g c =
     let e = c.in-Ok.ensures in
-    rw c.ended.ensures (was_run Created _ c.args.store.now c.hold_file-left.new.store c.hold_file-left.result _ (record {
+    rw c.ended.ensures (was_run Created _ c.args.store.now c.hold_file-left.new.store _ c.hold_file-left.result _ (record {
       mid = c.begin_create.new.store;
       opening = openings.File c.in-Ok.opening;
       opens = begins (is_blank (e.blank tt)) refl (e.fits tt);

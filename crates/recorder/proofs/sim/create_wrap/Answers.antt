@@ -10,7 +10,7 @@ use Rattle.recorder.proofs.sim.create_wrap.Goals as goal
 pub returns-in-Ok-clause-comes : goal.returns-in-Ok-clause-comes
 returns-in-Ok-clause-comes g c =
     let e = c.in-Ok.ensures in
-    rw c.ended.ensures (was_run Created _ c.args.store.now c.hold_wrap-left.new.store c.hold_wrap-left.result _ (record {
+    rw c.ended.ensures (was_run Created _ c.args.store.now c.hold_wrap-left.new.store _ c.hold_wrap-left.result _ (record {
       mid = c.begin_create.new.store;
       opening = openings.Wrap c.in-Ok.opening;
       opens = begins (is_blank (e.blank tt)) (ap wrap_seen e.spec) (e.fits tt);

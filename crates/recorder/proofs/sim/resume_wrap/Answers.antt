@@ -8,7 +8,7 @@ pub returns-in-Ok-clause-comes : goal.returns-in-Ok-clause-comes
 returns-in-Ok-clause-comes g c = λ spec.
     let e = c.in-Ok.ensures in
     let found = e.fits tt in
-    rw c.ended.ensures (was_run Resumed spec c.args.store.now c.hold_wrap-left.new.store c.hold_wrap-left.result _ (record {
+    rw c.ended.ensures (was_run Resumed spec c.args.store.now c.hold_wrap-left.new.store _ c.hold_wrap-left.result _ (record {
       mid = c.begin_resume.new.store;
       opening = openings.Wrap c.in-Ok.opening;
       opens = goes_on found.0 found.1 found.2;

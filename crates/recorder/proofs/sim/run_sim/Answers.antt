@@ -1,6 +1,7 @@
-use Rattle.std.proofs.KnownBytes.{Keeps-refl}
-use Rattle.recorder.specs.Simulated.{no_memory}
+use Rattle.std.proofs.Common.{rules, ◌≡◌}
 use Rattle.recorder.proofs.sim.run_sim.Goals as goal
 
-pub returns-in_default : goal.returns-in_default
-returns-in_default g c = no_memory (Keeps-refl _)
+pub returns : goal.returns
+returns g c =
+    let reads : c.reader-1.given.0 ≡ c.run_script.new.script.reader.now = search rules in
+    rw reads (rw c.new-script.ensures.now at c.run_script.ensures.run)

@@ -17,17 +17,17 @@ returns-in_err-advance-clause-next g c =
 pub returns-in_err-found-clause-next : goal.returns-in_err-found-clause-next
 returns-in_err-found-clause-next g c =
     let desk = c.advance.ensures.same ∙ c.loop-line.invariant.desk in
-    let taken = advanced _ _ c.advance.new.self.text.items _ (search rules) c.in_ok-advance.ensures.advances in
+    let taken = advanced _ _ c.advance.new.self.text.now.items _ (search rules) c.in_ok-advance.ensures.advances in
     let p = err_from_is_err_and c.from_residual-in_err-found.result c.from_residual-in_err-found.ensures.1 in
     rw (p.1, p.2)
-    (stopped_line c.args.self.now.is_of_desk _ _ _ c.advance.new.self.text.items c.in_err-found.field-0.0 c.loop-line.invariant.passed taken
-    (subst (λ (of_desk : Bool). TellsLine of_desk c.advance.new.self.text.items (Err c.in_err-found.field-0.0)) desk c.in_err-found.ensures.tells))
+    (stopped_line c.args.self.now.is_of_desk _ _ _ c.advance.new.self.text.now.items c.in_err-found.field-0.0 c.loop-line.invariant.passed taken
+    (subst (λ (of_desk : Bool). TellsLine of_desk c.advance.new.self.number c.advance.new.self.text.now.items (Err c.in_err-found.field-0.0)) desk c.in_err-found.ensures.tells))
 
 pub loop-line-preserved : goal.loop-line-preserved
 loop-line-preserved g c = let none : false ≡ is_some c.in_ok-found.found = cc in record {
   desk = c.advance.ensures.same ∙ c.loop-line.invariant.desk;
   name = c.advance.ensures.name ∙ c.loop-line.invariant.name;
-  passed = passed_more _ _ _ c.advance.new.self.text.items c.loop-line.invariant.passed (advanced _ _ c.advance.new.self.text.items _ (search rules) c.in_ok-advance.ensures.advances) (no_line _ _ c.in_ok-found.found none c.in_ok-found.ensures.tells);
+  passed = passed_more _ _ _ c.advance.new.self.text.now.items c.loop-line.invariant.passed (advanced _ _ c.advance.new.self.text.now.items _ (search rules) c.in_ok-advance.ensures.advances) (no_line _ c.advance.new.self.number _ c.in_ok-found.found none c.in_ok-found.ensures.tells);
 }
 
 pub returns-clause-next : goal.returns-clause-next

@@ -1,4 +1,5 @@
 use Rattle.std.proofs.Common.{◌≡◌}
+use Rattle.trace_script.specs.Reading.{progress}
 use Rattle.trace_script.proofs.Taken.{HasPassed}
 use Rattle.trace_script.proofs.script.Script.next_line.Given as goal
 
@@ -6,5 +7,5 @@ abbrev pub invariant-loop-line : goal.invariant-loop-line
 invariant-loop-line g l = record {
   desk : l.self.is_of_desk ≡ l.fn.self.is_of_desk;
   name : l.self.reader.ghost_name ≡ l.fn.self.reader.ghost_name;
-  passed : HasPassed (g.R.Read.remaining l.fn.self.reader.now) (g.R.Read.remaining l.self.reader.now);
+  passed : HasPassed (progress l.fn.self.number (g.R.Read.remaining l.fn.self.reader.now)) (progress l.self.number (g.R.Read.remaining l.self.reader.now));
 }
