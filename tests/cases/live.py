@@ -3,6 +3,7 @@
 import contextlib
 import struct
 import threading
+import time
 
 from cases import group
 from entries import drop, listing, message
@@ -11,15 +12,27 @@ from segments import segment, wrap_header
 
 CASES, case = group()
 
+PAUSE = 0.001
+
+ADVICE = "another process writes this trace, and its files changed while they were read: try again"
+
 SIZE = 91
 
 # listings and exports of a file, and as many of a wrap
 TRIES = 1_000
 
-# tries of one file, which is listed in less time than it takes to grow by as much
-TRIES_OF_A_FILE = 20
+# bytes that are written at full speed during one try, and then no more before the next: a listing that is slower than
+# the writer comes to the end too
+A_TRY = 4_000_000
+
+# tries of one file at least, and its bytes from which on another is begun
+TRIES_OF_A_FILE = 4
+MUCH = 4_000_000
 
 WRAP = ("--kind", "wrap", "--size", "8K")
+
+# bytes that take the wrap round
+A_LAP = 200_000
 
 
 def entry(number):
@@ -28,10 +41,12 @@ def entry(number):
 
 
 class Feeder:
-    """Writes entries as fast as they are taken, from 0 on, until it is to end."""
+    """Writes entries as fast as they are taken, from 0 on, until it is to end: so many bytes a try at most."""
 
     def __init__(self, importer):
         self.importer = importer
+        self.tries = 1
+        self.bytes = 0
         self.is_over = threading.Event()
         self.thread = threading.Thread(target=self.feed)
 
@@ -39,8 +54,18 @@ class Feeder:
         number = 0
         with contextlib.suppress(BrokenPipeError):
             while not self.is_over.is_set():
-                self.importer.write(b"".join(entry(number + each) for each in range(64)))
+                if self.bytes >= self.tries * A_TRY:
+                    time.sleep(PAUSE)
+                    continue
+                some = b"".join(entry(number + each) for each in range(64))
+                self.importer.write(some)
                 number += 64
+                self.bytes += len(some)
+
+    def wait(self, count):
+        """Waits until so many bytes are written."""
+        while self.bytes < count and self.thread.is_alive():
+            time.sleep(PAUSE)
 
     def __enter__(self):
         self.thread.start()
@@ -65,35 +90,59 @@ def shown_first(command, output):
     return first, count
 
 
-def try_live(program, name, words, tries):
-    """Lists and exports by turns while an import writes at full speed, and answers the windows that were shown."""
-    windows = []
-    with program.start("import", name, *words) as importer:
-        same(importer.line(), "created")
-        with Feeder(importer):
-            for turn in range(tries):
-                command = ("list", "export")[turn % 2]
-                windows.append(shown_first(command, program.good(command, name, *words[:2])))
-        same(importer.end().status, 0)
-    # what was there stays, or goes off at the front
+def never_goes_back(windows):
+    """What was there stays, or goes off at the front."""
     same([first for first, _ in windows], sorted(first for first, _ in windows))
     same([first + count for first, count in windows], sorted(first + count for first, count in windows))
-    return windows
+
+
+def try_file(program, name, tries):
+    """Lists and exports a file by turns while an import writes it, and answers how often."""
+    windows = []
+    with program.start("import", name) as importer:
+        same(importer.line(), "created")
+        with Feeder(importer) as feeder:
+            while len(windows) < TRIES_OF_A_FILE or (len(windows) < tries and feeder.bytes < MUCH):
+                command = ("list", "export")[len(windows) % 2]
+                windows.append(shown_first(command, program.good(command, name)))
+                feeder.tries += 1
+        same(importer.end().status, 0)
+    never_goes_back(windows)
+    same({first for first, _ in windows}, {0})
+    assert windows[0][1] < windows[-1][1], "nothing was written meanwhile"
+    (program.folder / name).unlink()
+    return len(windows)
 
 
 @case
 def a_file_that_is_written_is_never_refused(program):
-    for turn in range(TRIES // TRIES_OF_A_FILE):
-        windows = try_live(program, f"t{turn}", (), TRIES_OF_A_FILE)
-        same({first for first, _ in windows}, {0})
-        assert windows[0][1] < windows[-1][1], "nothing was written meanwhile"
-        (program.folder / f"t{turn}").unlink()
+    made = 0
+    while made < TRIES:
+        made += try_file(program, f"t{made}", TRIES - made)
 
 
 @case
-def a_wrap_that_is_written_is_never_refused(program):
-    windows = try_live(program, "w", WRAP, TRIES)
+def a_wrap_that_is_written_is_not_refused(program):
+    windows, refusals = [], 0
+    with program.start("import", "w", *WRAP) as importer:
+        same(importer.line(), "created")
+        with Feeder(importer) as feeder:
+            feeder.wait(A_LAP)
+            for turn in range(TRIES):
+                command = ("list", "export")[turn % 2]
+                ran = program.run(command, "w", *WRAP[:2])
+                while ran.status != 0:
+                    # the machine is so busy that the wrap turned during each of five readings
+                    same((ran.output, ran.errors.decode().splitlines()[1:]), (b"", [ADVICE]))
+                    refusals += 1
+                    ran = program.run(command, "w", *WRAP[:2])
+                same(ran.errors, b"")
+                windows.append(shown_first(command, ran.output))
+                feeder.tries += 1
+        same(importer.end().status, 0)
+    never_goes_back(windows)
     assert windows[0][0] < windows[-1][0], "it didn't turn meanwhile"
+    assert refusals <= TRIES // 50, refusals
 
 
 @case
@@ -105,13 +154,12 @@ def a_wrap_that_stays_refused_while_it_is_locked_says_so(program):
         # two files of one place: no reading can be whole
         (program.folder / "w0").write_bytes(segment(wrap_header(6, count=3)))
         (program.folder / "w1").write_bytes(segment(wrap_header(4, count=3)))
-        advice = "another process writes this trace, and its files changed while they were read: try again"
         for command in ("list", "export"):
             ran = program.run(command, "w", *kept)
             same((ran.status, ran.output), (1, b""))
             first, second = ran.errors.decode().splitlines()
             assert first.startswith("dbgrec: refused "), first
-            same(second, advice)
+            same(second, ADVICE)
         importer.kill()
     # nobody writes it any more
     for command in ("list", "export"):
