@@ -22,6 +22,7 @@ import images
 import importing
 import installing
 import keeping
+import libraries
 import listing
 import live
 import locking
@@ -36,7 +37,7 @@ import wording
 from cases import Skipped
 from program import Program
 
-GROUPS = (rows, scripts, listing, pretty, recording, importing, foreign, absent, keeping, telling, crashes, images, machine, faults, locking, live, wording, installing, memory)
+GROUPS = (rows, scripts, listing, pretty, recording, importing, foreign, absent, keeping, telling, crashes, images, machine, faults, locking, live, wording, installing, memory, libraries)
 
 
 def words():

@@ -1,0 +1,97 @@
+//! Folds over a window, and audits, while memory is refused.
+
+use crate::refused_memory_ports::{TRIES, is_refused_for_good};
+use crate::scenes::{MESSAGE, room};
+use entry_codec::Entry;
+use recovery::Recovered;
+use std::alloc::Global;
+use std::cell::Cell;
+use std::test::*;
+use trace_client::{Item, fold_trace};
+use tracees::{Mismatch, Receipt, audit};
+
+/// An entry of these bytes, which are copied once more where that was refused memory.
+fn message(alloc: Global, bytes: &[u8]) -> Option<Entry> {
+    let copy = Vec::from_slice(alloc, bytes)
+        .or_else(|_| Vec::from_slice(alloc, bytes))
+        .ok()?;
+    Some(Entry::Message(copy))
+}
+
+/// A window of a message, one that spells no term, and two lost ones, after seven entries that tell two as lost.
+fn window(alloc: Global) -> Option<Recovered> {
+    let mut entries = room(alloc, 3)?;
+    entries.push(message(alloc, &MESSAGE[5..])?).ok()?;
+    entries.push(message(alloc, b"abc")?).ok()?;
+    entries.push(Entry::Drop(2)).ok()?;
+    Recovered::new(None, 7, 2, entries, false)
+}
+
+/// The digit of an item.
+fn digit(item: &Item) -> u32 {
+    match item {
+        Item::Seen(_) => 1,
+        Item::Opaque(3) => 2,
+        Item::Drop(2) => 3,
+        Item::Done => 4,
+        _ => 9,
+    }
+}
+
+/// A fold that is refused memory was handed items from the first on, and never the end.
+#[test]
+fn a_window_is_folded_when_there_is_memory(rt: HostRuntime) {
+    let alloc = rt.alloc();
+    let Some(window) = window(alloc) else {
+        assert!(rt; is_refused_for_good(alloc));
+        return;
+    };
+    for _ in 0..TRIES {
+        let handed = Cell::new(0u32);
+        let folded = fold_trace(alloc, &window, 0u32, |item, digits| {
+            let digits = digits.wrapping_mul(10).wrapping_add(digit(item));
+            handed.set(digits);
+            digits
+        });
+        if let Ok(digits) = folded {
+            assert_eq!(rt; digits, 1234);
+            return;
+        }
+        assert!(rt; matches!(handed.get(), 0 | 1 | 12 | 123));
+    }
+    assert!(rt; is_refused_for_good(alloc));
+}
+
+/// A receipt of these entries, the first of this number, of which those up to number 9 are covered.
+fn receipt(first: u64, entries: Vec<Entry>) -> Receipt {
+    Receipt {
+        desk: 0,
+        tracee: 0,
+        first,
+        entries,
+        covered: 10,
+    }
+}
+
+/// A receipt of the second and third entry of the window, and one of another entry than its first.
+fn receipts(alloc: Global) -> Option<[Receipt; 2]> {
+    let mut entries = room(alloc, 2)?;
+    entries.push(message(alloc, b"abc")?).ok()?;
+    entries.push(Entry::Drop(2)).ok()?;
+    let mut others = room(alloc, 1)?;
+    others.push(Entry::Drop(2)).ok()?;
+    Some([receipt(8, entries), receipt(7, others)])
+}
+
+#[test]
+fn an_audit_answers_without_memory(rt: HostRuntime) {
+    let alloc = rt.alloc();
+    let (Some(window), Some(receipts)) = (window(alloc), receipts(alloc)) else {
+        assert!(rt; is_refused_for_good(alloc));
+        return;
+    };
+    assert_eq!(rt; audit(&window, &receipts[..1]), Ok(()));
+    assert_eq!(rt; audit(&window, &receipts), Err(Mismatch { number: 7 }));
+    drop(receipts);
+    drop(window);
+}
