@@ -15,4 +15,6 @@ mod refused_memory_ports;
 #[cfg(test)]
 mod refused_memory_terms;
 #[cfg(test)]
+mod refused_memory_threads;
+#[cfg(test)]
 mod scenes;
