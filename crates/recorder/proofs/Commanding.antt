@@ -3,7 +3,7 @@ use Rattle.std.proofs.Common.{◌≡◌, ℕ, Option, List, Ok, Err, OnOk, IfErr
 use Rattle.std.specs.Prelude.{Result}
 use Rattle.std.specs.Io.KnownBytes.{Appends, Keeps}
 use Rattle.trace_store.specs.Disk.{Image}
-use Rattle.trace_store.specs.declared.folder_store.FolderStore.{FolderStore}
+use Rattle.stores.specs.declared.folder_store.FolderStore.{FolderStore}
 use Rattle.trace_client.specs.Forms.{Form}
 use Rattle.trace_files.specs.Standing.{IsStanding}
 use Rattle.trace_files.specs.declared.standing.Standing.TheVariants as standings

@@ -1,12 +1,12 @@
 -- What comes of a line of a script while no port is held.
 use Rattle.std.proofs.Common.{◌≡◌, ℕ, Bool, false, Option, List, [], replicate, Result, Ok, Err, OnOk, IfErr, inl, sym, subst}
 use Rattle.std.specs.Io.KnownBytes.{Keeps}
-use Rattle.trace_store.specs.declared.mem_store.MemStore.{MemStore}
+use Rattle.stores.specs.declared.mem_store.MemStore.{MemStore}
 use Rattle.segment.specs.Specification.{Spec}
 use Rattle.trace_port.specs.Openings.{IsKept}
 use Rattle.trace_port.proofs.Leaving.{weaker}
-use Rattle.trace_store.specs.MemStore.{fuse_of, IsSettled}
-use Rattle.trace_store.specs.declared.fuse.Fuse.TheVariants.{Whole}
+use Rattle.stores.specs.MemStore.{fuse_of, IsSettled}
+use Rattle.stores.specs.declared.fuse.Fuse.TheVariants.{Whole}
 use Rattle.trace_script.specs.Reading.{Progress}
 use Rattle.trace_script.specs.declared.line.Line.{Line}
 use Rattle.recorder.specs.Read.{Stretch, stretch, first_lines}

@@ -5,13 +5,13 @@ use Rattle.std.specs.declared.vec.Vec.{Vec}
 use Rattle.std.specs.declared.alloc.Global.{Global}
 use Rattle.trace_store.specs.Disk.{Image}
 use Rattle.trace_store.specs.Moments.{Rose, LeavesOnly}
-use Rattle.trace_store.specs.MemStore.{honest_of, disk_of, reads_of, images_of, moments_of, clock_of, failures_of, fuse_of, SameButFuse, IsPossible, IsSettled}
-use Rattle.trace_store.specs.Crashes.{image_of}
-use Rattle.trace_store.specs.declared.fuse.Fuse.TheVariants.{Whole, After, Once}
-use Rattle.trace_store.specs.declared.mem_store.MemStore.{MemStore}
-use Rattle.trace_store.specs.declared.pick.CrashFault.{CrashFault}
-use Rattle.trace_store.specs.declared.pick.CrashFault.TheVariants.{NotImage}
-use Rattle.trace_store.specs.contracts.mem_store.MemStoreStore.TheImpl as mem
+use Rattle.stores.specs.MemStore.{honest_of, disk_of, reads_of, images_of, moments_of, clock_of, failures_of, fuse_of, SameButFuse, IsPossible, IsSettled}
+use Rattle.stores.specs.Crashes.{image_of}
+use Rattle.stores.specs.declared.fuse.Fuse.TheVariants.{Whole, After, Once}
+use Rattle.stores.specs.declared.mem_store.MemStore.{MemStore}
+use Rattle.stores.specs.declared.pick.CrashFault.{CrashFault}
+use Rattle.stores.specs.declared.pick.CrashFault.TheVariants.{NotImage}
+use Rattle.stores.specs.contracts.mem_store.MemStoreStore.TheImpl as mem
 use Rattle.segment.specs.Pieces.{OnlyReads}
 use Rattle.segment.specs.Specification.{Spec, File, Wrap, Timed}
 use Rattle.recovery.specs.Views.{empty}
@@ -36,14 +36,14 @@ use Rattle.recorder.specs.Faults.{script_fault}
 use Rattle.recorder.specs.Sides.{Alone}
 use Rattle.recorder.specs.Read.{Stretch, stretch, first_lines, ReadsNothing}
 use Rattle.recorder.specs.Held.{WasHeld}
-use Rattle.recorder.specs.Openings.{told_of, Opens, IsNoSpec}
+use Rattle.recorder.specs.Openings.{first_told, GoesOnOrBegins, IsNoSpec}
 use Rattle.recorder.specs.Stored.{TellsStore, TellsFiles}
 use Rattle.recorder.specs.Texts.{greeting, line_of}
 use Rattle.recorder.specs.declared.answer.Answer.TheVariants as answers
 use Rattle.recorder.specs.declared.fault.SimFault.{SimFault}
 use Rattle.recorder.specs.declared.fault.SimFault.TheVariants as faults
-use Rattle.recorder.specs.declared.opening.Opened.{Opened}
-use Rattle.recorder.specs.declared.opening.Opened.TheVariants as openings
+use Rattle.recorder.specs.declared.opening.AnyOpening.{AnyOpening}
+use Rattle.recorder.specs.declared.opening.AnyOpening.TheVariants as openings
 use Rattle.recorder.specs.declared.refusal.Refusal.{Refusal}
 use Rattle.recorder.specs.declared.refusal.Refusal.TheVariants as refusals
 use Rattle.recorder.specs.declared.reply.Leave.{Leave}
@@ -64,7 +64,7 @@ LeavesSo Created spec old new =
 LeavesSo Resumed spec old new = Leaves (device old) (device new) (λ image. (device old).images image ⊎ ReadsAlike (reads_of old) image)
 
 -- the lines of a stretch of a script were run on a port over this opening, which then was dropped
-abbrev pub RanOn : Opened → Origin → MemStore → MemStore → Stretch → Result (Option Leave) SimFault → (List ℕ → Type 0) → Type 0
+abbrev pub RanOn : AnyOpening → Origin → MemStore → MemStore → Stretch → Result (Option Leave) SimFault → (List ℕ → Type 0) → Type 0
 RanOn (openings.File opening) origin old new over left Writes =
     WasHeld (file_told mem.ghosts pending.ghosts) Alone (opened_told pending.ghosts opening (device old)) (greeting origin) (length (reads_of old)) over left (device new) Writes
 RanOn (openings.Wrap opening) origin old new over left Writes =
@@ -73,8 +73,8 @@ RanOn (openings.Wrap opening) origin old new over left Writes =
 -- a port was made over the store, and the lines behind this one were run on it until it was given up
 pub record WasRun (origin : Origin) (spec : Spec) (old new : MemStore) (over : Stretch) (left : Result (Option Leave) SimFault) (Writes : List ℕ → Type 0) : Type 0 where
   pub mid : MemStore
-  pub opening : Opened
-  pub opens : Opens (reads_of old) (told_of opening (device mid)) spec origin
+  pub opening : AnyOpening
+  pub opens : GoesOnOrBegins (reads_of old) (first_told opening (device mid)) spec origin
   pub moments : LeavesSo origin spec old mid
   pub ran : RanOn opening origin mid new over left Writes
 

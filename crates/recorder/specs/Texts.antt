@@ -3,8 +3,8 @@ use Rattle.std.specs.Prelude.{ℕ, ◌+◌, ◌/◌, ◌%◌, Option, Some, None
 use Rattle.std.specs.Fmt.{decimal}
 use Rattle.recovery.specs.declared.fault.RecoverFault.{RecoverFault}
 use Rattle.recovery.specs.declared.fault.RecoverFault.TheVariants as recovering
-use Rattle.trace_store.specs.declared.pick.CrashFault.{CrashFault}
-use Rattle.trace_store.specs.declared.pick.CrashFault.TheVariants as crashing
+use Rattle.stores.specs.declared.pick.CrashFault.{CrashFault}
+use Rattle.stores.specs.declared.pick.CrashFault.TheVariants as crashing
 use Rattle.trace_port.specs.declared.create.CreateFault.{CreateFault}
 use Rattle.trace_port.specs.declared.create.CreateFault.TheVariants as creating
 use Rattle.trace_port.specs.declared.resume.ResumeFault.{ResumeFault}

@@ -7,7 +7,8 @@ use crate::fault::SimFault;
 use recovery::Recovered;
 use std::alloc::Global;
 use std::io::Write;
-use trace_client::{Style, list};
+use trace_client::list;
+use trace_text::Style;
 
 /// The last word of a file's line, with its line feed: two hexadecimal digits, or `--` where there is no byte.
 fn last_word(gate: Option<u8>) -> [u8; 3]
@@ -42,7 +43,7 @@ impl<'w, W: Write> Answers<'w, W> {
     ghost use Rattle.std.specs.Prelude.{◌≡◌, ℕ, List, OnOk, IfErr};
     ghost use Rattle.std.specs.Io.KnownBytes.{Appends, Keeps};
     ghost use Rattle.entry_codec.specs.Seen.{views};
-    ghost use Rattle.trace_client.specs.Lines.{IsListing};
+    ghost use Rattle.trace_text.specs.Lines.{IsListing};
     ghost use Rattle.recorder.specs.Texts.{line_of, state_text};
     ghost use Rattle.recorder.specs.declared.fault.SimFault.TheVariants as faults;
 

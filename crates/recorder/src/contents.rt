@@ -1,15 +1,16 @@
 // A store with other bytes in one of its files.
 ghost use Rattle.std.specs.Prelude.{◌≡◌, ◌<◌, ◌≤◌, IfOk, length, set};
 ghost use Rattle.trace_store.specs.Disk.{file_of};
-ghost use Rattle.trace_store.specs.Calls.{contents_of};
-ghost use Rattle.trace_store.specs.MemStore.{reads_of, fuse_of, IsSettled};
-ghost use Rattle.trace_store.specs.declared.fuse.Fuse.TheVariants.{Whole};
+ghost use Rattle.stores.specs.Calls.{contents_of};
+ghost use Rattle.stores.specs.MemStore.{reads_of, fuse_of, IsSettled};
+ghost use Rattle.stores.specs.declared.fuse.Fuse.TheVariants.{Whole};
 ghost use Rattle.segment.specs.Pieces.{OnlyReads};
 ghost use Rattle.recorder.specs.Simulated.{OnlyLooked};
 
 use crate::refusal::Refusal;
 use std::alloc::Global;
-use trace_store::{MemStore, Store};
+use stores::MemStore;
+use trace_store::Store;
 
 /// A store in which this file holds these bytes and the others what a read gives, with nothing unsynced.
 pub fn with_bytes(

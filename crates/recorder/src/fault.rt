@@ -13,7 +13,7 @@ use trace_client::{ListFault, StreamFault};
 use trace_port::PortFault;
 use trace_reader::{ReadFault, WipeFault};
 use trace_script::ScriptFault;
-use trace_store::FileFault;
+use stores::FileFault;
 
 /// What ends a run before its end. It displays what is told on standard error.
 #[derive(Debug, Drop, Error)]

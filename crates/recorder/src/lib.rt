@@ -35,7 +35,7 @@ pub use complaint::{Advice, Complaint};
 pub use fault::SimFault;
 pub use files::Files;
 pub use import::{Plan, import_file, import_wrap};
-pub use opening::{Opened, open_store};
+pub use opening::{AnyOpening, open_store};
 pub use place::{Kind, Place, Turn};
 pub use port_lines::{hold_file, hold_wrap};
 pub use record::{record_file, record_wrap};

@@ -9,7 +9,8 @@ use recovery::RecoverFault;
 use std::alloc::{AllocError, AllocFailed};
 use std::fmt;
 use trace_port::{CreateFault, PortFault, ResumeFault};
-use trace_store::{CrashFault, DeviceFault};
+use stores::CrashFault;
+use trace_store::DeviceFault;
 use tracees::HandFault;
 
 /// Why a hand-over or a flush for a tracee was refused.

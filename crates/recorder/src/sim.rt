@@ -1,7 +1,7 @@
 // A script over a store in memory.
 ghost use Rattle.std.specs.Prelude.{◌≡◌, ◌≢◌, ◌<◌, ◌≤◌, ℕ, List, length, OnOk, IfErr, false};
 ghost use Rattle.std.specs.Io.KnownBytes.{Appends};
-ghost use Rattle.trace_store.specs.MemStore.{reads_of};
+ghost use Rattle.stores.specs.MemStore.{reads_of};
 ghost use Rattle.trace_script.specs.Lines.{IsWithinLimits, IsOfFiles};
 ghost use Rattle.trace_script.specs.Reading.{progress};
 ghost use Rattle.segment.specs.Specification.{Spec, File};
@@ -30,7 +30,8 @@ use std::alloc::Global;
 use std::io::{BufRead, Write};
 use trace_port::{CreateFault, begin_create, begin_resume};
 use trace_script::{Line, Script, Unsynced};
-use trace_store::{DeviceFault, MemStore, Pick, Store};
+use stores::{MemStore, Pick};
+use trace_store::{DeviceFault, Store};
 use wrap_port::{BadSpec, WrapSpec};
 
 /// Runs a script over a store in memory, at first a blank one of one file. What was answered before a fault has been

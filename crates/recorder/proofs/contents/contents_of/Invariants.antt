@@ -1,5 +1,5 @@
 use Rattle.std.proofs.Common.{◌≡◌, take, length}
-use Rattle.trace_store.specs.Calls.{contents_of}
+use Rattle.stores.specs.Calls.{contents_of}
 use Rattle.segment.specs.Pieces.{OnlyReads}
 use Rattle.recorder.proofs.contents.contents_of.Given as goal
 

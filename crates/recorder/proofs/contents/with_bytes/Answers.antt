@@ -1,6 +1,6 @@
 use Rattle.std.proofs.Common.{rules, ◌≡◌, List, [], ◌++◌, ℕ, set, ap, subst, ◌∙◌}
 use Rattle.trace_store.specs.Disk.{Image}
-use Rattle.trace_store.specs.MemStore.{IsSettled, reads_of}
+use Rattle.stores.specs.MemStore.{IsSettled, reads_of}
 use Rattle.recorder.proofs.contents.with_bytes.Goals as goal
 
 pub returns-clause-made : goal.returns-clause-made

@@ -1,7 +1,7 @@
 use Rattle.std.proofs.Common.{Err, ap, sym, subst}
-use Rattle.trace_store.specs.MemStore.{disk_of, IsPossible, IsSettled}
-use Rattle.trace_store.specs.Crashes.{image_of}
-use Rattle.trace_store.specs.declared.pick.Pick.{Pick}
+use Rattle.stores.specs.MemStore.{disk_of, IsPossible, IsSettled}
+use Rattle.stores.specs.Crashes.{image_of}
+use Rattle.stores.specs.declared.pick.Pick.{Pick}
 use Rattle.recorder.specs.Simulated.{leaves, refuses}
 use Rattle.recorder.proofs.sim.crashed.Goals as goal
 

@@ -2,7 +2,7 @@ use Rattle.std.proofs.Common.{ap}
 use Rattle.recovery.specs.Stores.{is_blank}
 use Rattle.wrap_port.specs.WrapSpecs.{wrap_seen}
 use Rattle.recorder.specs.Openings.{begins}
-use Rattle.recorder.specs.declared.opening.Opened.TheVariants as openings
+use Rattle.recorder.specs.declared.opening.AnyOpening.TheVariants as openings
 use Rattle.recorder.specs.declared.reply.Origin.TheVariants.{Created}
 use Rattle.recorder.proofs.Simulating.{was_run}
 use Rattle.recorder.proofs.sim.create_wrap.Goals as goal

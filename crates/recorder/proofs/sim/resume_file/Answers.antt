@@ -2,7 +2,7 @@ use Rattle.std.proofs.Common.{refl}
 use Rattle.segment.specs.Specification.{File}
 use Rattle.std.proofs.KnownBytes.{Appends-nil}
 use Rattle.recorder.specs.Openings.{goes_on}
-use Rattle.recorder.specs.declared.opening.Opened.TheVariants as openings
+use Rattle.recorder.specs.declared.opening.AnyOpening.TheVariants as openings
 use Rattle.recorder.specs.declared.reply.Origin.TheVariants.{Resumed}
 use Rattle.recorder.proofs.Simulating.{was_run, only_kept}
 use Rattle.recorder.proofs.sim.resume_file.Goals as goal

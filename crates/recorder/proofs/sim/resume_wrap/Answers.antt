@@ -1,5 +1,5 @@
 use Rattle.recorder.specs.Openings.{goes_on}
-use Rattle.recorder.specs.declared.opening.Opened.TheVariants as openings
+use Rattle.recorder.specs.declared.opening.AnyOpening.TheVariants as openings
 use Rattle.recorder.specs.declared.reply.Origin.TheVariants.{Resumed}
 use Rattle.recorder.proofs.Simulating.{was_run}
 use Rattle.recorder.proofs.sim.resume_wrap.Goals as goal

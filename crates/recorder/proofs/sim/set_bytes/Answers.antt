@@ -1,5 +1,5 @@
 use Rattle.std.proofs.Common.{List, ℕ, set, subst}
-use Rattle.trace_store.specs.MemStore.{reads_of, IsSettled}
+use Rattle.stores.specs.MemStore.{reads_of, IsSettled}
 use Rattle.recorder.specs.Simulated.{holds, holds_not}
 use Rattle.recorder.proofs.sim.set_bytes.Goals as goal
 
