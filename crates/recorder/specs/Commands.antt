@@ -29,20 +29,21 @@ use Rattle.command_line.specs.declared.request.Rules.{Rules}
 use Rattle.command_line.specs.declared.request.TraceRequest.{TraceRequest}
 use Rattle.command_line.specs.declared.request.TraceRequest.TheVariants as requests
 use Rattle.recorder.specs.Complaints.{status_told}
-use Rattle.recorder.specs.Faults.{status_of, run_fault, read_fault, wipe_fault}
+use Rattle.script_port.specs.Faults.{status_of, run_fault, read_fault, wipe_fault}
 use Rattle.recorder.specs.Files.{OnlyLooks, WasRecorded, WasFed}
 use Rattle.recorder.specs.Incoming.{Outside, outside}
-use Rattle.recorder.specs.Openings.{wanted, first_told, FitsStore, GoesOnOrBegins, KeepsTrace, IsWhyNotOpened}
+use Rattle.script_port.specs.PortOpenings.{first_told, FitsStore, GoesOnOrBegins}
+use Rattle.recorder.specs.Openings.{wanted, KeepsTrace, IsWhyNotOpened}
 use Rattle.recorder.specs.Places.{turn_of}
-use Rattle.recorder.specs.Texts.{line_of}
-use Rattle.recorder.specs.declared.answer.Answer.TheVariants.{Done}
+use Rattle.script_port.specs.Texts.{line_of}
+use Rattle.script_port.specs.declared.answer.Answer.TheVariants.{Done}
 use Rattle.recorder.specs.declared.complaint.Complaint.{Complaint}
 use Rattle.recorder.specs.declared.complaint.Complaint.TheVariants as complaints
-use Rattle.recorder.specs.declared.fault.SimFault.{SimFault}
-use Rattle.recorder.specs.declared.fault.SimFault.TheVariants as faults
+use Rattle.script_port.specs.declared.fault.SimFault.{SimFault}
+use Rattle.script_port.specs.declared.fault.SimFault.TheVariants as faults
 use Rattle.recorder.specs.declared.files.Files.{Files}
-use Rattle.recorder.specs.declared.opening.AnyOpening.{AnyOpening}
-use Rattle.recorder.specs.declared.reply.Origin.{Origin}
+use Rattle.script_port.specs.declared.opening.AnyOpening.{AnyOpening}
+use Rattle.script_port.specs.declared.reply.Origin.{Origin}
 
 -- the files of a trace as a device
 abbrev pub device : FolderStore → Device

@@ -12,19 +12,19 @@ use Rattle.trace_port.specs.contracts.pending.PendingRoom.TheImpl as pending
 use Rattle.wrap_port.specs.WrapOpened.{wrap_opened_told}
 use Rattle.wrap_port.specs.WrapPort.{wrap_told}
 use Rattle.command_line.specs.declared.request.Rules.{Rules}
-use Rattle.recorder.specs.Answers.{opened_answer}
-use Rattle.recorder.specs.Sides.{in_desk}
-use Rattle.recorder.specs.Texts.{line_of}
-use Rattle.recorder.specs.Read.{Stretch, first_lines}
-use Rattle.recorder.specs.Held.{WasHeld}
+use Rattle.script_port.specs.Answers.{opened_answer}
+use Rattle.script_port.specs.Sides.{in_desk}
+use Rattle.script_port.specs.Texts.{line_of}
+use Rattle.script_port.specs.Read.{Stretch, first_lines}
+use Rattle.script_port.specs.Held.{WasHeld}
 use Rattle.recorder.specs.Incoming.{Outside}
 use Rattle.recorder.specs.Importing.{WasImported}
-use Rattle.recorder.specs.declared.answer.Answer.TheVariants.{Done}
-use Rattle.recorder.specs.declared.fault.SimFault.{SimFault}
-use Rattle.recorder.specs.declared.opening.AnyOpening.{AnyOpening}
-use Rattle.recorder.specs.declared.opening.AnyOpening.TheVariants as openings
-use Rattle.recorder.specs.declared.reply.Leave.{Leave}
-use Rattle.recorder.specs.declared.reply.Origin.{Origin}
+use Rattle.script_port.specs.declared.answer.Answer.TheVariants.{Done}
+use Rattle.script_port.specs.declared.fault.SimFault.{SimFault}
+use Rattle.script_port.specs.declared.opening.AnyOpening.{AnyOpening}
+use Rattle.script_port.specs.declared.opening.AnyOpening.TheVariants as openings
+use Rattle.script_port.specs.declared.reply.Leave.{Leave}
+use Rattle.script_port.specs.declared.reply.Origin.{Origin}
 
 -- the files were read at most
 abbrev pub OnlyLooks : FolderStore → FolderStore → Type 0
