@@ -5,8 +5,8 @@ use command_line::{Asked, Shape};
 use segment::{Kind, SegHeader};
 use std::alloc::AllocError;
 use std::fs;
-use trace_files::first_header;
 use stores::FolderStore;
+use trace_files::first_header;
 
 /// What stands there.
 #[derive(Clone, Copy, Debug)]

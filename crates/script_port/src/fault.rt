@@ -8,12 +8,12 @@ use crate::refusal::Refusal;
 use recovery::RecoverFault;
 use std::alloc::{AllocError, AllocFailed};
 use std::io;
+use stores::FileFault;
 use thiserror::Error;
 use trace_client::{ListFault, StreamFault};
 use trace_port::PortFault;
 use trace_reader::{ReadFault, WipeFault};
 use trace_script::ScriptFault;
-use stores::FileFault;
 
 /// What ends a run before its end. It displays what is told on standard error.
 #[derive(Debug, Drop, Error)]

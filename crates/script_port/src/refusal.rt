@@ -8,8 +8,8 @@ use intake::{EmitFault, TraceeFault};
 use recovery::RecoverFault;
 use std::alloc::{AllocError, AllocFailed};
 use std::fmt;
-use trace_port::{CreateFault, PortFault, ResumeFault};
 use stores::CrashFault;
+use trace_port::{CreateFault, PortFault, ResumeFault};
 use trace_store::DeviceFault;
 use tracees::HandFault;
 

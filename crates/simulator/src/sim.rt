@@ -19,12 +19,14 @@ ghost use Rattle.script_port.specs.declared.reply.Origin.TheVariants.{Created, R
 use crate::contents::with_bytes;
 use crate::store_lines::{list, list_files};
 use recovery::wipe;
-use script_port::{Answer, Answers, Leave, Origin, Refusal, SimFault, Stop, hold_file, hold_wrap, is_beyond};
+use script_port::{
+    Answer, Answers, Leave, Origin, Refusal, SimFault, Stop, hold_file, hold_wrap, is_beyond,
+};
 use std::alloc::Global;
 use std::io::{BufRead, Write};
+use stores::{MemStore, Pick};
 use trace_port::{CreateFault, begin_create, begin_resume};
 use trace_script::{Line, Script, Unsynced};
-use stores::{MemStore, Pick};
 use trace_store::{DeviceFault, Store};
 use wrap_port::{BadSpec, WrapSpec};
 
