@@ -7,7 +7,7 @@ use std::slice;
 use std::test::*;
 use trace_message::Event;
 use trace_port::{FilePort, PortFault, TracePort};
-use trace_store::MemStore;
+use stores::MemStore;
 use trace_terms::{NoMemory, Term};
 use tracees::{Desk, HandFault, PlainBook, Receipt, Reply, Step, drive};
 

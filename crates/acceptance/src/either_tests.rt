@@ -4,7 +4,7 @@ use std::alloc::Global;
 use std::process::Abort;
 use std::test::*;
 use trace_port::{FilePort, Pending, PortFault, TracePort};
-use trace_store::MemStore;
+use stores::MemStore;
 use tracees::{EitherPort, put_as_file, put_as_wrap};
 
 type Port<'s> = FilePort<'s, MemStore, Pending>;

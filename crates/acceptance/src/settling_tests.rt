@@ -11,7 +11,7 @@ use std::sync::ledger::{Blank, Ledger};
 use std::test::*;
 use trace_message::Event;
 use trace_port::{FilePort, TracePort};
-use trace_store::MemStore;
+use stores::MemStore;
 use trace_terms::Term;
 use tracees::{
     Account, Bookkeeping, Desk, LedgerBook, Numbered, PARTS, SettleFault, SharedBook, Totals,

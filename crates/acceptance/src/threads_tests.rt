@@ -17,7 +17,7 @@ use std::test::*;
 use std::thread::Threads;
 use trace_message::Event;
 use trace_port::{FilePort, PortFault, PortState, Status, TracePort};
-use trace_store::{MemStore, Pick};
+use stores::{MemStore, Pick};
 use trace_terms::{Pid, Term};
 use tracees::{
     Account, Act, ActFault, Bookkeeping, Desk, Gate, HandFault, Job, JobState, LedgerBook,

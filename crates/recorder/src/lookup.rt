@@ -6,7 +6,7 @@ use segment::{Kind, SegHeader};
 use std::alloc::AllocError;
 use std::fs;
 use trace_files::first_header;
-use trace_store::FolderStore;
+use stores::FolderStore;
 
 /// What stands there.
 #[derive(Clone, Copy, Debug)]
