@@ -13,7 +13,7 @@ use Rattle.std.specs.Io.{StartsWith, StopsAt, IsEmptyOrEndsWith, appended_bytes}
 use Rattle.std.specs.Io.BufRead.{ends_with_byte, strip_last}
 use Rattle.std.specs.Io.KnownBytes.{Consumes}
 use Rattle.trace_script.specs.Lines.{IsOfRecord, SaysSame}
-use Rattle.trace_script.specs.Reading.{Progress, IsUsedUp, IsTaken, IsTooLong, IsOver, IsReadLine, AreTaken, IsUnread, IsOfScript, TakesOf, TakesMore, TellsRoom, Advances, IsSilent, IsCommand, TellsLine, HasNext, HasEnded, Breaks, HasStopped}
+use Rattle.trace_script.specs.Reading.{Progress, IsUsedUp, IsTaken, IsTooLong, IsOver, IsReadLine, AreTaken, IsOfScript, TakesOf, TakesMore, TellsRoom, Advances, IsSilent, IsCommand, TellsLine, HasNext, HasEnded, Breaks, HasStopped}
 use Rattle.trace_script.specs.declared.line.Line.{Line}
 use Rattle.trace_script.specs.declared.line.Line.TheVariants as lines
 use Rattle.trace_script.specs.declared.fault.ScriptFault.{ScriptFault}
@@ -162,26 +162,19 @@ takes_both before mid now a b c p q = (p.0 ++ q.0, Consumes-trans a b c p.0 q.0 
 takes_more : (before mid : ℕ) (a b c : Option (List ℕ)) → TakesOf before mid a b → TakesMore mid b c → TakesMore before a c
 takes_more before mid a b c p q = (p.0 ++ q.0, Consumes-trans a b c p.0 q.0 p.1 q.1, omega (arith, length-append p.0 q.0, p.2, q.2))
 
--- of a fault that is no line's: a read failed, or there was no memory
-pub told_unread : {A : Type 0} (before now : ℕ) (was is : Option (List ℕ)) (fault : ScriptFault) → IsUnread fault → TellsRoom {A} before now was is (Err fault)
-told_unread before now was is (faults.BadCommand number) k = absurd k
-told_unread before now was is faults.Read k = tt
-told_unread before now was is faults.TooLong k = absurd k
-told_unread before now was is faults.NoMemory k = tt
-
 -- behind lines that say nothing: the next line wasn't had, or it is refused
-pub told_behind : {A : Type 0} (before mid now : ℕ) (a b c : Option (List ℕ)) (fault : ScriptFault) → TakesOf before mid a b → TellsRoom {Bool} mid now b c (Err fault) → TellsRoom {A} before now a c (Err fault)
-told_behind before mid now a b c (faults.BadCommand number) p q = takes_both before mid now a b c p q
-told_behind before mid now a b c faults.Read p q = tt
-told_behind before mid now a b c faults.TooLong p q = takes_more before mid a b c p q
-told_behind before mid now a b c faults.NoMemory p q = tt
+pub told_behind : (A : Type 0) (before mid now : ℕ) (a b c : Option (List ℕ)) (fault : ScriptFault) → TakesOf before mid a b → TellsRoom {A = Bool} mid now b c (Err fault) → TellsRoom {A = A} before now a c (Err fault)
+told_behind A before mid now a b c (faults.BadCommand number) p q = takes_both before mid now a b c p q
+told_behind A before mid now a b c faults.Read p q = tt
+told_behind A before mid now a b c faults.TooLong p q = takes_more before mid a b c p q
+told_behind A before mid now a b c faults.NoMemory p q = tt
 
-pub told_of_line : {A : Type 0} (before mid now : ℕ) (a b c : Option (List ℕ)) (of_desk : Bool) (number : ℕ) (text : List ℕ) (fault : ScriptFault) → TakesOf before mid a b → TakesOf mid now b c
-    → TellsLine of_desk number text (Err fault) → TellsRoom {A} before now a c (Err fault)
-told_of_line before mid now a b c of_desk number text (faults.BadCommand bad) p q k = takes_both before mid now a b c p q
-told_of_line before mid now a b c of_desk number text faults.Read p q k = tt
-told_of_line before mid now a b c of_desk number text faults.TooLong p q k = absurd k
-told_of_line before mid now a b c of_desk number text faults.NoMemory p q k = tt
+pub told_of_line : (A : Type 0) (before mid now : ℕ) (a b c : Option (List ℕ)) (of_desk : Bool) (number : ℕ) (text : List ℕ) (fault : ScriptFault) → TakesOf before mid a b → TakesOf mid now b c
+    → TellsLine of_desk number text (Err fault) → TellsRoom {A = A} before now a c (Err fault)
+told_of_line A before mid now a b c of_desk number text (faults.BadCommand bad) p q k = takes_both before mid now a b c p q
+told_of_line A before mid now a b c of_desk number text faults.Read p q k = tt
+told_of_line A before mid now a b c of_desk number text faults.TooLong p q k = absurd k
+told_of_line A before mid now a b c of_desk number text faults.NoMemory p q k = tt
 
 -- ---- lines that say the same stand in the same scripts
 
