@@ -54,6 +54,7 @@ run_fault stream.NoMemory = faults.NoMemory
 abbrev pub script_fault : ScriptFault → SimFault
 script_fault (scripts.BadCommand line) = faults.BadCommand line
 script_fault scripts.Read = faults.Read
+script_fault scripts.TooLong = faults.Read
 script_fault scripts.NoMemory = faults.NoMemory
 
 -- a trace that isn't read, or not to its end

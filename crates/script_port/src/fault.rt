@@ -174,7 +174,7 @@ impl From<ScriptFault> for SimFault {
     fn from(fault: ScriptFault) -> SimFault {
         match fault {
             ScriptFault::BadCommand { line } => SimFault::BadCommand { line },
-            ScriptFault::Read => SimFault::Read,
+            ScriptFault::Read | ScriptFault::TooLong => SimFault::Read,
             ScriptFault::NoMemory => SimFault::NoMemory,
         }
     }

@@ -13,7 +13,7 @@ use Rattle.std.specs.Io.{StartsWith, StopsAt, IsEmptyOrEndsWith, appended_bytes}
 use Rattle.std.specs.Io.BufRead.{ends_with_byte, strip_last}
 use Rattle.std.specs.Io.KnownBytes.{Consumes}
 use Rattle.trace_script.specs.Lines.{IsOfRecord, SaysSame}
-use Rattle.trace_script.specs.Reading.{Progress, IsUsedUp, IsTaken, IsTooLong, IsOver, IsReadLine, AreTaken, IsUnread, Advances, IsSilent, IsCommand, TellsLine, HasNext, HasEnded, Breaks, HasStopped}
+use Rattle.trace_script.specs.Reading.{Progress, IsUsedUp, IsTaken, IsTooLong, IsOver, IsReadLine, AreTaken, IsOfScript, TakesOf, TakesMore, TellsRoom, Advances, IsSilent, IsCommand, TellsLine, HasNext, HasEnded, Breaks, HasStopped}
 use Rattle.trace_script.specs.declared.line.Line.{Line}
 use Rattle.trace_script.specs.declared.line.Line.TheVariants as lines
 use Rattle.trace_script.specs.declared.fault.ScriptFault.{ScriptFault}
@@ -139,15 +139,42 @@ stopped of_desk was mid is fault h b = record { silent = h.silent; each = h.each
 pub stopped_line : (of_desk : Bool) (was mid is : Progress) (text : List ℕ) (fault : ScriptFault) → HasPassed was mid → IsTaken mid is text ⊎ IsTooLong mid is text → TellsLine of_desk is.lines text (Err fault) → HasStopped of_desk was is fault
 stopped_line of_desk was mid is text (faults.BadCommand number) h t k = stopped of_desk was mid is (faults.BadCommand number) h (subst (λ (n : ℕ). Breaks of_desk mid is (faults.BadCommand n)) (sym k.0) (Breaks.refused text k.1 t))
 stopped_line of_desk was mid is text faults.Read h t k = absurd k
+stopped_line of_desk was mid is text faults.TooLong h t k = absurd k
 stopped_line of_desk was mid is text faults.NoMemory h t k = let p = consumed mid is text t in stopped of_desk was mid is faults.NoMemory h (Breaks.no_memory p.0 p.1)
 
-pub stopped_read : (of_desk : Bool) (was mid is : Progress) (fault : ScriptFault) → HasPassed was mid → (part : List ℕ) × Consumes mid.left is.left part → IsUnread fault → HasStopped of_desk was is fault
+pub stopped_read : (of_desk : Bool) (was mid is : Progress) (fault : ScriptFault) → HasPassed was mid → (part : List ℕ) × Consumes mid.left is.left part → IsOfScript fault → HasStopped of_desk was is fault
 stopped_read of_desk was mid is (faults.BadCommand number) h p k = absurd k
 stopped_read of_desk was mid is faults.Read h p k = stopped of_desk was mid is faults.Read h (Breaks.unread p.0 p.1)
+stopped_read of_desk was mid is faults.TooLong h p k = stopped of_desk was mid is faults.TooLong h (Breaks.too_much p.0 p.1)
 stopped_read of_desk was mid is faults.NoMemory h p k = stopped of_desk was mid is faults.NoMemory h (Breaks.no_memory p.0 p.1)
 
 pub stopped_after : (of_desk : Bool) (was is : Progress) → HasPassed was is → HasStopped of_desk was is faults.Read
 stopped_after of_desk was is h = stopped of_desk was is is faults.Read h (Breaks.unread [] (Consumes-nil is.left))
+
+-- ---- the bytes that may come
+
+pub takes_none : (before : ℕ) (was : Option (List ℕ)) → TakesOf before before was was
+takes_none before was = ([], Consumes-nil was, omega arith)
+
+pub takes_both : (before mid now : ℕ) (a b c : Option (List ℕ)) → TakesOf before mid a b → TakesOf mid now b c → TakesOf before now a c
+takes_both before mid now a b c p q = (p.0 ++ q.0, Consumes-trans a b c p.0 q.0 p.1 q.1, omega (arith, length-append p.0 q.0, p.2, q.2))
+
+takes_more : (before mid : ℕ) (a b c : Option (List ℕ)) → TakesOf before mid a b → TakesMore mid b c → TakesMore before a c
+takes_more before mid a b c p q = (p.0 ++ q.0, Consumes-trans a b c p.0 q.0 p.1 q.1, omega (arith, length-append p.0 q.0, p.2, q.2))
+
+-- behind lines that say nothing: the next line wasn't had, or it is refused
+pub told_behind : (A : Type 0) (before mid now : ℕ) (a b c : Option (List ℕ)) (fault : ScriptFault) → TakesOf before mid a b → TellsRoom {A = Bool} mid now b c (Err fault) → TellsRoom {A = A} before now a c (Err fault)
+told_behind A before mid now a b c (faults.BadCommand number) p q = takes_both before mid now a b c p q
+told_behind A before mid now a b c faults.Read p q = tt
+told_behind A before mid now a b c faults.TooLong p q = takes_more before mid a b c p q
+told_behind A before mid now a b c faults.NoMemory p q = tt
+
+pub told_of_line : (A : Type 0) (before mid now : ℕ) (a b c : Option (List ℕ)) (of_desk : Bool) (number : ℕ) (text : List ℕ) (fault : ScriptFault) → TakesOf before mid a b → TakesOf mid now b c
+    → TellsLine of_desk number text (Err fault) → TellsRoom {A = A} before now a c (Err fault)
+told_of_line A before mid now a b c of_desk number text (faults.BadCommand bad) p q k = takes_both before mid now a b c p q
+told_of_line A before mid now a b c of_desk number text faults.Read p q k = tt
+told_of_line A before mid now a b c of_desk number text faults.TooLong p q k = absurd k
+told_of_line A before mid now a b c of_desk number text faults.NoMemory p q k = tt
 
 -- ---- lines that say the same stand in the same scripts
 

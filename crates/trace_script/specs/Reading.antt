@@ -52,17 +52,41 @@ pub record IsOver (was is : Progress) : Type 0 where
   pub used_up : IsUsedUp was.left is.left
   pub counts : is.lines ≡ was.lines
 
--- the fault isn't that a line is refused
+-- a read failed, or there was no memory
 abbrev pub IsUnread : ScriptFault → Type 0
 IsUnread (faults.BadCommand number) = ⊥
 IsUnread faults.Read = Unit {0}
+IsUnread faults.TooLong = ⊥
 IsUnread faults.NoMemory = Unit {0}
+
+-- the fault isn't that a line is refused
+abbrev pub IsOfScript : ScriptFault → Type 0
+IsOfScript (faults.BadCommand number) = ⊥
+IsOfScript faults.Read = Unit {0}
+IsOfScript faults.TooLong = Unit {0}
+IsOfScript faults.NoMemory = Unit {0}
+
+-- of so many bytes that might come, what was taken leaves so many
+abbrev pub TakesOf : ℕ → ℕ → Option (List ℕ) → Option (List ℕ) → Type 0
+TakesOf before now was is = (bytes : List ℕ) × Consumes was is bytes × (now + length bytes ≡ before)
+
+-- more was taken than the bytes that might come
+abbrev pub TakesMore : ℕ → Option (List ℕ) → Option (List ℕ) → Type 0
+TakesMore before was is = (bytes : List ℕ) × Consumes was is bytes × (before < length bytes)
+
+-- how many bytes may come before and after a line: exactly where more was taken the script is too long; nothing is said behind a read that failed
+abbrev pub TellsRoom : {A : Type 0} → ℕ → ℕ → Option (List ℕ) → Option (List ℕ) → Result A ScriptFault → Type 0
+TellsRoom before now was is (Ok found) = TakesOf before now was is
+TellsRoom before now was is (Err (faults.BadCommand number)) = TakesOf before now was is
+TellsRoom before now was is (Err faults.Read) = Unit {0}
+TellsRoom before now was is (Err faults.TooLong) = TakesMore before was is
+TellsRoom before now was is (Err faults.NoMemory) = Unit {0}
 
 -- a line was taken, or so much as shows that it is too long; or there was none left
 abbrev pub Advances : Progress → Progress → List ℕ → Result Bool ScriptFault → Type 0
 Advances was is text (Ok true) = IsTaken was is text ⊎ IsTooLong was is text
 Advances was is text (Ok false) = IsOver was is
-Advances was is text (Err fault) = ((part : List ℕ) × Consumes was.left is.left part) × IsUnread fault
+Advances was is text (Err fault) = ((part : List ℕ) × Consumes was.left is.left part) × IsOfScript fault
 
 -- a line that says nothing: it is empty or a remark
 pub record IsSilent (text : List ℕ) : Type 0 where
@@ -89,6 +113,7 @@ TellsLine of_desk number text (Ok (Some line)) = IsCommand of_desk line text
 TellsLine of_desk number text (Ok None) = IsSilent text
 TellsLine of_desk number text (Err (faults.BadCommand bad)) = (bad ≡ number) × IsRefused of_desk text
 TellsLine of_desk number text (Err faults.Read) = ⊥
+TellsLine of_desk number text (Err faults.TooLong) = ⊥
 TellsLine of_desk number text (Err faults.NoMemory) = Unit {0}
 
 -- lines that say nothing were taken, and then the text of this line
@@ -109,10 +134,11 @@ pub record HasEnded (was is : Progress) : Type 0 where
   pub before : AreTaken was silent mid
   pub over : IsOver mid is
 
--- the text of a line that is refused was taken, and the fault has its number; or a read failed, or there was no memory
+-- the text of a line that is refused was taken, and the fault has its number; or a read failed, the script is too long, or there was no memory
 pub data Breaks (of_desk : Bool) (mid is : Progress) : ScriptFault → Type 0 where
   refused : (text : List ℕ) → IsRefused of_desk text → IsTaken mid is text ⊎ IsTooLong mid is text → Breaks of_desk mid is (faults.BadCommand is.lines)
   unread : (part : List ℕ) → Consumes mid.left is.left part → Breaks of_desk mid is faults.Read
+  too_much : (part : List ℕ) → Consumes mid.left is.left part → Breaks of_desk mid is faults.TooLong
   no_memory : (part : List ℕ) → Consumes mid.left is.left part → Breaks of_desk mid is faults.NoMemory
 
 -- the same, behind lines that say nothing

@@ -9,8 +9,10 @@ use std::alloc::AllocError;
 pub enum ScriptFault {
     /// A line, counted from 1, isn't a command.
     BadCommand { line: u64 },
-    /// The script couldn't be read, or is longer than 1,099,511,627,776 bytes.
+    /// The script couldn't be read.
     Read,
+    /// It is longer than 1,099,511,627,776 bytes.
+    TooLong,
     NoMemory,
 }
 

@@ -1,7 +1,7 @@
 // The lines of a script, read one at a time.
 ghost use Rattle.std.specs.Prelude.{IfOk, IfSome, ◌≤◌, length, IsUtf8};
 ghost use Rattle.trace_script.specs.Lines.{IsWithinLimits, IsOfRecord};
-ghost use Rattle.trace_script.specs.Reading.{progress, Advances, IsSilent, TellsLine, TellsNext};
+ghost use Rattle.trace_script.specs.Reading.{progress, Advances, IsSilent, TellsLine, TellsNext, TellsRoom};
 ghost use Rattle.trace_script.specs.Spellings.{IsFound};
 ghost use Rattle.trace_script.specs.Table.{Spells};
 
@@ -37,6 +37,7 @@ impl<'r, R: BufRead> Script<'r, R> {
         ensures name { result.reader.ghost_name ≡ reader.entry.ghost_name }
         ensures now { result.reader.now ≡ reader.entry.now }
         ensures number { result.number ≡ 0 }
+        ensures room { result.left ≡ 1099511627776 }
     {
         Script {
             alloc,
@@ -54,6 +55,7 @@ impl<'r, R: BufRead> Script<'r, R> {
         ensures name { result.reader.ghost_name ≡ reader.entry.ghost_name }
         ensures now { result.reader.now ≡ reader.entry.now }
         ensures number { result.number ≡ 0 }
+        ensures room { result.left ≡ 1099511627776 }
     {
         Script {
             alloc,
@@ -77,13 +79,14 @@ impl<'r, R: BufRead> Script<'r, R> {
         ensures same { self.new.is_of_desk ≡ self.old.is_of_desk }
         ensures name { self.new.reader.ghost_name ≡ self.old.reader.ghost_name }
         ensures advances { Advances (progress self.old.number (R.remaining self.old.reader.now)) (progress self.new.number (R.remaining self.new.reader.now)) self.new.text.now.items result }
+        ensures room { TellsRoom self.old.left self.new.left (R.remaining self.old.reader.now) (R.remaining self.new.reader.now) result }
     {
         read_line(&mut *self.reader, &mut *self.text)?;
         if self.text.is_empty() {
             return Ok(false);
         }
         let Some(left) = self.left.checked_sub(self.text.len() as u64) else {
-            return Err(ScriptFault::Read);
+            return Err(ScriptFault::TooLong);
         };
         let Some(number) = self.number.checked_add(1) else {
             return Err(ScriptFault::Read);
@@ -144,6 +147,8 @@ impl<'r, R: BufRead> Script<'r, R> {
         ensures same { self.new.is_of_desk ≡ self.old.is_of_desk }
         ensures name { self.new.reader.ghost_name ≡ self.old.reader.ghost_name }
         ensures next { TellsNext self.old.is_of_desk (progress self.old.number (R.remaining self.old.reader.now)) (progress self.new.number (R.remaining self.new.reader.now)) result }
+        // It is too long exactly where more came than the bytes that might.
+        ensures room { TellsRoom self.old.left self.new.left (R.remaining self.old.reader.now) (R.remaining self.new.reader.now) result }
     {
         for _line in 0..u64::MAX {
             if !self.advance()? {

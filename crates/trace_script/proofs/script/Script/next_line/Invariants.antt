@@ -1,5 +1,5 @@
 use Rattle.std.proofs.Common.{◌≡◌}
-use Rattle.trace_script.specs.Reading.{progress}
+use Rattle.trace_script.specs.Reading.{progress, TakesOf}
 use Rattle.trace_script.proofs.Taken.{HasPassed}
 use Rattle.trace_script.proofs.script.Script.next_line.Given as goal
 
@@ -8,4 +8,5 @@ invariant-loop-line g l = record {
   desk : l.self.is_of_desk ≡ l.fn.self.is_of_desk;
   name : l.self.reader.ghost_name ≡ l.fn.self.reader.ghost_name;
   passed : HasPassed (progress l.fn.self.number (g.R.Read.remaining l.fn.self.reader.now)) (progress l.self.number (g.R.Read.remaining l.self.reader.now));
+  room : TakesOf l.fn.self.left l.self.left (g.R.Read.remaining l.fn.self.reader.now) (g.R.Read.remaining l.self.reader.now);
 }
