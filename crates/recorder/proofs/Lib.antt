@@ -1,3 +1,4 @@
+pub mod Informing
 pub mod Asking
 pub mod Feeding
 pub mod Looking
