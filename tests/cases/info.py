@@ -87,7 +87,7 @@ def each_line_of_a_node_is_counted(program):
         lines += [f"{word}: {count}" for word, count in words.items()]
         said = program.good("info", name).decode().splitlines()
         same(said[: len(lines)], lines)
-        same(len(said) - len(lines), 2 if name in ("stamped", "mono") else 0)
+        same(len(said) - len(lines), 0 if name == "plain" else 2)
 
 
 @case
@@ -202,8 +202,7 @@ def a_damaged_file_of_a_wrap_leaves_the_others(program):
 @case
 def a_file_whose_header_is_damaged_is_told_so(program):
     (program.folder / "t").write_bytes(b"\1" + b"DBT9" + STORED[5:])
-    says = "dbgrec: t isn't a trace of dbgrec"
-    program.refused("info", "t", says=says)
+    program.refused("info", "t", says="dbgrec: t isn't a trace of dbgrec (it looks like an entry stream: dbgrec stream < t)")
     (program.folder / "t").write_bytes(STORED[:5] + b"\7" + STORED[6:])
     output = told(["state: damaged", "entries: 0", "drop records: 0, messages lost: 0", "bytes: 0", "file t: damaged at 0"])
     says = "dbgrec: refused 1 Damaged file 0 at 0\nt is damaged there: no entry is counted"
