@@ -4,9 +4,9 @@ use Rattle.trace_reader.specs.declared.fault.ReadFault.{ReadFault}
 use Rattle.trace_reader.specs.declared.fault.ReadFault.TheVariants as reads
 use Rattle.recorder.specs.Commands.{IsToldOf}
 use Rattle.recorder.specs.Complaints.{status_told}
-use Rattle.recorder.specs.Faults.{status_of, read_fault}
+use Rattle.script_port.specs.Faults.{status_of, read_fault}
 use Rattle.recorder.specs.declared.complaint.Complaint.{Complaint}
-use Rattle.recorder.specs.declared.fault.SimFault.{SimFault}
+use Rattle.script_port.specs.declared.fault.SimFault.{SimFault}
 
 status_of_read : (fault : ReadFault) → status_of (read_fault fault) ≡ 1
 status_of_read (reads.Refused cause) = refl

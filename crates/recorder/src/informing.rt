@@ -1,14 +1,14 @@
 // A trace is told in numbers.
 ghost use Rattle.std.specs.Prelude.{◌≡◌, OnOk, IfErr};
-ghost use Rattle.trace_store.specs.FolderStore.{honest_of, reads_of};
+ghost use Rattle.stores.specs.FolderStore.{honest_of, reads_of};
 ghost use Rattle.trace_files.specs.Standing.{IsStanding};
 ghost use Rattle.trace_files.specs.declared.standing.Standing.TheVariants as standings;
 ghost use Rattle.recorder.specs.Complaints.{status_told};
-ghost use Rattle.recorder.specs.Faults.{status_of};
+ghost use Rattle.script_port.specs.Faults.{status_of};
 ghost use Rattle.recorder.specs.Files.{OnlyLooks};
 
 use crate::complaint::Complaint;
-use crate::fault::SimFault;
+use script_port::SimFault;
 use crate::files::{Doing, Files};
 use crate::info::Info;
 use std::alloc::{AllocError, Global};
