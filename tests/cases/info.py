@@ -37,7 +37,7 @@ def counted(program, *words):
 
 
 def numbers(entries):
-    """The lines of the drops and the bytes."""
+    """The lines of the drop records and the bytes."""
     lost = [struct.unpack(">I", entry[1:])[0] for entry in entries if entry[0] == 1]
     return [f"drop records: {len(lost)}, messages lost: {sum(lost)}", f"bytes: {len(b''.join(entries))}"]
 
@@ -62,7 +62,7 @@ def a_trace_of_one_message_is_told_in_numbers(program):
             "first": 0,
             "last": 0,
             "entries": 1,
-            "drops": 0,
+            "drop_records": 0,
             "bytes": 56,
             "lost": 0,
             "lost_before": 0,
@@ -101,7 +101,7 @@ def time_stamps_are_those_of_the_first_and_the_last_message(program):
     same(said[7:], ["receive: 4", "opaque: 1", "first time stamp: {1700,7,9}", "last time stamp: {1700,8,1}"])
     told_so = json.loads(program.good("info", "t", "--json"))
     same((told_so["first_time_stamp"], told_so["last_time_stamp"]), ("{1700,7,9}", "{1700,8,1}"))
-    same((told_so["drops"], told_so["lost"], told_so["entries"]), (1, 3, 6))
+    same((told_so["drop_records"], told_so["lost"], told_so["entries"]), (1, 3, 6))
 
 
 @case
@@ -232,6 +232,22 @@ def what_is_no_trace_is_refused_as_by_list(program):
             said = program.run("list", name)
             same(said.status, 1)
             same(program.run("info", *words), Outcome(1, b"", said.errors))
+
+
+@case
+def a_wrap_of_40_megabytes_is_told_in_24(program):
+    entry = message(bytes(95))
+    for generation in (0, 1):
+        header = wrap_header(generation, before=200_000 * generation, size=19_999_999)
+        (program.folder / f"t{generation}").write_bytes(segment(header, *[entry * 1000] * 200))
+    small = ("bash", "-c", 'ulimit -v 24000; exec "$@"', "bash")
+    outcome = program.run("info", "t", before=small)
+    same((outcome.status, outcome.errors), (0, b""))
+    lines = outcome.output.decode().splitlines()
+    same(lines[4:6], ["state: open", "entries: 400000 (0 to 399999)"])
+    same(lines[-1], "opaque: 400000")
+    listed = program.good("list", "t")
+    same(listed.count(b"\n"), 400_001)
 
 
 @case

@@ -52,7 +52,7 @@ impl Info {
             "first": first,
             "last": (number(last)),
             "lost_before": lost_before,
-            "drops": (totals.drops),
+            "drop_records": (totals.drops),
             "lost": (number(totals.lost)),
             "bytes": (totals.bytes),
             "files": files,

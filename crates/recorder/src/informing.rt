@@ -18,13 +18,9 @@ use trace_reader::{FileFound, Host, ReadFault, Watched};
 /// How often a trace that isn't whole is read again at most, while another process writes it.
 const AGAIN: u32 = 4;
 
-/// What its files were found to hold, together.
-fn gathered(
-    files: &Files<'_>,
-    found: Vec<FileFound>,
-    is_written: bool,
-) -> Result<Info, AllocError> {
-    let mut info = Info::new(files.alloc(), is_written);
+/// What its files were found to hold, together, and whether another process has the trace.
+fn gathered(files: &Files<'_>, found: Vec<FileFound>) -> Result<Info, AllocError> {
+    let mut info = Info::new(files.alloc(), files.is_held()?);
     let mut file: u32 = 0;
     for one in found {
         info.add(file, files.name(file)?, one)?;
@@ -39,8 +35,7 @@ fn look_once(files: &mut Files<'_>) -> Result<Info, ReadFault>
     ensures only_reads { OnlyLooks files.old.store files.new.store }
 {
     let found = files.sum_up()?;
-    let is_written = files.is_written();
-    match gathered(files, found, is_written) {
+    match gathered(files, found) {
         Ok(info) => Ok(info),
         Err(_) => Err(ReadFault::NoMemory),
     }
