@@ -2,7 +2,7 @@
 
 _dbgrec() {
     local word=${COMP_WORDS[COMP_CWORD]} before=${COMP_WORDS[COMP_CWORD - 1]} offered=
-    local commands="import list export wipe stream record sim"
+    local commands="import list export info wipe stream record sim"
     local readers="--kind --suffix --count" new="--size --time --after-failure"
 
     # bash parts `--kind=wrap` at the sign
@@ -25,6 +25,7 @@ _dbgrec() {
             record) offered="$readers $new --help" ;;
             list) offered="$readers --pretty --help" ;;
             export) offered="$readers --help" ;;
+            info) offered="$readers --json --help" ;;
             wipe) offered="$readers --force --help" ;;
             stream) offered="--pretty --help" ;;
             *) offered="--help" ;;
@@ -34,7 +35,7 @@ _dbgrec() {
     esac
     if [[ -n $offered ]]; then
         mapfile -t COMPREPLY < <(compgen -W "$offered" -- "$word")
-    elif [[ " import list export wipe record " == *" ${COMP_WORDS[1]} "* ]]; then
+    elif [[ " import list export info wipe record " == *" ${COMP_WORDS[1]} "* ]]; then
         compopt -o filenames 2>/dev/null
         mapfile -t COMPREPLY < <(compgen -f -- "$word")
     fi

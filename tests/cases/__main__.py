@@ -20,6 +20,7 @@ import faults
 import foreign
 import images
 import importing
+import info
 import installing
 import keeping
 import libraries
@@ -37,7 +38,7 @@ import wording
 from cases import Skipped
 from program import Program
 
-GROUPS = (rows, scripts, listing, pretty, recording, importing, foreign, absent, keeping, telling, crashes, images, machine, faults, locking, live, wording, installing, memory, libraries)
+GROUPS = (rows, scripts, listing, pretty, recording, importing, info, foreign, absent, keeping, telling, crashes, images, machine, faults, locking, live, wording, installing, memory, libraries)
 
 
 def words():

@@ -7,6 +7,7 @@ import resource
 
 from cases import REPOSITORY, group, stored
 from entries import EXAMPLE, LONGEST, drop, message
+from info import STAMPED, moment
 from program import Outcome, same
 from refusing import each_refusal
 from rows import CASES as ROWS
@@ -125,6 +126,15 @@ def a_listing_that_is_refused_memory_is_a_beginning(program):
 
 
 @case
+def a_trace_in_numbers_that_is_refused_memory_is_a_beginning(program):
+    for kind in KINDS[:2]:
+        kept = Kept(program, kind[-1])
+        kept.program.good("import", "t", *kind, stdin=b"".join([*ENTRIES, message(STAMPED + moment(1700, 7, 9))]))
+        for words in ((), ("--json",)):
+            kept.reads("info", "t", *words)
+
+
+@case
 def a_stream_that_is_refused_memory_is_listed_to_there(program):
     kept = Kept(program)
     kept.reads("stream", stdin=b"".join([*ENTRIES[:6], message(LONG)]))
@@ -142,7 +152,7 @@ def a_refusal_that_is_refused_memory_leaves_all_as_it_was(program):
         wrap.reads(*words)
     (damaged.program.folder / "t").write_bytes(segment(FILE_HEADER, drop(1))[:-1] + b"\1\0\0\xff\xff")
     (text.program.folder / "t").write_bytes(b"a text\n")
-    for command in ("import", "list", "export"):
+    for command in ("import", "list", "export", "info"):
         damaged.reads(command, "t")
     for command in ("import", "list", "wipe"):
         text.reads(command, "t")

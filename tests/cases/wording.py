@@ -20,6 +20,7 @@ COMMANDS = {
     "record": OF_NEW_FILES | {"--after-failure"},
     "list": OF_FILES | {"--pretty"},
     "export": OF_FILES,
+    "info": OF_FILES | {"--json"},
     "wipe": OF_FILES | {"--force"},
     "stream": {"--pretty"},
     "sim": set(),

@@ -186,6 +186,16 @@ fn export<'a>(alloc: Global) -> Result<Command<'a>, AllocError> {
     )
 }
 
+fn info<'a>(alloc: Global) -> Result<Command<'a>, AllocError> {
+    of_files(
+        alloc,
+        "info",
+        "Tells what a stored trace holds, in numbers",
+        "Example: dbgrec info trace",
+    )?
+    .arg(flag(alloc, "json", "As one JSON object"))
+}
+
 fn wipe<'a>(alloc: Global) -> Result<Command<'a>, AllocError> {
     of_files(
         alloc,
@@ -213,7 +223,10 @@ fn sim<'a>(alloc: Global) -> Command<'a> {
 
 /// A command with those that read a stored trace.
 fn with_readers<'a>(alloc: Global, command: Command<'a>) -> Result<Command<'a>, AllocError> {
-    command.subcommand(list(alloc)?)?.subcommand(export(alloc)?)
+    command
+        .subcommand(list(alloc)?)?
+        .subcommand(export(alloc)?)?
+        .subcommand(info(alloc)?)
 }
 
 fn dbgrec<'a>(alloc: Global) -> Result<Command<'a>, AllocError> {
@@ -292,6 +305,10 @@ fn trace_request_in<'a>(
             is_pretty: matches.get_flag("pretty"),
         }),
         "export" => Some(TraceRequest::Export(asked_in(matches))),
+        "info" => Some(TraceRequest::Info {
+            asked: asked_in(matches),
+            is_json: matches.get_flag("json"),
+        }),
         "wipe" => Some(TraceRequest::Wipe {
             asked: asked_in(matches),
             is_forced: matches.get_flag("force"),

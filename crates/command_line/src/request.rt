@@ -91,6 +91,12 @@ pub enum TraceRequest<'a> {
     },
     /// Write it as an entry stream.
     Export(Asked<'a>),
+    /// Tell what it holds, in numbers.
+    Info {
+        asked: Asked<'a>,
+        /// As one JSON object.
+        is_json: bool,
+    },
     /// End it, and leave an empty store.
     Wipe {
         asked: Asked<'a>,

@@ -22,11 +22,13 @@ fn beside_output(rt: &HostRuntime) -> Console {
     Console::new(*rt, rt.stdout().is_terminal())
 }
 
-/// The clock and standard error, for what is done with a trace. Beside a listing nothing else is shown on a terminal.
+/// The clock and standard error, for what is done with a trace. Beside a listing or a trace in numbers nothing else is shown
+/// on a terminal.
 fn console_for(rt: &HostRuntime, request: &TraceRequest<'_>) -> Console {
     match request {
         TraceRequest::List { .. } => beside_output(rt),
         TraceRequest::Export(_) => beside_output(rt),
+        TraceRequest::Info { .. } => beside_output(rt),
         _ => Console::new(*rt, false),
     }
 }

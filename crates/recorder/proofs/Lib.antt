@@ -1,3 +1,4 @@
+pub mod Informing
 pub mod Feeding
 pub mod Looking
 pub mod Parts

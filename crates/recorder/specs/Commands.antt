@@ -1,5 +1,5 @@
 -- What a command does with the files of a trace.
-use Rattle.std.specs.Prelude.{◌≡◌, ◌⊎◌, ℕ, Bool, true, false, Option, None, List, [], Result, Ok, Err}
+use Rattle.std.specs.Prelude.{◌≡◌, ◌⊎◌, ℕ, Bool, true, false, Option, None, List, [], Result, Ok, Err, OnOk, IfErr}
 use Rattle.std.specs.Io.KnownBytes.{Appends, Keeps}
 use Rattle.trace_store.specs.Disk.{Image}
 use Rattle.trace_store.specs.Moments.{LeavesOnly}
@@ -129,12 +129,14 @@ pub data EndsStream (style : Style) (had old new : Option (List ℕ)) (complaint
 abbrev pub Changes : TraceRequest → Type 0
 Changes (requests.List asked is_pretty) = ⊥
 Changes (requests.Export asked) = ⊥
+Changes (requests.Info asked is_json) = ⊥
 Changes _ = Unit {0}
 
 -- what is done with a trace for what the command line asks, by what is seen of the stream that comes in, what is observed until the end, and the bytes that are written
 abbrev pub Serves : TraceRequest → Files → Files → Outside → Observations → Option (List ℕ) → Option (List ℕ) → Result Unit Complaint → Type 0
 Serves (requests.List asked is_pretty) old new saw observed was now result = (honest_of new.store → IsRead (ListsStore (style_of is_pretty)) (as_lines (style_of is_pretty)) (reads_of old.store) was now result) × OnlyLooks old.store new.store
 Serves (requests.Export asked) old new saw observed was now result = (honest_of new.store → IsRead ExportsStore as_bytes (reads_of old.store) was now result) × OnlyLooks old.store new.store
+Serves (requests.Info asked is_json) old new saw observed was now result = (honest_of new.store → OnOk result (IsStanding standings.Ours (reads_of old.store))) × IfErr result (λ complaint. status_told complaint ≡ 1) × OnlyLooks old.store new.store
 Serves (requests.Wipe asked is_forced) old new saw observed was now result = (honest_of new.store → Clears (clearing_of is_forced) old.store new.store was now result)
     × (honest_of new.store → IsNotToWipe (clearing_of is_forced) (reads_of old.store) → OnlyLooks old.store new.store) × (honest_of new.store → LeavesOnly clock_of moments_of old.store new.store (IsClearing (images_of old.store)))
 Serves (requests.Record asked) old new saw observed was now result = Records (wanted old.place.kind (turn_of asked)) old.store new.store saw.remaining was now result

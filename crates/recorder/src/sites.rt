@@ -27,7 +27,11 @@ pub fn files_for<'a>(rt: &HostRuntime, request: &TraceRequest<'a>) -> Result<Fil
             asked,
             is_pretty: _,
         }
-        | TraceRequest::Export(asked) => files_to_read(rt, *asked),
+        | TraceRequest::Export(asked)
+        | TraceRequest::Info {
+            asked,
+            is_json: _,
+        } => files_to_read(rt, *asked),
         TraceRequest::Wipe {
             asked,
             is_forced: _,

@@ -1,0 +1,13 @@
+use Rattle.std.proofs.Common.{◌≡◌, ◌⊎◌, ◌≤◌, ◌-◌}
+use Rattle.recorder.specs.Files.{OnlyLooks}
+use Rattle.recorder.proofs.informing.look_over.Given as goal
+
+-- the files were read at most
+abbrev pub invariant-readings : goal.invariant-readings
+invariant-readings l = record {
+  few : l.made ≤ 4;
+  only_reads : (l.files.store ≡ l.fn.files.store) ⊎ OnlyLooks l.fn.files.store l.files.store;
+}
+
+abbrev pub decreases-readings : goal.decreases-readings
+decreases-readings l = 4 - l.made

@@ -1,0 +1,125 @@
+// A trace is told in numbers.
+ghost use Rattle.std.specs.Prelude.{◌≡◌, OnOk, IfErr};
+ghost use Rattle.stores.specs.FolderStore.{honest_of, reads_of};
+ghost use Rattle.trace_files.specs.Standing.{IsStanding};
+ghost use Rattle.trace_files.specs.declared.standing.Standing.TheVariants as standings;
+ghost use Rattle.recorder.specs.Complaints.{status_told};
+ghost use Rattle.script_port.specs.Faults.{status_of};
+ghost use Rattle.recorder.specs.Files.{OnlyLooks};
+
+use crate::complaint::Complaint;
+use script_port::SimFault;
+use crate::files::{Doing, Files};
+use crate::info::Info;
+use std::alloc::{AllocError, Global};
+use std::io::{self, Write};
+use trace_reader::{FileFound, Host, ReadFault, Watched};
+
+/// How often a trace that isn't whole is read again at most, while another process writes it.
+const AGAIN: u32 = 4;
+
+/// What its files were found to hold, together, and whether another process has the trace.
+fn gathered(files: &Files<'_>, found: Vec<FileFound>) -> Result<Info, AllocError> {
+    let mut info = Info::new(files.alloc(), files.is_held()?);
+    let mut file: u32 = 0;
+    for one in found {
+        info.add(file, files.name(file)?, one)?;
+        file = file.saturating_add(1);
+    }
+    Ok(info)
+}
+
+/// Reads a trace once.
+fn look_once(files: &mut Files<'_>) -> Result<Info, ReadFault>
+    ensures there { honest_of files.new.store → OnOk result (IsStanding standings.Ours (reads_of files.old.store)) }
+    ensures only_reads { OnlyLooks files.old.store files.new.store }
+{
+    let found = files.sum_up()?;
+    match gathered(files, found) {
+        Ok(info) => Ok(info),
+        Err(_) => Err(ReadFault::NoMemory),
+    }
+}
+
+/// Reads a trace, and where it isn't whole while another process writes it again, five times in all.
+fn look_over(files: &mut Files<'_>) -> Result<Info, ReadFault>
+    ensures there { honest_of files.new.store → OnOk result (IsStanding standings.Ours (reads_of files.old.store)) }
+    ensures only_reads { OnlyLooks files.old.store files.new.store }
+{
+    let mut made = 0;
+    'readings: loop {
+        let info = look_once(files)?;
+        if made == AGAIN || !info.is_to_repeat() {
+            return Ok(info);
+        }
+        drop(info);
+        made += 1;
+    }
+}
+
+/// Writes out what is told of a trace.
+fn write_info<W: Write>(
+    info: &Info,
+    alloc: Global,
+    is_json: bool,
+    out: &mut W,
+) -> Result<(), SimFault>
+    ensures { IfErr result (λ fault. status_of fault ≡ 1) }
+{
+    let written = if is_json {
+        write_json(info, alloc, out)?
+    } else {
+        write!(out, "{info}")
+    };
+    match written {
+        Ok(()) => flush(out),
+        Err(_) => Err(SimFault::Write),
+    }
+}
+
+/// Writes it as JSON.
+fn write_json<W: Write>(info: &Info, alloc: Global, out: &mut W) -> Result<io::Result<()>, AllocError> {
+    let object = info.as_json(alloc)?;
+    let text = object.to_string(alloc)?;
+    Ok(writeln!(out, "{text}"))
+}
+
+fn flush<W: Write>(out: &mut W) -> Result<(), SimFault>
+    ensures { IfErr result (λ fault. status_of fault ≡ 1) }
+{
+    match out.flush() {
+        Ok(()) => Ok(()),
+        Err(_) => Err(SimFault::Write),
+    }
+}
+
+/// What is told of a trace that isn't whole, or isn't read at all.
+fn told(files: &mut Files<'_>, fault: ReadFault, doing: Doing) -> Complaint
+    ensures status { status_told result ≡ 1 }
+    ensures only_reads { OnlyLooks files.old.store files.new.store }
+{
+    files.explained(SimFault::from(fault), doing)
+}
+
+/// Tells what a trace holds, in numbers; where it isn't whole, what could be read of it.
+pub fn info<W: Write, H: Host>(
+    files: &mut Files<'_>,
+    is_json: bool,
+    watched: &mut Watched<'_, W, H>,
+) -> Result<(), Complaint>
+    ensures there { honest_of files.new.store → OnOk result (IsStanding standings.Ours (reads_of files.old.store)) }
+    ensures status { IfErr result (λ complaint. status_told complaint ≡ 1) }
+    ensures only_reads { OnlyLooks files.old.store files.new.store }
+{
+    let info = match look_over(files) {
+        Ok(info) => info,
+        Err(fault) => return Err(told(files, fault, Doing::Other)),
+    };
+    if let Err(fault) = write_info(&info, files.alloc(), is_json, &mut *watched.writer) {
+        return Err(Complaint::from(fault));
+    }
+    match info.fault() {
+        None => Ok(()),
+        Some(cause) => Err(told(files, ReadFault::Refused(cause), info.doing())),
+    }
+}

@@ -1,0 +1,258 @@
+"""Cases of `info`."""
+
+import json
+import struct
+
+from cases import STREAMS, group, stored
+from entries import EXAMPLE, drop, message, split
+from importing import stream_of
+from program import Outcome, same
+from segments import FILE_HEADER, STORED, batch, segment, wrap_header
+
+CASES, case = group()
+
+WRAP = ("--kind", "wrap")
+
+# the words of the readable listing, in the order in which they are told
+WORDS = (
+    "call return exception return_to send send_lost receive spawn spawned exit register unregister link unlink "
+    "getting_linked getting_unlinked in in_exiting out out_exiting out_exited gc_minor_start gc_minor_end "
+    "gc_major_start gc_major_end gc_max_heap_size open closed opaque other"
+).split()
+
+# a message with a time stamp: {trace_ts,<nonode@nohost.80.0.0>,'receive',ok,STAMP}
+STAMPED = bytes.fromhex("83680577087472616365") + b"_ts" + EXAMPLE[10:]
+
+
+def moment(mega, second, micro):
+    """The External Term Format of {Mega,Sec,Micro}."""
+    return bytes.fromhex("6803") + b"".join(b"\x62" + struct.pack(">i", each) for each in (mega, second, micro))
+
+
+def counted(program, *words):
+    """How many lines of each word the readable listing has, in the order in which they are told."""
+    lines = program.good("list", "-p", *words).decode().splitlines()
+    found = [line.split(" ", 2)[1] for line in lines if line[0].isdigit()]
+    return {word: found.count(word) for word in WORDS if word in found}
+
+
+def numbers(entries):
+    """The lines of the drop records and the bytes."""
+    lost = [struct.unpack(">I", entry[1:])[0] for entry in entries if entry[0] == 1]
+    return [f"drop records: {len(lost)}, messages lost: {sum(lost)}", f"bytes: {len(b''.join(entries))}"]
+
+
+def told(lines):
+    return "".join(f"{line}\n" for line in lines).encode()
+
+
+@case
+def a_trace_of_one_message_is_told_in_numbers(program):
+    (program.folder / "t").write_bytes(STORED)
+    lines = ["kind: file", "version: 1", "state: open", "entries: 1 (0 to 0)", "drop records: 0, messages lost: 0", "bytes: 56"]
+    same(program.good("info", "t"), told([*lines, "file t: entries 1, bytes 56", "receive: 1"]))
+    same(stored(program.folder), {"t": STORED})
+    said = program.good("info", "--json", "t")
+    same(said.count(b"\n"), 1)
+    same(
+        json.loads(said),
+        {
+            "trace": {"kind": "file", "version": 1},
+            "state": "open",
+            "first": 0,
+            "last": 0,
+            "entries": 1,
+            "drop_records": 0,
+            "bytes": 56,
+            "lost": 0,
+            "lost_before": 0,
+            "files": [{"name": "t", "generation": 0, "entries": 1, "bytes": 56, "damaged_at": None}],
+            "kinds": {"receive": 1},
+            "first_time_stamp": None,
+            "last_time_stamp": None,
+        },
+    )
+
+
+@case
+def each_line_of_a_node_is_counted(program):
+    for name in ("node", "plain", "stamped", "mono"):
+        stream = stream_of(name)
+        program.good("import", name, stdin=stream)
+        entries = split(program.good("export", name))
+        lines = ["kind: file", "version: 2", "state: sealed", f"entries: {len(entries)} (0 to {len(entries) - 1})", *numbers(entries)]
+        lines.append(f"file {name}: entries {len(entries)}, bytes {len(b''.join(entries))}")
+        words = counted(program, name)
+        same(sum(words.values()), len([entry for entry in entries if entry[0] == 0]))
+        lines += [f"{word}: {count}" for word, count in words.items()]
+        said = program.good("info", name).decode().splitlines()
+        same(said[: len(lines)], lines)
+        same(len(said) - len(lines), 0 if name == "plain" else 2)
+
+
+@case
+def time_stamps_are_those_of_the_first_and_the_last_message(program):
+    moments = [(1700, 7, 9), (1699, 0, 0), (1700, 8, 1)]
+    stream = message(EXAMPLE) + b"".join(message(STAMPED + moment(*each)) for each in moments) + message(b"x") + drop(3)
+    program.good("import", "t", stdin=stream)
+    listed = program.good("list", "-p", "t").decode()
+    assert "1 receive {trace_ts,<nonode@nohost.80.0.0>,'receive',ok,{1700,7,9}}\n" in listed, listed
+    said = program.good("info", "t").decode().splitlines()
+    same(said[7:], ["receive: 4", "opaque: 1", "first time stamp: {1700,7,9}", "last time stamp: {1700,8,1}"])
+    told_so = json.loads(program.good("info", "t", "--json"))
+    same((told_so["first_time_stamp"], told_so["last_time_stamp"]), ("{1700,7,9}", "{1700,8,1}"))
+    same((told_so["drop_records"], told_so["lost"], told_so["entries"]), (1, 3, 6))
+
+
+@case
+def a_monotonic_time_stamp_is_a_number(program):
+    program.good("import", "t", stdin=stream_of("mono"))
+    lines = program.good("list", "-p", "t").decode().splitlines()
+    stamps = [line.rsplit(",", 1)[1][:-1] for line in lines if "{trace_ts," in line and line.split()[1] not in ("other", "opaque")]
+    said = program.good("info", "t").decode().splitlines()
+    same(said[-2:], [f"first time stamp: {stamps[0]}", f"last time stamp: {stamps[-1]}"])
+
+
+@case
+def a_wrap_is_told_from_its_oldest_file_on(program):
+    entry = message(EXAMPLE)
+    (program.folder / "t1.bin").write_bytes(segment(wrap_header(1, before=2, lost=5), entry, entry))
+    (program.folder / "t2.bin").write_bytes(segment(wrap_header(2, before=4, lost=5), entry))
+    lines = ["kind: wrap by size", "version: 1", "count: 2 runs", "size: 100 bytes", "state: open", "before: entries 2, messages lost 5"]
+    lines += ["entries: 3 (2 to 4)", "drop records: 0, messages lost: 0", "bytes: 168"]
+    lines += ["file t1.bin: generation 1, entries 2, bytes 112", "file t2.bin: generation 2, entries 1, bytes 56", "receive: 3"]
+    same(program.good("info", "t", "--suffix", ".bin"), told(lines))
+    same(program.good("info", "t", *WRAP, "--suffix", ".bin", "--count", "2"), told(lines))
+    said = json.loads(program.good("info", "t", "--suffix", ".bin", "--json"))
+    same(said["trace"], {"kind": "wrap by size", "version": 1, "count": 2, "size": 100})
+    same([part["generation"] for part in said["files"]], [1, 2])
+    same((said["first"], said["last"], said["lost_before"]), (2, 4, 5))
+
+
+@case
+def a_wrap_of_a_node_has_its_newest_file_last(program):
+    program.good("import", "t", *WRAP, "--size", "2000", "--count", "3", stdin=stream_of("wrap"))
+    entries = split(program.good("export", "t"))
+    said = program.good("info", "t").decode().splitlines()
+    same(said[:5], ["kind: wrap by size", "version: 2", "count: 3 runs", "size: 2000 bytes", "state: sealed"])
+    files = [line for line in said if line.startswith("file ")]
+    generations = [int(line.split("generation ")[1].split(",")[0]) for line in files]
+    same(generations, sorted(generations))
+    same(sum(int(line.split("entries ")[1].split(",")[0]) for line in files), len(entries))
+    assert set(numbers(entries)) <= set(said), said
+    same({line.split(": ")[0]: int(line.split(": ")[1]) for line in said if line.split(":")[0] in WORDS}, counted(program, "t"))
+
+
+@case
+def a_wrap_by_time_has_its_time(program):
+    program.good("import", "t", *WRAP, "--time", "3600000", stdin=drop(2))
+    said = program.good("info", "t").decode().splitlines()
+    same(said[:6], ["kind: wrap by time", "version: 2", "count: 8 runs", "time: 3600000 ms", "state: sealed", "entries: 1 (0 to 0)"])
+    same(json.loads(program.good("info", "t", "--json"))["trace"]["time"], 3_600_000)
+
+
+@case
+def a_trace_that_is_written_is_told_so(program):
+    for kind in ((), WRAP):
+        with program.start("import", "t", "--keep-open", "--flush", "always", *kind) as importer:
+            same(importer.line(), "created")
+            importer.write(message(EXAMPLE) + drop(2))
+            while b"entries: 2 (0 to 1)" not in program.good("info", "t"):
+                pass
+            said = program.good("info", "t").decode().splitlines()
+            assert "state: being written" in said and "drop records: 1, messages lost: 2" in said, said
+            same(importer.end().output, b"kept 2\n")
+        assert "state: open" in program.good("info", "t").decode().splitlines()
+        program.good("wipe", "t")
+        for file in list(program.folder.glob("t*")):
+            file.unlink()
+
+
+@case
+def a_damaged_trace_is_told_up_to_its_damage(program):
+    first, second = message(EXAMPLE) + drop(7), message(EXAMPLE)
+    whole = segment(FILE_HEADER, first, second)
+    place = 36 + len(batch(first))
+    damaged = whole[: place + 5] + b"\7" + whole[place + 6 :]
+    (program.folder / "t").write_bytes(damaged)
+    lines = ["kind: file", "version: 1", "state: damaged", "entries: 2 (0 to 1)", "drop records: 1, messages lost: 7", "bytes: 61"]
+    lines += [f"file t: entries 2, bytes 61, damaged at {place}", "receive: 1"]
+    says = f"dbgrec: refused 1 Damaged file 0 at {place}\nt is damaged there: the 2 entries before it are counted"
+    program.refused("info", "t", says=says, output=told(lines))
+    outcome = program.run("info", "t", "--json")
+    same((outcome.status, outcome.errors), (1, f"{says}\n".encode()))
+    same(json.loads(outcome.output)["files"][0]["damaged_at"], place)
+    same(stored(program.folder), {"t": damaged})
+
+
+@case
+def a_damaged_file_of_a_wrap_leaves_the_others(program):
+    entry = message(EXAMPLE)
+    (program.folder / "t1").write_bytes(b"\1" + wrap_header(1, before=2) + batch(entry * 2) + b"\1\0\0\xff\xff")
+    (program.folder / "t2").write_bytes(segment(wrap_header(2, before=4), entry))
+    place = 36 + 5 + 112
+    says = f"dbgrec: refused 1 Damaged file 1 at {place}\nt1 is damaged there: the 2 entries before it are counted"
+    outcome = program.run("info", "t")
+    same((outcome.status, outcome.errors), (1, f"{says}\n".encode()))
+    said = outcome.output.decode().splitlines()
+    assert f"file t1: generation 1, entries 2, bytes 112, damaged at {place}" in said, said
+    assert "file t2: generation 2, entries 1, bytes 56" in said, said
+
+
+@case
+def a_file_whose_header_is_damaged_is_told_so(program):
+    (program.folder / "t").write_bytes(b"\1" + b"DBT9" + STORED[5:])
+    program.refused("info", "t", says="dbgrec: t isn't a trace of dbgrec (it looks like an entry stream: dbgrec stream < t)")
+    (program.folder / "t").write_bytes(STORED[:5] + b"\7" + STORED[6:])
+    output = told(["state: damaged", "entries: 0", "drop records: 0, messages lost: 0", "bytes: 0", "file t: damaged at 0"])
+    says = "dbgrec: refused 1 Damaged file 0 at 0\nt is damaged there: no entry is counted"
+    program.refused("info", "t", says=says, output=output)
+
+
+@case
+def files_of_two_traces_are_told_and_refused(program):
+    entry = message(EXAMPLE)
+    (program.folder / "t1").write_bytes(segment(wrap_header(1, before=2), entry * 2))
+    (program.folder / "t2").write_bytes(segment(wrap_header(2, before=4, size=99), entry))
+    outcome = program.run("info", "t")
+    same((outcome.status, outcome.errors), (1, b"dbgrec: refused 2 Mixed\nt1 and t2 don't belong together\n"))
+    assert b"file t1: generation 1, entries 2, bytes 112\n" in outcome.output, outcome
+    (program.folder / "t2").write_bytes(segment(wrap_header(2, before=3), entry))
+    outcome = program.run("info", "t")
+    same((outcome.status, outcome.errors), (1, b"dbgrec: refused 3 Sequence\nt1 and t2 don't belong together\n"))
+
+
+@case
+def what_is_no_trace_is_refused_as_by_list(program):
+    (program.folder / "text").write_bytes(b"important text\n")
+    (program.folder / "none").write_bytes(b"")
+    (program.folder / "stream").write_bytes((STREAMS / "plain.trc").read_bytes())
+    for name in ("text", "none", "stream", "nosuch"):
+        for words in ((name,), (name, "--json")):
+            said = program.run("list", name)
+            same(said.status, 1)
+            same(program.run("info", *words), Outcome(1, b"", said.errors))
+
+
+@case
+def a_wrap_of_40_megabytes_is_told_in_24(program):
+    entry = message(bytes(95))
+    for generation in (0, 1):
+        header = wrap_header(generation, before=200_000 * generation, size=19_999_999)
+        (program.folder / f"t{generation}").write_bytes(segment(header, *[entry * 1000] * 200))
+    small = ("bash", "-c", 'ulimit -v 24000; exec "$@"', "bash")
+    outcome = program.run("info", "t", before=small)
+    same((outcome.status, outcome.errors), (0, b""))
+    lines = outcome.output.decode().splitlines()
+    same(lines[4:6], ["state: open", "entries: 400000 (0 to 399999)"])
+    same(lines[-1], "opaque: 400000")
+    listed = program.good("list", "t")
+    same(listed.count(b"\n"), 400_001)
+
+
+@case
+def a_cleared_trace_is_empty(program):
+    program.good("import", "t", stdin=drop(1))
+    program.good("wipe", "t")
+    same(program.good("info", "t"), told(["state: empty", "entries: 0", "drop records: 0, messages lost: 0", "bytes: 0"]))
+    same(json.loads(program.good("info", "t", "--json"))["trace"], None)
