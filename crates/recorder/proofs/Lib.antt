@@ -1,4 +1,4 @@
-pub mod Informing
+pub mod InNumbers
 pub mod Feeding
 pub mod Looking
 pub mod Parts

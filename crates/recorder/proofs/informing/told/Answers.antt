@@ -1,4 +1,4 @@
-use Rattle.recorder.proofs.Informing.{told_as_1}
+use Rattle.recorder.proofs.InNumbers.{told_as_1}
 use Rattle.recorder.proofs.informing.told.Goals as goal
 
 pub returns-clause-status : goal.returns-clause-status
