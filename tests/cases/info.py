@@ -66,7 +66,7 @@ def a_trace_of_one_message_is_told_in_numbers(program):
             "bytes": 56,
             "lost": 0,
             "lost_before": 0,
-            "files": [{"name": "t", "generation": 0, "entries": 1, "bytes": 56, "damaged_at": None}],
+            "files": [{"name": "t", "generation": 0, "entries": 1, "bytes": 56, "kept": True, "damaged_at": None}],
             "kinds": {"receive": 1},
             "first_time_stamp": None,
             "last_time_stamp": None,
@@ -237,17 +237,42 @@ def what_is_no_trace_is_refused_as_by_list(program):
 @case
 def a_wrap_of_40_megabytes_is_told_in_24(program):
     entry = message(bytes(95))
-    for generation in (0, 1):
+    for generation, batches in ((0, 200), (1, 199)):
         header = wrap_header(generation, before=200_000 * generation, size=19_999_999)
-        (program.folder / f"t{generation}").write_bytes(segment(header, *[entry * 1000] * 200))
+        (program.folder / f"t{generation}").write_bytes(segment(header, *[entry * 1000] * batches))
     small = ("bash", "-c", 'ulimit -v 24000; exec "$@"', "bash")
     outcome = program.run("info", "t", before=small)
     same((outcome.status, outcome.errors), (0, b""))
     lines = outcome.output.decode().splitlines()
-    same(lines[4:6], ["state: open", "entries: 400000 (0 to 399999)"])
-    same(lines[-1], "opaque: 400000")
+    same(lines[4:6], ["state: open", "entries: 399000 (0 to 398999)"])
+    same(lines[-1], "opaque: 399000")
     listed = program.good("list", "t")
-    same(listed.count(b"\n"), 400_001)
+    same(listed.count(b"\n"), 399_001)
+
+
+@case
+def a_run_that_is_no_longer_kept_is_not_counted(program):
+    entry = message(EXAMPLE)
+    (program.folder / "t0").write_bytes(segment(wrap_header(0), entry, entry + drop(3)))
+    (program.folder / "t1").write_bytes(segment(wrap_header(1, before=3, lost=3), entry, entry))
+    same(program.good("list", "t").splitlines()[0], b"before entries 3 dropped 3")
+    said = program.good("info", "t").decode().splitlines()
+    same(said[4:7], ["state: open", "before: entries 3, messages lost 3", "entries: 2 (3 to 4)"])
+    same(said[9:11], ["file t0: generation 0, entries 3, bytes 117, not kept", "file t1: generation 1, entries 2, bytes 112"])
+    told_so = json.loads(program.good("info", "t", "--json"))
+    same([part["kept"] for part in told_so["files"]], [False, True])
+    same((told_so["first"], told_so["last"], told_so["lost_before"]), (3, 4, 3))
+
+
+@case
+def a_wrap_with_a_file_too_few_is_told_and_refused(program):
+    entry = message(EXAMPLE)
+    (program.folder / "t2").write_bytes(segment(wrap_header(2, before=4), entry))
+    says = "dbgrec: refused 3 Sequence"
+    for command in ("list", "info"):
+        outcome = program.run(command, "t")
+        same(outcome.status, 1)
+        assert outcome.errors.decode().startswith(says), outcome.errors
 
 
 @case

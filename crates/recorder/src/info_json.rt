@@ -84,8 +84,10 @@ impl Info {
     /// Its open files, the oldest first.
     fn files_as_json(&self, alloc: Global) -> Result<Value, AllocError> {
         let mut files = Vec::new(alloc);
+        let mut has_fallen = self.has_fallen();
         for part in &self.parts {
-            files.push(part.as_json(alloc)?)?;
+            files.push(part.as_json(alloc, !has_fallen)?)?;
+            has_fallen = false;
         }
         for name in &self.headless {
             let name = name.as_str();
@@ -108,7 +110,7 @@ impl Info {
 }
 
 impl Part {
-    fn as_json(&self, alloc: Global) -> Result<Value, AllocError> {
+    fn as_json(&self, alloc: Global, is_kept: bool) -> Result<Value, AllocError> {
         let (name, summary) = (self.name.as_str(), &self.summary);
         let damaged_at = match summary.end {
             End::Damaged { place } => Some(place),
@@ -119,6 +121,7 @@ impl Part {
             "generation": (summary.header.generation),
             "entries": (summary.counted.entries),
             "bytes": (summary.counted.bytes),
+            "kept": is_kept,
             "damaged_at": (number(damaged_at))
         })
     }

@@ -66,8 +66,10 @@ fn tell_totals<W: fmt::Write>(f: &mut fmt::Formatter<W>, info: &Info) -> fmt::Re
 }
 
 fn tell_files<W: fmt::Write>(f: &mut fmt::Formatter<W>, info: &Info) -> fmt::Result {
+    let mut has_fallen = info.has_fallen();
     for part in &info.parts {
-        tell_file(f, part)?;
+        tell_file(f, part, has_fallen)?;
+        has_fallen = false;
     }
     for name in &info.headless {
         let name = Shown(name.as_str());
@@ -76,7 +78,11 @@ fn tell_files<W: fmt::Write>(f: &mut fmt::Formatter<W>, info: &Info) -> fmt::Res
     Ok(())
 }
 
-fn tell_file<W: fmt::Write>(f: &mut fmt::Formatter<W>, part: &Part) -> fmt::Result {
+fn tell_file<W: fmt::Write>(
+    f: &mut fmt::Formatter<W>,
+    part: &Part,
+    has_fallen: bool,
+) -> fmt::Result {
     let name = Shown(part.name.as_str());
     let summary = &part.summary;
     write!(f, "file {name}: ")?;
@@ -88,7 +94,7 @@ fn tell_file<W: fmt::Write>(f: &mut fmt::Formatter<W>, part: &Part) -> fmt::Resu
     if let End::Damaged { place } = summary.end {
         write!(f, ", damaged at {place}")?;
     }
-    f.write_str("\n")
+    f.write_str(if has_fallen { ", not kept\n" } else { "\n" })
 }
 
 /// How many messages there are of each kind of which there are any.
