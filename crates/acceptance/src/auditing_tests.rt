@@ -9,7 +9,7 @@ use tracees::{Mismatch, Receipt, audit};
 const EXAMPLE: &[u8] =
     b"\x83\x68\x04\x77\x05trace\x58\x77\x0dnonode@nohost\x00\x00\x00\x50\x00\x00\x00\x00\x00\x00\x00\x00\x77\x07receive\x77\x02ok";
 
-/// The entries of a receipt or a window: the example, or a Drop.
+/// The entries of a receipt or a window: the example, or a drop record.
 #[derive(Clone, Copy)]
 enum Part {
     Example,
@@ -40,7 +40,7 @@ fn receipt(rt: &impl Abort, alloc: Global, first: u64, parts: &[Part], covered: 
     }
 }
 
-/// A window of three entries, behind two.
+/// A window of three entries, after two.
 fn window(rt: &impl Abort, alloc: Global) -> Recovered {
     let kept = entries(rt, alloc, &[Example, Example, Example]);
     Recovered::new(None, 2, 0, kept, false).expect(rt, "a lawful window")
@@ -55,7 +55,7 @@ fn a_receipt_is_held_against_the_window(rt: HostRuntime) {
         ((1, &[Example], 5), Ok(())),
         ((1, &[Lost(1), Example], 5), Ok(())),
         ((4, &[Lost(1)], 5), Err(Mismatch { number: 4 })),
-        // Number 5 is behind the end.
+        // Number 5 is after the end.
         ((5, &[Example], 5), Ok(())),
         ((5, &[Example], 6), Err(Mismatch { number: 5 })),
         // The number of the second has no value.

@@ -62,7 +62,7 @@ fn assert_answers(rt: &impl Abort, alloc: Global, replies: &[Reply]) -> Result<(
     }
 }
 
-/// Runs steps at one desk over a file port, of whose device calls the one behind so many may fail. Answers the replies,
+/// Runs steps at one desk over a file port, of whose device calls the one after so many may fail. Answers the replies,
 /// and what the tracee counts.
 fn run_over_a_file(
     rt: &impl Abort,

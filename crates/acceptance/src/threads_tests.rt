@@ -296,7 +296,7 @@ fn assert_audited(rt: &impl Abort, end: &End, found: &Recovered) {
     }
 }
 
-/// A plan over a file port, and how many entries its store has behind it.
+/// A plan over a file port, and how many entries its store has after it.
 fn recovered_behind<R: Threads + Wait + Abort + Sync>(
     rt: &R,
     alloc: Global,
@@ -344,7 +344,7 @@ fn two_jobs_meet(rt: HostRuntime) -> Result<(), Fail> {
     Ok(())
 }
 
-/// These are a receipt of one message, and one of a Drop.
+/// These are a receipt of one message, and one of a drop record.
 fn assert_message_and_drop(rt: &impl Abort, receipts: &[Receipt]) {
     assert_eq!(rt; receipts.len(), 2);
     assert_eq!(rt; receipts[0].entries.len(), 1);
@@ -430,7 +430,7 @@ fn assert_rush_is_told(rt: &impl Abort, end: &End) {
     assert_eq!(rt; end.status.state, PortState::Live);
 }
 
-/// The sums of the accounts, the port's counts, the receipts and what is recovered behind a crash tell the same.
+/// The sums of the accounts, the port's counts, the receipts and what is recovered after a crash tell the same.
 #[test]
 fn four_jobs_agree_with_what_is_recovered(rt: HostRuntime) -> Result<(), Fail> {
     let alloc = rt.alloc();

@@ -172,7 +172,7 @@ fn is_as_expected(reply: &Reply, expected: Expected) -> bool {
     }
 }
 
-/// Puts the receipt of a desk, where that is what was replied, behind those of the same desk.
+/// Puts the receipt of a desk, where that is what was replied, after those of the same desk.
 fn put_receipt(rt: &impl Abort, reply: Reply, first: &mut Vec<Receipt>, second: &mut Vec<Receipt>) {
     if let Reply::Receipt(receipt) = reply {
         let receipts = if receipt.desk == 0 { first } else { second };

@@ -158,7 +158,7 @@ fn is_resumed(
     resumed.is_ok()
 }
 
-/// The bytes of a file that goes on behind two entries.
+/// The bytes of a file that goes on after two entries.
 const OPEN_FILE: &[u8] =
     b"\x01DBT2\0\0\0\0\0\0\0\0\0\0\0\0\0\0\0\0\0\0\0\0\0\0\0\0\0\0\0\0\0\0\0\x01\0\0\0\x0a\0\0\0\0\0\x01\0\0\0\x07\0";
 

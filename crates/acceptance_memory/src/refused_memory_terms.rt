@@ -88,7 +88,7 @@ fn taken(rt: &impl Abort, alloc: Global, tracee: &mut Tracee) -> Option<Vec<Entr
     None
 }
 
-/// The entries are two messages, and a Drop of one.
+/// The entries are two messages, and a drop record of one.
 fn assert_taken(rt: &impl Abort, entries: &[Entry]) {
     assert_eq!(rt; entries.len(), 3);
     for entry in &entries[..2] {

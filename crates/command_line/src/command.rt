@@ -121,7 +121,7 @@ fn flush<'a>(alloc: Global) -> Arg<'a> {
         alloc,
         "flush",
         "WHEN",
-        "When what came is synced: behind each entry, when the writer pauses, or at the end",
+        "When what came is synced: after each entry, when the writer pauses, or at the end",
     )
     .value_parser(["always", "paused", "never"].as_slice())
     .default_value("paused")
@@ -141,7 +141,7 @@ fn import<'a>(alloc: Global) -> Result<Command<'a>, AllocError> {
         alloc,
         "import",
         "Records the entry stream of a node from standard input, and seals the trace at its end",
-        "A trace that is there and not sealed is gone on with. A sealed one is kept by export and cleared by wipe. A stream that is cut or broken doesn't seal.\n\nExample: nc HOST 4711 | dbgrec import trace --kind wrap",
+        "A trace that is there and not sealed is gone on with. A sealed one is kept by export and cleared by wipe. A stream that is truncated or broken doesn't seal.\n\nExample: nc HOST 4711 | dbgrec import trace --kind wrap",
     )?
     .arg(flush(alloc))?
     .arg(keep_open(alloc))

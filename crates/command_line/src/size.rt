@@ -10,7 +10,7 @@ fn with_unit(text: &str) -> (&str, u64) {
     (text, 1)
 }
 
-/// A number of bytes, with K, M or G behind it or nothing. None where it isn't one below 2^32.
+/// A number of bytes, with K, M or G after it or nothing. None where it isn't one below 2^32.
 pub fn bytes_in(text: &str) -> Option<u32> {
     let (number, unit) = with_unit(text);
     let bytes = number.parse::<u32>().ok()?;

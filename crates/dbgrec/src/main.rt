@@ -93,7 +93,7 @@ fn correct(rt: &HostRuntime, misuse: Misuse<'_>) -> ExitCode {
         }
         Misuse::Size(text) => {
             let _ = eprintln!(rt;
-                "error: invalid value '{text}' for '--size <BYTES>': a number below 4294967296, with K, M or G behind it or nothing\n\nFor more information, try '--help'."
+                "error: invalid value '{text}' for '--size <BYTES>': a number below 4294967296, with K, M or G after it or nothing\n\nFor more information, try '--help'."
             );
             ExitCode::from(2)
         }

@@ -102,7 +102,7 @@ text_takes StringExt bytes text rest fits e = absurd cc
 text_takes ListExt bytes text rest fits e = absurd cc
 text_takes BinaryExt bytes text rest fits e = absurd cc
 
--- The tag of a form, and what is read of the fields behind it.
+-- The tag of a form, and what is read of the fields after it.
 pub record TextAgain (text form : List ℕ) : Type 0 where
   pub tag : Tag
   pub fields : List ℕ

@@ -287,7 +287,7 @@ version_is : (b : ℕ) (same : Bool) (read : Read Data) (y : Data × List ℕ) �
 version_is b true read y is e = (eqb-true b 131 is, e)
 version_is b false read y is e = absurd cc
 
--- what is left behind a term is shorter
+-- what is left after a term is shorter
 pub shorter : (room : ℕ) (bytes : List ℕ) (version : ℕ) (behind : List ℕ) (x : Data × List ℕ) → IsBytes bytes → number_at w8 bytes ≡ Ok (version, behind) → term_at room behind ≡ Ok x → length x.1 ≤ length bytes
 shorter room bytes version behind x fits e f =
     let t0 = number_takes w8 (2 ^ 8) wide8 bytes version behind fits e in

@@ -17,7 +17,7 @@ use Rattle.ext_format.specs.Reading.{◌>>=◌, Read, number_at, bytes_at, sized
 use Rattle.ext_format.proofs.FieldLaws.{ok_is}
 use Rattle.ext_format.proofs.Again.{whole_again}
 
--- What a reader gives of some bytes, and later, when more bytes stand behind them.
+-- What a reader gives of some bytes, and later, when more bytes stand after them.
 abbrev Kept : {X : Type 0} → Read X → List ℕ → Read X → Type 0
 Kept (Ok x) more later = later ≡ Ok (x.0, x.1 ++ more)
 Kept (Err Truncated) more later = Unit {0}

@@ -67,7 +67,7 @@ abbrev mutual
   canonical_form (list ts) = list_form ts (canonical_forms ts)
   canonical_form (binary bytes) = 109 ∷ sized w32 bytes
 
-  -- those of members, one behind the other
+  -- those of members, one after the other
   pub canonical_forms : Members → List ℕ
   canonical_forms no_members = []
   canonical_forms (member t ts) = canonical_form t ++ canonical_forms ts

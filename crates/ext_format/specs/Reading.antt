@@ -65,7 +65,7 @@ unfoldable pub signed : ℕ → ℕ → Result ℤ DecodeFault
 signed zero size = if nat_lt size (2 ^ 63) then Ok (pos size) else Err TooBig
 signed (suc sign) size = if nat_le size (2 ^ 63) then Ok (neg_ℤ (pos size)) else Err TooBig
 
--- the fields behind SMALL_BIG_EXT
+-- the fields after SMALL_BIG_EXT
 unfoldable pub big_at : List ℕ → Read ℤ
 big_at bytes = do
   n ← number_at w8 bytes
@@ -95,7 +95,7 @@ text_in text_of w bytes = do
   text ← text_of sized.0
   Ok (text, sized.1)
 
--- the fields behind an atom's tag
+-- the fields after an atom's tag
 unfoldable pub text_at : Tag → List ℕ → Read (List ℕ)
 text_at SmallAtomUtf8Ext bytes = text_in utf8_text w8 bytes
 text_at AtomUtf8Ext bytes = text_in utf8_text w16 bytes
@@ -103,7 +103,7 @@ text_at SmallAtomExt bytes = text_in latin1_text w8 bytes
 text_at AtomExt bytes = text_in latin1_text w16 bytes
 text_at _ bytes = Err BadTag
 
--- the bytes of an atom's text behind its tag, whatever they spell
+-- the bytes of an atom's text after its tag, whatever they spell
 unfoldable pub spelt_at : Tag → List ℕ → Read (List ℕ)
 spelt_at SmallAtomUtf8Ext bytes = sized_at w8 bytes
 spelt_at AtomUtf8Ext bytes = sized_at w16 bytes
@@ -117,7 +117,7 @@ node_at bytes = do
   tag ← tag_at bytes
   text_at tag.0 tag.1
 
--- the fields behind a pid's tag; creation has the width w
+-- the fields after a pid's tag; creation has the width w
 unfoldable pub pid_at : Width → List ℕ → Read Pid
 pid_at w bytes = do
   node ← node_at bytes
@@ -136,7 +136,7 @@ members_at read (suc n) bytes = do
   others ← members_at read n first.1
   Ok (member first.0 others.0, others.1)
 
--- the fields behind a tuple's tag; the arity has the width w
+-- the fields after a tuple's tag; the arity has the width w
 unfoldable pub tuple_at : Width → (List ℕ → Read Data) → List ℕ → Read Data
 tuple_at w read bytes = do
   n ← number_at w bytes
@@ -149,7 +149,7 @@ tail_at bytes = do
   b ← number_at w8 bytes
   if b.0 == 106 then Ok (tt, b.1) else Err Improper
 
--- the fields behind LIST_EXT
+-- the fields after LIST_EXT
 unfoldable pub list_at : (List ℕ → Read Data) → List ℕ → Read Data
 list_at read bytes = do
   n ← number_at w32 bytes
@@ -157,31 +157,31 @@ list_at read bytes = do
   tail ← tail_at ts.1
   Ok (list ts.0, tail.1)
 
--- the fields behind SMALL_INTEGER_EXT
+-- the fields after SMALL_INTEGER_EXT
 abbrev pub small_integer_at : List ℕ → Read Data
 small_integer_at bytes = do
   n ← number_at w8 bytes
   Ok (int (pos n.0), n.1)
 
--- the fields behind INTEGER_EXT
+-- the fields after INTEGER_EXT
 abbrev pub integer_at : List ℕ → Read Data
 integer_at bytes = do
   n ← number_at w32 bytes
   Ok (int (cast_signed w32 n.0), n.1)
 
--- the fields behind STRING_EXT
+-- the fields after STRING_EXT
 abbrev pub string_at : List ℕ → Read Data
 string_at bytes = do
   sized ← sized_at w16 bytes
   Ok (list (integers sized.0), sized.1)
 
--- the fields behind BINARY_EXT
+-- the fields after BINARY_EXT
 abbrev pub binary_at : List ℕ → Read Data
 binary_at bytes = do
   sized ← sized_at w32 bytes
   Ok (binary sized.0, sized.1)
 
--- The fields behind a tag. The members of a tuple or a list are read by inner, or may not be there at all.
+-- The fields after a tag. The members of a tuple or a list are read by inner, or may not be there at all.
 unfoldable pub fields_at : Result (List ℕ → Read Data) DecodeFault → Tag → List ℕ → Read Data
 fields_at inner SmallIntegerExt bytes = small_integer_at bytes
 fields_at inner IntegerExt bytes = integer_at bytes
@@ -229,7 +229,7 @@ inner_of (suc room) = Ok (tagged_at (inner_of room))
 abbrev pub term_at : ℕ → List ℕ → Read Data
 term_at room = tagged_at (inner_of room)
 
--- a term behind the version, and how many bytes it takes
+-- a term after the version, and how many bytes it takes
 unfoldable pub whole_at : List ℕ → Result (Data × ℕ) DecodeFault
 whole_at bytes = do
   version ← number_at w8 bytes

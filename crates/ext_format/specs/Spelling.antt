@@ -76,7 +76,7 @@ mutual
     -- BINARY_EXT
     a_binary : (bytes : List ℕ) → length bytes < 2 ^ 32 → Form (binary bytes) (109 ∷ sized w32 bytes)
 
-  -- the forms of members, one behind the other
+  -- the forms of members, one after the other
   pub data Forms : Members → List ℕ → Type 0 where
     no_forms : Forms no_members []
     form : (t : Data) (ts : Members) (first others : List ℕ) → Form t first → Forms ts others → Forms (member t ts) (first ++ others)

@@ -66,7 +66,7 @@ fn as_short(text: &[u8]) -> Option<&[u8]>
     Some(text)
 }
 
-/// The bytes of the text of the atom behind its tag, and those behind them, where they are at most 255. Bytes of ASCII
+/// The bytes of the text of the atom after its tag, and those after them, where they are at most 255. Bytes of ASCII
 /// spell themselves in UTF-8 and in Latin-1, so these are then the atom's text. None says nothing.
 #[tactic(auto, unfolding(crate::specs::Reading::text_at, crate::specs::Reading::spelt_at))]
 pub fn short_at(tag: Tag, bytes: &[u8]) -> Option<(&[u8], &[u8])>
@@ -87,7 +87,7 @@ pub fn short_at(tag: Tag, bytes: &[u8]) -> Option<(&[u8], &[u8])>
     }
 }
 
-/// The atom behind its tag. A tag that isn't an atom's is `BadTag`.
+/// The atom after its tag. A tag that isn't an atom's is `BadTag`.
 #[tactic(auto, unfolding(crate::specs::Reading::text_at))]
 pub fn atom_of(alloc: Global, tag: Tag, bytes: &[u8]) -> Result<(Atom, &[u8]), DecodeFault>
     ensures { Gives (λ x. (x.0, x.1.now)) result (text_at tag bytes.now) }
@@ -122,7 +122,7 @@ fn node_of(alloc: Global, bytes: &[u8]) -> Result<(Atom, &[u8]), DecodeFault>
     atom_of(alloc, tag, rest)
 }
 
-/// The pid behind the tag NEW_PID_EXT.
+/// The pid after the tag NEW_PID_EXT.
 #[tactic(auto, unfolding(crate::specs::Reading::pid_at))]
 pub fn new_pid_of(alloc: Global, bytes: &[u8]) -> Result<(Pid, &[u8]), DecodeFault>
     ensures { Gives (λ x. (x.0, x.1.now)) result (pid_at w32 bytes.now) }
@@ -142,7 +142,7 @@ pub fn new_pid_of(alloc: Global, bytes: &[u8]) -> Result<(Pid, &[u8]), DecodeFau
     ))
 }
 
-/// The pid behind the tag PID_EXT, whose creation has one byte.
+/// The pid after the tag PID_EXT, whose creation has one byte.
 #[tactic(auto, unfolding(crate::specs::Reading::pid_at))]
 pub fn pid_of(alloc: Global, bytes: &[u8]) -> Result<(Pid, &[u8]), DecodeFault>
     ensures { Gives (λ x. (x.0, x.1.now)) result (pid_at w8 bytes.now) }

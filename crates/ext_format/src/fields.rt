@@ -1,4 +1,4 @@
-//! Fields, read from the front of bytes: each with the bytes behind it.
+//! Fields, read from the front of bytes: each with the bytes after it.
 
 ghost use Rattle.std.specs.Prelude.{◌≡◌};
 ghost use Rattle.std.specs.Int.{w8, w16, w32};

@@ -40,7 +40,7 @@ pub fn integer_size(number: i64) -> usize
     }
 }
 
-/// The room that is left behind an atom of this text, if it suffices.
+/// The room that is left after an atom of this text, if it suffices.
 #[tactic(auto, unfolding(crate::specs::Canonical::atom_form))]
 pub fn room_after_atom(room: usize, text: &str) -> Option<usize>
     ensures { LeavesRoom result room (length (atom_form text.now)) }
@@ -49,7 +49,7 @@ pub fn room_after_atom(room: usize, text: &str) -> Option<usize>
     room.checked_sub(head)?.checked_sub(text.len())
 }
 
-/// The room that is left behind a pid, if it suffices.
+/// The room that is left after a pid, if it suffices.
 pub fn room_after_pid(room: usize, pid: &Pid) -> Option<usize>
     ensures { LeavesRoom result room (length (canonical_form (pid_data pid.now))) }
 {
@@ -94,7 +94,7 @@ pub(crate) fn is_string(members: &Vec<Term>) -> bool
     members.len() < 1 << 16 && are_bytes(members)
 }
 
-/// The room that is left behind a term's form, if it suffices.
+/// The room that is left after a term's form, if it suffices.
 #[cycle(size)]
 pub fn room_after(room: usize, term: &Term) -> Option<usize>
     ensures { LeavesRoom result room (length (canonical_form (view term.now))) }
@@ -111,7 +111,7 @@ pub fn room_after(room: usize, term: &Term) -> Option<usize>
     }
 }
 
-/// The room that is left behind a list of these members, if it suffices.
+/// The room that is left after a list of these members, if it suffices.
 #[cycle(size)]
 pub fn room_after_list(room: usize, members: &Vec<Term>) -> Option<usize>
     ensures { LeavesRoom result room (length (canonical_form (list (members_view members.now.items)))) }

@@ -180,7 +180,7 @@ pub fn put_list(out: &mut Vec<u8>, members: &Vec<Term>) -> Result<(), AllocError
     Ok(out.push(NIL_EXT)?)
 }
 
-/// Terms one behind the other, each without the version.
+/// Terms one after the other, each without the version.
 #[cycle(writing)]
 fn put_forms(out: &mut Vec<u8>, members: &Vec<Term>) -> Result<(), AllocError>
     requires { length (canonical_forms (members_view members.now.items)) < 2 ^ 16 }

@@ -37,7 +37,7 @@ RanAtDesk (openings.File opening) origin old new over left Writes =
 RanAtDesk (openings.Wrap opening) origin old new over left Writes =
     WasHeld (wrap_told folder.ghosts pending.ghosts) in_desk (wrap_opened_told pending.ghosts opening (device_of folder.ghosts old)) (opened_answer origin) 0 over left (device_of folder.ghosts new) Writes
 
--- what is answered behind the lines: one line more where the port was given up
+-- what is answered after the lines: one line more where the port was given up
 abbrev pub IsAnswered : Result (Option Leave) SimFault → Result Unit SimFault → Option (List ℕ) → Option (List ℕ) → Type 0
 IsAnswered (Ok None) result mid new = (result ≡ Ok tt) × (new ≡ mid)
 IsAnswered (Ok (Some leave)) result mid new = OnOk result (Appends mid new (line_of Done))

@@ -1,4 +1,4 @@
-// What is told of a fault on standard error: a line, and behind it what to do next.
+// What is told of a fault on standard error: a line, and after it what to do next.
 ghost use Rattle.std.specs.Prelude.{◌≡◌, None};
 ghost use Rattle.recorder.specs.Complaints.{status_told};
 ghost use Rattle.recorder.specs.declared.complaint.Complaint.TheVariants as complaints;

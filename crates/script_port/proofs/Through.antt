@@ -153,7 +153,7 @@ failed_behind told old mid new Stands Writes line reply answer start before of_d
       text = tt;
     }
 
--- ---- another run that went on behind it
+-- ---- another run that went on after it
 
 lines_both : (of_desk : Bool) (files : ℕ) (from at to : Progress) (r : Result (Option Leave) SimFault) (done more : List Exchange) → AreDone of_desk files from at (lines_of done) → AreTheLines files (stretch of_desk at to) r (lines_of more)
     → AreTheLines files (stretch of_desk from to) r (lines_of (done ++ more))

@@ -56,7 +56,7 @@ abbrev pub IsDue : TraceeFault → ℕ → ℕ → Type 0
 IsDue BadSpec capacity drop_limit = IsBadSpec capacity drop_limit
 IsDue NoMemory capacity drop_limit = Unit {0}
 
--- with this tracee behind the others, and an account that counts nothing
+-- with this tracee after the others, and an account that counts nothing
 abbrev pub with_tracee : {P : Type 0} → DeskSide P → Tracee → DeskSide P
 with_tracee side tracee = record side {
   desk = record side.desk { attached = side.desk.attached + 1 };

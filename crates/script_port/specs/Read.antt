@@ -32,7 +32,7 @@ pub data IsBrokenOff (of_desk : Bool) (files : ℕ) (from to : Progress) : SimFa
   no_file : (line : Line) → HasNext of_desk from to line → (IsOfFiles files line → ⊥) → IsBrokenOff of_desk files from to (faults.BadCommand to.lines)
   not_written : to ≡ from → IsBrokenOff of_desk files from to faults.Write
 
--- what was read behind the lines that were done: the end of the script, nothing, or why no line more was done
+-- what was read after the lines that were done: the end of the script, nothing, or why no line more was done
 abbrev pub EndsSo : Bool → ℕ → Progress → Progress → Result (Option Leave) SimFault → Type 0
 EndsSo of_desk files from to (Ok None) = HasEnded from to
 EndsSo of_desk files from to (Ok (Some leave)) = to ≡ from

@@ -39,7 +39,7 @@ pub enum SimFault {
     BadOp {
         place: u64,
     },
-    /// The entry at this place is a Drop of no messages.
+    /// The entry at this place is a drop record of no messages.
     #[error("refused 5 ZeroDrop at {place}")]
     ZeroDrop {
         place: u64,
@@ -85,7 +85,7 @@ pub enum SimFault {
 }
 
 impl SimFault {
-    /// Whether the stream that came in ended it, or want of memory for that.
+    /// Whether the stream that came in ended it, or lack of memory for that.
     pub fn is_of_stream(&self) -> bool {
         matches!(
             self,

@@ -44,7 +44,7 @@ impl HandRefusal {
 pub enum Refusal {
     /// A call of the store itself.
     Device,
-    /// A call whose only refusal is want of memory.
+    /// A call whose only refusal is lack of memory.
     NoMemory,
     Crash(CrashFault),
     Recover(RecoverFault),

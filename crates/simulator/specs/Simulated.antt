@@ -70,7 +70,7 @@ RanOn (openings.File opening) origin old new over left Writes =
 RanOn (openings.Wrap opening) origin old new over left Writes =
     WasHeld (wrap_told mem.ghosts pending.ghosts) Alone (wrap_opened_told pending.ghosts opening (device old)) (greeting origin) (length (reads_of old)) over left (device new) Writes
 
--- a port was made over the store, and the lines behind this one were run on it until it was given up
+-- a port was made over the store, and the lines after this one were run on it until it was given up
 pub record WasRun (origin : Origin) (spec : Spec) (old new : MemStore) (over : Stretch) (left : Result (Option Leave) SimFault) (Writes : List ℕ → Type 0) : Type 0 where
   pub mid : MemStore
   pub opening : AnyOpening
@@ -83,7 +83,7 @@ abbrev pub ended_so : Result (Option Leave) SimFault → Result (Option Leave) S
 ended_so (Ok left) = Ok left
 ended_so (Err fault) = Err (stops.Failed fault)
 
--- what comes of a line that makes a port, and of the stretch of the script behind it: it was run so, or there is no port
+-- what comes of a line that makes a port, and of the stretch of the script after it: it was run so, or there is no port
 abbrev pub ComesOf : Origin → Spec → MemStore → MemStore → Stretch → Result (Option Leave) Stop → (List ℕ → Type 0) → Type 0
 ComesOf origin spec old new over (Ok left) Writes = WasRun origin spec old new over (Ok left) Writes
 ComesOf origin spec old new over (Err (stops.Failed fault)) Writes = WasRun origin spec old new over (Err fault) Writes
@@ -137,7 +137,7 @@ DoesAlone line old new (Err (stops.Refused refusal)) Writes = ⊥
 abbrev pub IsNoWrap : MemStore → MemStore → Result (Option Leave) Stop → (List ℕ → Type 0) → Type 0
 IsNoWrap old new result Writes = (new ≡ old) × (result ≡ Err (stops.Refused (refusals.Create BadSpec))) × Writes []
 
--- what comes of a line, and of the stretch of the script behind it that its port takes
+-- what comes of a line, and of the stretch of the script after it that its port takes
 abbrev pub Runs : Line → MemStore → MemStore → Stretch → Result (Option Leave) Stop → (List ℕ → Type 0) → Type 0
 Runs (lines.CreateFile limit) old new over result Writes = ComesOf Created File old new over result Writes
 Runs (lines.ResumeFile limit) old new over result Writes = ComesOf Resumed File old new over result Writes
@@ -155,7 +155,7 @@ pub record IsRunWhole (line : Line) (old new : MemStore) (taken : Stretch) (resu
   pub over : OnOk result ((text : List ℕ) × IsOver left mid new text × Appends between now text)
   pub fault : IfErr result (IsItsFault left)
 
--- lines were run whole one after another, each on the store that the one before it left, and each was the next one of the script, behind all that was read for the one before it
+-- lines were run whole one after another, each on the store that the one before it left, and each was the next one of the script, after all that was read for the one before it
 pub data AreRun (of_desk : Bool) (first : MemStore) (from : Progress) (out : Option (List ℕ)) : List Line → MemStore → Progress → Option (List ℕ) → Type 0 where
   none : AreRun of_desk first from out [] first from out
   more : {before : List Line} {mid new : MemStore} {at behind to : Progress} {was now : Option (List ℕ)} (line : Line) → AreRun of_desk first from out before mid at was → HasNext of_desk at behind line → IsOfFiles (length (reads_of mid)) line

@@ -125,7 +125,7 @@ fn run_whole<R: BufRead, W: Write>(
     finish(store, left, answers)
 }
 
-/// Runs a line and, where it makes a port, the lines behind it until that is given up.
+/// Runs a line and, where it makes a port, the lines after it until that is given up.
 fn run_line<R: BufRead, W: Write>(
     alloc: Global,
     store: &mut MemStore,

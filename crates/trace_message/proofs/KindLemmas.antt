@@ -147,7 +147,7 @@ receive_row (a ∷ []) e = receives a
 receive_row [] e = absurd cc
 receive_row (a ∷ b ∷ row) e = absurd cc
 
--- what stands behind a word
+-- what stands after a word
 behind : (w : Word) (row : List Data) (seen : Seen) → kind_behind (Some w) row ≡ Some seen → IsRow seen (atom (text_of w) ∷ row)
 behind Trace row seen e = absurd cc
 behind TraceTs row seen e = absurd cc

@@ -9,7 +9,7 @@ use Rattle.trace_message.specs.Events.{EventData}
 use Rattle.trace_message.specs.Texts.{text_trace, text_trace_ts, text_call, text_return_from, text_exception_from, text_send, text_send_to_non_existing_process, text_receive}
 use Rattle.trace_message.specs.Tuples.{tuple_of, triple_of, function_of, reason_of}
 
--- What stands behind the pid, without a time stamp: a row of the table each.
+-- What stands after the pid, without a time stamp: a row of the table each.
 pub data IsRow : Seen → List Data → Type 0 where
   calls : (mod_name fun_name : List ℕ) (args : Members) → IsRow Call (atom text_call ∷ function_of mod_name fun_name (list args) ∷ [])
   calls_with_arity : (mod_name fun_name : List ℕ) (arity : ℤ) → IsRow Call (atom text_call ∷ function_of mod_name fun_name (int arity) ∷ [])

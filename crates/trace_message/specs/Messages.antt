@@ -22,7 +22,7 @@ is_asked flags (receive msg) = flags.receive
 abbrev pub called_with : Flags → List Data → Data
 called_with flags args = if flags.arity then number (length args) else list (members_of args)
 
--- what stands behind the pid
+-- what stands after the pid
 abbrev pub row_of : Flags → EventData → List Data
 row_of flags (call mod_name fun_name args) = atom text_call ∷ function_of mod_name fun_name (called_with flags args) ∷ []
 row_of flags (return_from mod_name fun_name arity value) = atom text_return_from ∷ function_of mod_name fun_name (number arity) ∷ value ∷ []

@@ -45,27 +45,27 @@ abbrev pub are_integers : List Data → Bool
 are_integers (a ∷ b ∷ c ∷ []) = is_int a && (is_int b && is_int c)
 are_integers other = false
 
--- what stands behind `call`
+-- what stands after `call`
 abbrev pub is_call : List Data → Bool
 is_call (tuple function ∷ []) = is_called (list_of function)
 is_call other = false
 
--- what stands behind `return_from`
+-- what stands after `return_from`
 abbrev pub is_return : List Data → Bool
 is_return (tuple function ∷ value ∷ []) = is_function (list_of function)
 is_return other = false
 
--- what stands behind `exception_from`
+-- what stands after `exception_from`
 abbrev pub is_exception : List Data → Bool
 is_exception (tuple function ∷ tuple reason ∷ []) = is_function (list_of function) && is_reason (list_of reason)
 is_exception other = false
 
--- what stands behind `receive`
+-- what stands after `receive`
 abbrev pub is_one : List Data → Bool
 is_one (a ∷ []) = true
 is_one other = false
 
--- what stands behind `send` or `send_to_non_existing_process`
+-- what stands after `send` or `send_to_non_existing_process`
 abbrev pub is_two : List Data → Bool
 is_two (a ∷ b ∷ []) = true
 is_two other = false
@@ -74,7 +74,7 @@ is_two other = false
 abbrev pub only_if : Bool → Seen → Option Seen
 only_if test seen = if test then Some seen else None
 
--- the kind of what stands behind a word
+-- the kind of what stands after a word
 abbrev pub kind_behind : Option Word → List Data → Option Seen
 kind_behind None row = None
 kind_behind (Some words.Trace) row = None
@@ -86,7 +86,7 @@ kind_behind (Some words.Send) row = only_if (is_two row) kinds.Send
 kind_behind (Some words.SendToNonExistingProcess) row = only_if (is_two row) kinds.SendLost
 kind_behind (Some words.Receive) row = only_if (is_one row) kinds.Receive
 
--- the kind of what stands behind the pid
+-- the kind of what stands after the pid
 abbrev pub row_kind : List Data → Option Seen
 row_kind (atom text ∷ row) = kind_behind (word_named text) row
 row_kind other = None
@@ -109,11 +109,11 @@ ends_with_stamp [] = false
 ends_with_stamp (t ∷ []) = is_stamp t
 ends_with_stamp (t ∷ u ∷ ts) = ends_with_stamp (u ∷ ts)
 
--- the kind of a row behind which a time stamp stands
+-- the kind of a row after which a time stamp stands
 abbrev pub stamped_row_kind : List Data → Option Seen
 stamped_row_kind row = if ends_with_stamp row then row_kind (front_of row) else None
 
--- the kind of what stands behind the head and the pid
+-- the kind of what stands after the head and the pid
 abbrev pub kind_under : Option Word → List Data → Option Seen
 kind_under (Some words.Trace) row = row_kind row
 kind_under (Some words.TraceTs) row = stamped_row_kind row

@@ -44,7 +44,7 @@ fn parts_kind(parts: &[Term]) -> Option<Seen>
     }
 }
 
-/// The kind of a row behind which a time stamp stands.
+/// The kind of a row after which a time stamp stands.
 fn stamped_row_kind(row: &[Term]) -> Option<Seen>
     ensures { result ≡ shapes.stamped_row_kind (map view row.now) }
 {
@@ -73,7 +73,7 @@ fn are_integers(parts: &[Term]) -> bool
     }
 }
 
-/// The kind of what stands behind the pid.
+/// The kind of what stands after the pid.
 fn row_kind(row: &[Term]) -> Option<Seen>
     ensures { result ≡ shapes.row_kind (map view row.now) }
 {
@@ -91,7 +91,7 @@ fn row_kind(row: &[Term]) -> Option<Seen>
     }
 }
 
-/// What stands behind `call`.
+/// What stands after `call`.
 fn is_call(row: &[Term]) -> bool
     ensures { result ≡ shapes.is_call (map view row.now) }
 {
@@ -101,7 +101,7 @@ fn is_call(row: &[Term]) -> bool
     }
 }
 
-/// What stands behind `return_from`.
+/// What stands after `return_from`.
 fn is_return(row: &[Term]) -> bool
     ensures { result ≡ shapes.is_return (map view row.now) }
 {
@@ -111,7 +111,7 @@ fn is_return(row: &[Term]) -> bool
     }
 }
 
-/// What stands behind `exception_from`.
+/// What stands after `exception_from`.
 fn is_exception(row: &[Term]) -> bool
     ensures { result ≡ shapes.is_exception (map view row.now) }
 {

@@ -68,7 +68,7 @@ one_keyword m n e =
     let a : keyword_among all_keywords (text_of m) ≡ Some m = text_keyword m in
     let b : keyword_among all_keywords (text_of n) ≡ Some n = text_keyword n in cc
 
--- what the words behind a keyword say, all the words say
+-- what the words after a keyword say, all the words say
 pub behind : {X : Type 0} (Says : Keyword → List (List ℕ) → X → Type 0) (words others : List (List ℕ)) (k : Keyword) (o : Option X) → words ≡ text_of k ∷ others → IsFound (Says k others) o
     → IsFound (Behind Says words) o
 behind Says words others k (Some x) e h = record { keyword = k; others = others; begins = e; says = h }

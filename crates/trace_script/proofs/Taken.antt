@@ -162,7 +162,7 @@ takes_both before mid now a b c p q = (p.0 ++ q.0, Consumes-trans a b c p.0 q.0 
 takes_more : (before mid : ℕ) (a b c : Option (List ℕ)) → TakesOf before mid a b → TakesMore mid b c → TakesMore before a c
 takes_more before mid a b c p q = (p.0 ++ q.0, Consumes-trans a b c p.0 q.0 p.1 q.1, omega (arith, length-append p.0 q.0, p.2, q.2))
 
--- behind lines that say nothing: the next line wasn't had, or it is refused
+-- after lines that say nothing: the next line wasn't had, or it is refused
 pub told_behind : (A : Type 0) (before mid now : ℕ) (a b c : Option (List ℕ)) (fault : ScriptFault) → TakesOf before mid a b → TellsRoom {A = Bool} mid now b c (Err fault) → TellsRoom {A = A} before now a c (Err fault)
 told_behind A before mid now a b c (faults.BadCommand number) p q = takes_both before mid now a b c p q
 told_behind A before mid now a b c faults.Read p q = tt

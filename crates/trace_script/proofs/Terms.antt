@@ -34,7 +34,7 @@ pub term_found : {V : Type 0} (seen : V → Data) (word bytes : List ℕ) (o : O
 term_found seen word bytes (Some v) are h = record { bytes = bytes; are = are; spell = h }
 term_found seen word bytes None are h = λ t k. h t (subst (λ (b : List ℕ). SpellsTerm t b) (only_bytes word k.bytes bytes k.are are) k.spell)
 
--- bytes that go on behind a term spell none
+-- bytes that go on after a term spell none
 pub not_whole : (t u : Data) (n : ℕ) (bytes : List ℕ) → n ≤ length bytes → n ≢ length bytes → SpellsTerm u (take n bytes) → SpellsTerm t bytes → ⊥
 not_whole t u n bytes within other found h =
     let e : bytes ≡ take n bytes = (one_reading t u bytes (take n bytes) [] (drop n bytes) h found (append-nil bytes ∙ sym (take-append-drop n bytes))).1 in

@@ -58,7 +58,7 @@ unfoldable pub keyword_among : List Keyword → List ℕ → Option Keyword
 keyword_among [] text = None
 keyword_among (keyword ∷ others) text = if bytes_eq text (text_of keyword) then Some keyword else keyword_among others text
 
--- words begin with a keyword, and those behind it say so
+-- words begin with a keyword, and those after it say so
 pub record Behind {X : Type 0} (Says : Keyword → List (List ℕ) → X → Type 0) (words : List (List ℕ)) (x : X) : Type 0 where
   pub keyword : Keyword
   pub others : List (List ℕ)

@@ -74,7 +74,7 @@ TakesOf before now was is = (bytes : List ℕ) × Consumes was is bytes × (now 
 abbrev pub TakesMore : ℕ → Option (List ℕ) → Option (List ℕ) → Type 0
 TakesMore before was is = (bytes : List ℕ) × Consumes was is bytes × (before < length bytes)
 
--- how many bytes may come before and after a line: exactly where more was taken the script is too long; nothing is said behind a read that failed
+-- how many bytes may come before and after a line: exactly where more was taken the script is too long; nothing is said after a read that failed
 abbrev pub TellsRoom : {A : Type 0} → ℕ → ℕ → Option (List ℕ) → Option (List ℕ) → Result A ScriptFault → Type 0
 TellsRoom before now was is (Ok found) = TakesOf before now was is
 TellsRoom before now was is (Err (faults.BadCommand number)) = TakesOf before now was is
@@ -141,7 +141,7 @@ pub data Breaks (of_desk : Bool) (mid is : Progress) : ScriptFault → Type 0 wh
   too_much : (part : List ℕ) → Consumes mid.left is.left part → Breaks of_desk mid is faults.TooLong
   no_memory : (part : List ℕ) → Consumes mid.left is.left part → Breaks of_desk mid is faults.NoMemory
 
--- the same, behind lines that say nothing
+-- the same, after lines that say nothing
 pub record HasStopped (of_desk : Bool) (was is : Progress) (fault : ScriptFault) : Type 0 where
   pub silent : List (List ℕ)
   pub each : All IsSilent silent

@@ -72,7 +72,7 @@ pub record Three {X Y Z : Type 0} (Spells1 : List ℕ → X → Type 0) (Spells2
   pub spells2 : Spells2 word2 y
   pub spells3 : Spells3 word3 z
 
--- the first word spells one, and those behind it another
+-- the first word spells one, and those after it another
 pub record First {X Y : Type 0} (Spells1 : List ℕ → X → Type 0) (SpellsOthers : List (List ℕ) → Y → Type 0) (words : List (List ℕ)) (x : X) (y : Y) : Type 0 where
   pub word : List ℕ
   pub others : List (List ℕ)

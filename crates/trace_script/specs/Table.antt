@@ -162,7 +162,7 @@ DeskRow keywords.FlushFor others line = (number : ℕ) × Sole IsTracee others n
 DeskRow keywords.Counts others line = (number : ℕ) × Sole IsTracee others number × (line ≡ desk_lines.OfTracee number tracee_lines.Counts)
 DeskRow _ others line = ⊥
 
--- the words behind a keyword that a line for a desk begins with
+-- the words after a keyword that a line for a desk begins with
 abbrev pub IsOfDesk : Keyword → List (List ℕ) → Line → Type 0
 IsOfDesk keyword others line = (it : DeskLine) × DeskRow keyword others it × (line ≡ lines.AtDesk it)
 
@@ -196,6 +196,6 @@ HeldRow _ others line = ⊥
 abbrev pub Row : Keyword → List (List ℕ) → Line → Type 0
 Row keyword others line = PlainRow keyword others line ⊎ (HeldRow keyword others line ⊎ IsOfDesk keyword others line)
 
--- the text spells the line: its words begin with a keyword, and those behind it say so
+-- the text spells the line: its words begin with a keyword, and those after it say so
 abbrev pub Spells : Line → List ℕ → Type 0
 Spells line text = Behind Row (words text) line

@@ -1,10 +1,10 @@
-// The words behind a keyword, of which a line has so many.
+// The words after a keyword, of which a line has so many.
 ghost use Rattle.std.specs.Prelude.{◌≡◌, ◌≢◌, ◌∷◌, [], MatchOption, length};
 ghost use Rattle.trace_script.specs.Spellings.{IsFound, IsNumber, IsNumberIn, Sole, texts};
 
 use crate::spelling::{number, within};
 
-/// The first word, and those behind it.
+/// The first word, and those after it.
 pub fn first<'w, 't>(words: &'w [&'t str]) -> Option<(&'t str, &'w [&'t str])>
     ensures { MatchOption result (texts words.now ≡ []) (λ x. texts words.now ≡ x.0.now ∷ texts x.1.now) }
 {

@@ -97,7 +97,7 @@ fn call(alloc: Global, words: &[&str]) -> Result<Option<Event>, AllocError>
     }))
 }
 
-/// The words behind the name of a returning function's module.
+/// The words after the name of a returning function's module.
 fn returned(alloc: Global, words: &[&str]) -> Result<Option<(Atom, u8, Term)>, AllocError>
     ensures { IfOk result (IsFoundAs {X = List ℕ × ℕ × Data} (λ x. (x.0, x.1, view x.2)) (λ x. Three IsAtom IsArity IsTerm (texts words.now) x.0 x.1 x.2)) }
 {

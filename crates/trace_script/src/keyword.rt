@@ -94,7 +94,7 @@ impl Keyword {
     }
 }
 
-/// The keyword that the words begin with, and the words behind it.
+/// The keyword that the words begin with, and the words after it.
 pub fn keyword_behind<'w, 't>(words: &'w [&'t str]) -> Option<(Keyword, &'w [&'t str])>
     ensures { IsFoundAs {X = Keyword × List (List ℕ)} (λ x. (x.0, texts x.1.now)) (λ x. texts words.now ≡ text_of x.0 ∷ x.1) result }
 {

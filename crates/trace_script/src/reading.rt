@@ -27,7 +27,7 @@ fn length_of_line(bytes: &[u8]) -> usize
     length
 }
 
-/// Puts behind the text what the reader has at hand of the line, and no more than shows that it is too long. Whether
+/// Puts after the text what the reader has at hand of the line, and no more than shows that it is too long. Whether
 /// the line or the reader ends there.
 fn take_part<R: BufRead>(reader: &mut R, text: &mut Vec<u8>) -> Result<bool, ScriptFault>
     requires short { length text.old.items ≤ 300000 }

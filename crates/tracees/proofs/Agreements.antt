@@ -78,7 +78,7 @@ end_kept (Timed millis count) v0 xs =
 
 -- ---- entries against a window
 
--- of these entries a window that begins at the number first has some that stand next to each other; behind them nothing is covered
+-- of these entries a window that begins at the number first has some that stand next to each other; after them nothing is covered
 pub record IsPart (start first covered : ℕ) (entries window : List Entry) : Type 0 where
   pub beyond : List Entry
   pub from : start ≤ first
@@ -149,7 +149,7 @@ kept_parts ys es more = kept-append ys (map Kept es ++ more) ∙ ap (λ (l : Lis
 pub covered_grows : (v0 : View) (ys more : List Item) (c c' : ℕ) → c ≤ total v0 + length ys → c ≤ c' → covered_of v0 ys c ≤ covered_of v0 (ys ++ more) c'
 covered_grows = covered_rises
 
--- a receipt of entries that were accepted behind ys agrees with what a sound image of all items since reads as
+-- a receipt of entries that were accepted after ys agrees with what a sound image of all items since reads as
 pub receipt_agrees : (spec : Spec) (v0 : View) (ys : List Item) (es : List Entry) (more zs : List Item) (c : ℕ) (receipt : Receipt) (image : Image) (window : View) (sealed : Bool) → zs ≡ ys ++ (map Kept es ++ more)
     → views receipt.entries.items ≡ es → receipt.first ≡ total (extend spec v0 ys) → receipt.covered ≤ covered_of v0 zs c
     → Sound spec v0 zs c image → ReadsAs spec window sealed image → IsAgreed window.first (joined window.runs) receipt

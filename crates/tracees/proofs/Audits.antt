@@ -32,7 +32,7 @@ agrees_inside first covered number window kept e r from at tells = (
     same (inside h got) = cc
     same (newer past h) = absurd (omega (arith, past, from, slice_get_within window (number - first) kept at))
 
--- behind the window it is to be one that isn't covered
+-- after the window it is to be one that isn't covered
 pub agrees_past : (first covered number : ℕ) (window : List Entry) (e : Entry) → first + length window ≤ number → Agrees first window covered number e → covered ≤ number
 agrees_past first covered number window e past (older before) = absurd (omega (arith, before, past))
 agrees_past first covered number window e past (inside from got) = absurd (omega (arith, past, from, slice_get_within window (number - first) e got))
@@ -45,7 +45,7 @@ agreed_append first covered number window [] rest a b = subst (λ n. AreAgreed f
 agreed_append first covered number window (e ∷ front) rest a b =
     (a.0, agreed_append first covered (number + 1) window front rest a.1 (subst (λ n. AreAgreed first window covered n rest) (let same : number + length (e ∷ front) ≡ number + 1 + length front = omega arith in same) b))
 
--- entries behind the window agree where none is covered
+-- entries after the window agree where none is covered
 pub agreed_beyond : (first covered number : ℕ) (window es : List Entry) → first + length window ≤ number → covered ≤ number → AreAgreed first window covered number es
 agreed_beyond first covered number window [] past within = tt
 agreed_beyond first covered number window (e ∷ es) past within = (newer past within, agreed_beyond first covered (number + 1) window es (omega (arith, past)) (omega (arith, within)))

@@ -71,7 +71,7 @@ adds_offer : (old new : Tracee) (message : Option Data) → IsSomeAnd message Fi
 adds_offer old new None fits adds before h taken passed = absurd fits
 adds_offer old new (Some message) fits adds before h taken passed = adds before h taken passed
 
--- the history behind an emit
+-- the history after an emit
 abbrev pub after_emit : History → Option Data → Bool → History
 after_emit h message offered = if offered then offered_too h message else h
 

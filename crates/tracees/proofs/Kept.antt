@@ -164,7 +164,7 @@ step_tells told old new x reply (tick_unknown none same) receipt found = no_rece
 
 -- ---- receipts and images
 
--- a receipt of a step that has this effect, with what was called before it and behind it
+-- a receipt of a step that has this effect, with what was called before it and after it
 kept_there : (first now mid last : Told) (v0 : View) (ys : List Item) (c : ℕ) (before after : List Effect) (e : Effect) (receipt : Receipt)
     → Calls first now before → Calls now mid (e ∷ []) → Calls mid last after → last.device.honest → Fits first v0 ys c
     → receipt.first ≡ now.total → receipt.covered ≡ mid.covered → e.items ≡ map Kept (views receipt.entries.items)

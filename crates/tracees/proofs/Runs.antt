@@ -228,7 +228,7 @@ parted_effects told first now mid last steps steps_before rs before x reply part
     ∙ ap (λ (l : List Reply). effects_at place (steps_before ++ x ∷ parts.steps_after) l) parts.replies_are
     ∙ effects_at-append told first now place steps_before (x ∷ parts.steps_after) before (reply ∷ parts.after) parts.run_before
 
--- three runs of calls: before a step, in it, and behind it
+-- three runs of calls: before a step, in it, and after it
 parted : (first now mid last : Told) (v0 : View) (ys : List Item) (c : ℕ) (before after : List Effect) (e : Effect) → Stands now
     → Calls first now before → Calls now mid (e ∷ []) → Calls mid last after → last.device.honest → Fits first v0 ys c
     → AreSound now mid last v0 (ys ++ items_in before) ((ys ++ items_in before) ++ e.items) ((ys ++ items_in before) ++ items_in (e ∷ after)) (covered_by v0 ys c before)

@@ -18,7 +18,7 @@ use Rattle.tracees.specs.declared.receipt.Receipt.{Receipt}
 use Rattle.tracees.specs.declared.receipt.HandFault.{HandFault}
 use Rattle.tracees.specs.declared.receipt.HandFault.TheVariants as hands
 
--- of these entries, offered in order, the port takes those moved, and refuses the one behind them for this fault
+-- of these entries, offered in order, the port takes those moved, and refuses the one after them for this fault
 pub data Takes {P : Type 0} (told : P → Told) : P → (offered moved : List Entry) → Option PortFault → P → Type 0 where
   none_left : {p : P} → Takes told p [] [] None p
   takes_one : {p q r : P} {e : Entry} {n : ℕ} {es moved : List Entry} {fault : Option PortFault}
@@ -68,7 +68,7 @@ pub record AccountCovers (was is : Seat) : Type 0 where
   pub desk : is.desk ≡ was.desk
   pub tracee : is.tracee ≡ was.tracee
 
--- the port was flushed behind a hand-over of all that waited
+-- the port was flushed after a hand-over of all that waited
 pub record FlushedAfter {P : Type 0} (told : P → Told) (old new : Place P) (was : Seat) (receipt : Receipt) (between : Place P) (mid : Seat) (answer : Result ℕ PortFault) : Type 0 where
   pub all : Moves told old between was mid (waiting_of was.tracee) (views receipt.entries.items) None
   pub flush : Flushes (told between.port) (told new.port) answer

@@ -11,7 +11,7 @@ use Rattle.intake.specs.declared.tracee.Tracee.{Tracee}
 use Rattle.tracees.specs.declared.receipt.HandFault.{HandFault}
 use Rattle.tracees.specs.declared.receipt.HandFault.TheVariants as hands
 
--- the entry left what waits, and comes behind those that moved before
+-- the entry left what waits, and comes after those that moved before
 pub record HasMoved (e : Entry) (was is : Tracee) (moved moved' : List Entry) : Type 0 where
   pub rest : waiting_of was ≡ e ∷ waiting_of is
   pub counts : CountsGrow 0 (messages_in (e ∷ [])) (lost_by e) was is

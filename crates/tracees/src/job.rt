@@ -35,7 +35,7 @@ pub enum JobState {
     Finished,
     /// The gate was shut before this act, which was not done.
     Shut { act: u32 },
-    /// This act failed, and none behind it was done.
+    /// This act failed, and none after it was done.
     Failed { act: u32, fault: ActFault },
 }
 

@@ -4,7 +4,7 @@ use Rattle.tracees.specs.Desks.{Place}
 use Rattle.tracees.specs.States.{place_of}
 use Rattle.acceptance.proofs.two_ports_tests.run_all.Goals as goal
 
--- desks that are numbered from n on, with one more behind them
+-- desks that are numbered from n on, with one more after them
 numbered_on : {P D : Type 0} (f : D → Place P) (n : ℕ) (xs : List D) (x : D) → ((i : ℕ) (p : Place P) → slice_get (map f xs) i ≡ Some p → p.number ≡ n + i)
     → (f x).number ≡ n + length xs → (i : ℕ) (p : Place P) → slice_get (map f (xs ++ x ∷ [])) i ≡ Some p → p.number ≡ n + i
 numbered_on f n [] x before is zero p e = ap (λ q. q.number) (sym (same_Some (f x) p e)) ∙ is

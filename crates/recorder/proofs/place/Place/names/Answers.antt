@@ -3,7 +3,7 @@ use Rattle.std.specs.String.{string_bytes}
 use Rattle.recorder.specs.Places.{name_of}
 use Rattle.recorder.proofs.place.Place.names.Goals as goal
 
--- a list that has these items in their order, with one more behind them
+-- a list that has these items in their order, with one more after them
 more_at : {A B : Type 0} (f : A → B) (at : ℕ → B) (xs : List A) (x : A) → ((i : ℕ) → i < length xs → slice_get (map f xs) i ≡ Some (at i)) → f x ≡ at (length xs)
     → (i : ℕ) → i < length xs + 1 → slice_get (map f (xs ++ x ∷ [])) i ≡ Some (at i)
 more_at f at [] x before is zero less = ap Some is
