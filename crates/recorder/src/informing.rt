@@ -8,9 +8,9 @@ ghost use Rattle.script_port.specs.Faults.{status_of};
 ghost use Rattle.recorder.specs.Files.{OnlyLooks};
 
 use crate::complaint::Complaint;
-use script_port::SimFault;
 use crate::files::{Doing, Files};
 use crate::info::Info;
+use script_port::SimFault;
 use std::alloc::{AllocError, Global};
 use std::io::{self, Write};
 use trace_reader::{FileFound, Host, ReadFault, Watched};
@@ -78,7 +78,11 @@ fn write_info<W: Write>(
 }
 
 /// Writes it as JSON.
-fn write_json<W: Write>(info: &Info, alloc: Global, out: &mut W) -> Result<io::Result<()>, AllocError> {
+fn write_json<W: Write>(
+    info: &Info,
+    alloc: Global,
+    out: &mut W,
+) -> Result<io::Result<()>, AllocError> {
     let object = info.as_json(alloc)?;
     let text = object.to_string(alloc)?;
     Ok(writeln!(out, "{text}"))
