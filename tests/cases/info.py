@@ -253,7 +253,7 @@ def a_wrap_of_40_megabytes_is_told_in_24(program):
 @case
 def a_run_that_is_no_longer_kept_is_not_counted(program):
     entry = message(EXAMPLE)
-    (program.folder / "t0").write_bytes(segment(wrap_header(0), entry, entry + drop(3)))
+    (program.folder / "t0").write_bytes(segment(wrap_header(0), drop(3), entry + entry))
     (program.folder / "t1").write_bytes(segment(wrap_header(1, before=3, lost=3), entry, entry))
     same(program.good("list", "t").splitlines()[0], b"before entries 3 dropped 3")
     said = program.good("info", "t").decode().splitlines()
