@@ -26,7 +26,8 @@ pub struct Receipt {
 pub enum HandFault {
     /// The port refused. The receipt names exactly the entries moved.
     Port { fault: PortFault, receipt: Receipt },
-    /// There was no room for the receipt, and nothing has changed.
+    /// There was no room for the receipt. No entry has moved, and the tracee and the port are as the call found them.
+    /// `record_one` then lets go of its port, which seals the trace unless a device call fails.
     NoMemory,
     /// The tracee is attached at a desk of another number, and nothing has changed.
     Stranger,
