@@ -1,0 +1,9 @@
+//! The lines of a listing that somebody chooses, as they are written.
+#![tactic(auto)]
+
+mod choice;
+mod given;
+mod sieve;
+
+pub use choice::Choice;
+pub use sieve::Sieve;
