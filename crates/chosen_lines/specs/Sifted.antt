@@ -1,7 +1,11 @@
 -- What a sieve holds as a writer.
-use Rattle.std.specs.Prelude.{◌≡◌, ℕ, Option, Some, None, List, [], ◌∷◌, ◌++◌, length}
+use Rattle.std.specs.Prelude.{◌≡◌, ℕ, suc, Option, Some, None, List, [], ◌∷◌, ◌++◌, length}
 
--- how many bytes stood before, those bytes, and what it was given, where they are known
+-- the bytes that the writer below held at first, where they are known, after a number that tells how many they were
+abbrev pub held_below : Option (List ℕ) → List ℕ
+held_below None = 0 ∷ []
+held_below (Some start) = suc (length start) ∷ start
+
+-- those bytes, and what was given since
 abbrev pub sieve_contents : Option (List ℕ) → List ℕ → Option (List ℕ)
-sieve_contents None given = None
-sieve_contents (Some start) given = Some (length start ∷ start ++ given)
+sieve_contents start given = Some (held_below start ++ given)

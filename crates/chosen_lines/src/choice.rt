@@ -1,20 +1,78 @@
 // Which lines are shown.
-ghost use Rattle.std.specs.Prelude.{◌≡◌};
-ghost use Rattle.chosen_lines.specs.Lets.{lets};
+ghost use Rattle.std.specs.Prelude.{◌≡◌, ◌&&◌, Some};
+ghost use Rattle.chosen_lines.specs.Lets.{is_of_kinds, is_of_pid};
 
-/// Which lines of a listing are to be shown.
-#[derive(Clone, Copy, Debug)]
-pub struct Choice {
-    /// The numbers of the first and of the last entry.
-    pub from: u64,
-    pub to: u64,
+use crate::members::{after_bare_pid, after_pid, members_of};
+use crate::words::{cut_word, number_told};
+
+/// Which lines of a listing are to be shown: those that all of this holds of; None stands for what isn't asked for.
+#[derive(Clone, Copy, Debug, PartialEq, Eq)]
+pub struct Choice<'a> {
+    /// The number of the first entry.
+    pub from: Option<u64>,
+    /// The number of the last entry.
+    pub to: Option<u64>,
+    /// Words for kinds, with commas between them.
+    pub kinds: Option<&'a str>,
+    /// The traced process, as a listing shows it, with or without its angle brackets.
+    pub pid: Option<&'a str>,
 }
 
-impl Choice {
-    /// Whether a line, without its line feed, is to be shown.
-    pub fn lets_through(&self, _line: &[u8]) -> bool
-        ensures { result ≡ lets self.now _line.now }
+impl Choice<'_> {
+    ghost use Rattle.chosen_lines.specs.Lets.{lets, is_from, is_to, is_of_kinds, is_of_pid};
+    ghost use Rattle.chosen_lines.specs.Asks.{asks_of};
+
+    /// Whether a line, without its line feed, is to be shown. A line that isn't of an entry is, and so is that of a drop record.
+    #[tactic(auto, unfolding(crate::specs::Lets::lets_by))]
+    pub fn lets_through(&self, line: &[u8]) -> bool
+        ensures { result ≡ lets self.now line.now }
     {
-        true
+        let (word, rest) = cut_word(line);
+        let Some(number) = number_told(word) else {
+            return true;
+        };
+        let (kind, told) = cut_word(rest);
+        kind == b"drop".as_slice() || self.has_number(number) && self.has_kind(kind) && self.has_pid(told)
+    }
+
+    fn has_number(&self, number: u64) -> bool
+        ensures { result ≡ (is_from self.now.from number && is_to self.now.to number) }
+    {
+        self.from.is_none_or(|first| first <= number) && self.to.is_none_or(|last| number <= last)
+    }
+
+    fn has_kind(&self, kind: &[u8]) -> bool
+        ensures { result ≡ is_of_kinds (asks_of self.now).kinds kind.now }
+    {
+        match self.kinds {
+            Some(words) => is_among(kind, words.as_bytes()),
+            None => true,
+        }
+    }
+
+    fn has_pid(&self, told: &[u8]) -> bool
+        ensures { result ≡ is_of_pid (asks_of self.now).pid told.now }
+    {
+        match self.pid {
+            Some(pid) => is_of_pid(pid.as_bytes(), told),
+            None => true,
+        }
+    }
+}
+
+/// Whether a word is one of those that have commas between them.
+fn is_among(word: &[u8], words: &[u8]) -> bool
+    ensures { result ≡ is_of_kinds (Some words.now) word.now }
+{
+    words.split(|byte| *byte == b',').any(|one| one == word)
+}
+
+/// Whether what is told is of the process of this text.
+fn is_of_pid(pid: &[u8], told: &[u8]) -> bool
+    ensures { result ≡ is_of_pid (Some pid.now) told.now }
+{
+    match members_of(told) {
+        Some(members) => after_pid(pid, members).is_some() || after_bare_pid(pid, members).is_some(),
+        None => false,
     }
 }

@@ -3,7 +3,9 @@
 
 mod choice;
 mod given;
+mod members;
 mod sieve;
+mod words;
 
 pub use choice::Choice;
 pub use sieve::Sieve;

@@ -1,9 +1,10 @@
 // A writer that hands on the lines that are chosen.
-ghost use Rattle.std.specs.Prelude.{◌≡◌, ◌≤◌, ℕ, Option, List, [], ◌∷◌, ◌++◌, take, vec_len, length, true, OnOk, OnErr, IfOk};
+ghost use Rattle.std.specs.Prelude.{◌≡◌, ◌<◌, ◌≤◌, ℕ, Option, List, [], ◌∷◌, ◌++◌, take, vec_len, length, true, OnOk, OnErr, IfOk, ◌==◌, position};
 ghost use Rattle.std.specs.Io.KnownBytes.{Appends, WriteAppends};
 ghost use Rattle.chosen_lines.specs.Lines.{lines_after, rest_after, chosen};
 ghost use Rattle.chosen_lines.specs.Lets.{lets};
 ghost use Rattle.chosen_lines.specs.Sifted.{sieve_contents};
+ghost use Rattle.chosen_lines.specs.Growth.{Appends-prop};
 
 use crate::choice::Choice;
 use crate::given::Given;
@@ -13,24 +14,32 @@ use std::io::{self, ErrorKind, Write};
 /// The end of a line.
 const FEED: u8 = b'\n';
 
+/// Where the first line feed stands.
+fn first_feed(bytes: &[u8]) -> Option<usize>
+    ensures { result ≡ position (λ byte. byte == FEED) bytes.now }
+{
+    bytes.iter().position(|byte| *byte == FEED)
+}
+
 /// Takes lines, and hands on those that a choice lets through, each whole.
 #[derive(Drop)]
-pub struct Sieve<W: Write> {
-    choice: Choice,
+pub struct Sieve<'c, W: Write> {
+    pub choice: Choice<'c>,
     out: W,
     /// What came of the line that isn't at its end.
     line: Vec<u8>,
     /// How many bytes of that line are handed on, once it is known that it is to be.
     sent: usize,
-    given: Given,
+    pub given: Given,
     ghost part: { line.items ≡ rest_after [] given.bytes },
     ghost within: { sent ≤ vec_len line },
-    ghost held: { ∥ Appends given.start (W.contents out) (chosen (lets choice) given.bytes ++ take sent line.items) ∥₁ },
+    ghost due: { 0 < sent → lets choice line.items ≡ true },
+    ghost held: { Appends given.start (W.contents out) (chosen (lets choice) given.bytes ++ take sent line.items) } by { Appends-prop given.start (W.contents out) (chosen (lets choice) given.bytes ++ take sent line.items) },
 }
 
-impl<W: Write> Sieve<W> {
+impl<'c, W: Write> Sieve<'c, W> {
     /// Hands on to this writer.
-    pub fn new(alloc: Global, choice: Choice, out: W) -> Sieve<W>
+    pub fn new(alloc: Global, choice: Choice<'c>, out: W) -> Sieve<'c, W>
         ghost start: { Option (List ℕ) }
         requires { start ≡ W.contents out }
         ensures start { result.given.start ≡ W.contents out }
@@ -46,7 +55,7 @@ impl<W: Write> Sieve<W> {
     }
 }
 
-impl<W: Write> Sieve<W> {
+impl<W: Write> Sieve<'_, W> {
     /// Takes bytes of a line that isn't at its end. Once a part of the line is handed on there are none to come.
     fn take_part(&mut self, part: &[u8]) -> io::Result<usize>
         requires { lines_after self.old.line.items part.now ≡ [] }
@@ -66,6 +75,7 @@ impl<W: Write> Sieve<W> {
 
     /// Hands on the line, but for its line feed.
     fn send_line(&mut self) -> io::Result<()>
+        requires { lets self.old.choice self.old.line.items ≡ true }
         ensures given { self.new.given ≡ self.old.given }
         ensures line { self.new.line.items ≡ self.old.line.items }
         ensures choice { self.new.choice ≡ self.old.choice }
@@ -112,11 +122,11 @@ impl<W: Write> Sieve<W> {
     }
 }
 
-impl<W: Write> Write for Sieve<W> {
+impl<W: Write> Write for Sieve<'_, W> {
     ghost contents = { λ sieve. sieve_contents sieve.given.start sieve.given.bytes };
 
     fn write(&mut self, bytes: &[u8]) -> io::Result<usize> {
-        match bytes.iter().position(|byte| *byte == FEED) {
+        match first_feed(bytes) {
             Some(0) => {
                 self.end_line()?;
                 Ok(1)

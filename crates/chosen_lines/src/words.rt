@@ -1,0 +1,31 @@
+// The words of a line.
+ghost use Rattle.std.specs.Prelude.{◌≡◌, position};
+ghost use Rattle.chosen_lines.specs.Words.{first_word, after_word, number_told};
+
+/// The first word, and what stands after the blank that ends it.
+pub fn cut_word(text: &[u8]) -> (&[u8], &[u8])
+    ensures word { result.0.now ≡ first_word text.now }
+    ensures rest { result.1.now ≡ after_word text.now }
+{
+    match text.iter().position(|byte| *byte == b' ') {
+        Some(length) => (&text[..length], &text[length + 1..]),
+        None => (text, &[]),
+    }
+}
+
+/// The number that decimal digits tell. None for any other text, and where it isn't below 2^64.
+pub fn number_told(text: &[u8]) -> Option<u64>
+    ensures { result ≡ number_told text.now }
+{
+    if text.is_empty() {
+        return None;
+    }
+    let mut number = 0u64;
+    for digit in text {
+        if !digit.is_ascii_digit() {
+            return None;
+        }
+        number = number.checked_mul(10)?.checked_add(u64::from(*digit - b'0'))?;
+    }
+    Some(number)
+}
