@@ -5,6 +5,7 @@ use Rattle.std.specs.Io.KnownBytes.{Appends}
 use Rattle.std.proofs.KnownBytes.{Appends-trans, Appends-nil}
 use Rattle.chosen_lines.specs.declared.given.Given.{Given}
 use Rattle.chosen_lines.specs.Lines.{lines_after, rest_after, chosen}
+use Rattle.chosen_lines.proofs.WordLemmas.{cut-whole}
 use Rattle.chosen_lines.proofs.LineLemmas.{rest_after-append, rest_after-part, rest_after-fed, chosen-part, chosen-let, chosen-not_let}
 
 -- what was given, and more
@@ -31,10 +32,6 @@ held-grown given later now lets line part later_line sent came is none unsent he
     ap (λ count. chosen lets given.bytes ++ take count line) unsent ∙ ap (λ text. text ++ []) (sym (chosen-part lets given.bytes part none_more)) ∙ ap (λ count. chosen lets (given.bytes ++ part) ++ take count later_line) (sym unsent) in
     let at : Appends given.start now (chosen lets (given.bytes ++ part) ++ take sent later_line) = subst (Appends given.start now) same held in
     subst (λ g. Appends (start_of g) now (chosen lets (bytes_of g) ++ take sent later_line)) (sym came) at
-
--- all that stands after so many bytes
-cut-whole : (n : ℕ) (xs : List ℕ) → take (length xs - n) (drop n xs) ≡ drop n xs
-cut-whole n xs = ap (λ k. take k (drop n xs)) (sym (length-drop n xs)) ∙ take-length (drop n xs)
 
 -- so many bytes more of a line are handed on
 pub held-sent : (start now later : Option (List ℕ)) (all line seen : List ℕ) (sent count : ℕ) → seen ≡ line → Appends start now (all ++ take sent line) → Appends now later (take count (take (length seen - sent) (drop sent seen))) → Appends start later (all ++ take (sent + count) line)

@@ -1,2 +1,4 @@
-pub mod LineLemmas
 pub mod Holding
+pub mod LineLemmas
+pub mod Numbers
+pub mod WordLemmas

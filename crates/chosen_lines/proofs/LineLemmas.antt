@@ -2,7 +2,7 @@
 use Rattle.std.proofs.Common.{◌≡◌, ℕ, suc, ◌+◌, ◌≤◌, Bool, true, false, not, cond, Option, Some, None, List, [], ◌∷◌, ◌++◌, length, take, refl, sym, ◌∙◌, ap, subst, append_assoc, append-nil, nat_eq, nat_lt, if◌then◌else◌, arith}
 use Rattle.std.specs.List.{position, position_or_len}
 use Rattle.std.proofs.Math.Seq.{take_all}
-use Rattle.std.proofs.lemmas.Bool.{ltb-false}
+use Rattle.chosen_lines.proofs.WordLemmas.{position-is, position-none}
 use Rattle.chosen_lines.specs.Lines.{lines_after, rest_after, let_through, chosen}
 
 pub rest_after-append : (part xs ys : List ℕ) → rest_after part (xs ++ ys) ≡ rest_after (rest_after part xs) ys
@@ -80,13 +80,8 @@ before-feed part (x ∷ xs) =
     ] refl
 
 pub none-before_feed : (part xs : List ℕ) (i : ℕ) → position (λ byte. nat_eq byte 10) xs ≡ Some i → lines_after part (take i xs) ≡ []
-none-before_feed part xs i at =
-    let n : ℕ = position_or_len (λ byte. nat_eq byte 10) xs in
-    let is : n ≡ i = (elim (nat_lt n (length xs)) as (λ b. cond b (Some n) None ≡ Some i → n ≡ i) [ true ↦ λ e. cc | false ↦ λ e. cc ]) at in
-    subst (λ k. lines_after part (take k xs) ≡ []) is (before-feed part xs)
+none-before_feed part xs i at = subst (λ k. lines_after part (take k xs) ≡ []) (position-is (λ byte. nat_eq byte 10) xs i at) (before-feed part xs)
 
 pub none-where_no_feed : (part xs : List ℕ) → position (λ byte. nat_eq byte 10) xs ≡ None → lines_after part xs ≡ []
 none-where_no_feed part xs none =
-    let n : ℕ = position_or_len (λ byte. nat_eq byte 10) xs in
-    let long : length xs ≤ n = (elim (nat_lt n (length xs)) as (λ b. nat_lt n (length xs) ≡ b → cond b (Some n) None ≡ None → length xs ≤ n) [ true ↦ λ e h. cc | false ↦ λ e h. ltb-false n (length xs) e ]) refl none in
-    subst (λ text. lines_after part text ≡ []) (take_all n xs long) (before-feed part xs)
+    subst (λ text. lines_after part text ≡ []) (take_all (position_or_len (λ byte. nat_eq byte 10) xs) xs (position-none (λ byte. nat_eq byte 10) xs none)) (before-feed part xs)

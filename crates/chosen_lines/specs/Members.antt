@@ -1,11 +1,11 @@
 -- The members of a trace message, as a listing tells them.
-use Rattle.std.specs.Prelude.{ℕ, Option, Some, None, List, length, drop, nat_eq, codes, if◌then◌else◌}
-use Rattle.std.specs.List.{starts_with}
+use Rattle.std.specs.Prelude.{ℕ, Option, Some, None, List, length, take, drop, codes, if◌then◌else◌}
 use Rattle.std.specs.Option.{option_and_then, option_or}
+use Rattle.std.specs.Str.{bytes_eq}
 
 -- what stands after these bytes in a text that begins with them
 unfoldable pub after : List ℕ → List ℕ → Option (List ℕ)
-after bytes text = if starts_with nat_eq text bytes then Some (drop (length bytes) text) else None
+after bytes text = if bytes_eq (take (length bytes) text) bytes then Some (drop (length bytes) text) else None
 
 -- the members of a trace message but for the first
 abbrev pub members_of : List ℕ → Option (List ℕ)

@@ -1,5 +1,5 @@
 // A writer that hands on the lines that are chosen.
-ghost use Rattle.std.specs.Prelude.{◌≡◌, ◌<◌, ◌≤◌, ℕ, Option, List, [], ◌∷◌, ◌++◌, take, vec_len, length, true, OnOk, OnErr, IfOk, ◌==◌, position};
+ghost use Rattle.std.specs.Prelude.{◌≡◌, ◌<◌, ◌≤◌, ℕ, Option, List, [], ◌∷◌, ◌++◌, take, vec_len, length, true, OnOk, OnErr, IfOk};
 ghost use Rattle.std.specs.Io.KnownBytes.{Appends, WriteAppends};
 ghost use Rattle.chosen_lines.specs.Lines.{lines_after, rest_after, chosen};
 ghost use Rattle.chosen_lines.specs.Lets.{lets};
@@ -8,18 +8,12 @@ ghost use Rattle.chosen_lines.specs.Growth.{Appends-prop};
 
 use crate::choice::Choice;
 use crate::given::Given;
+use crate::words::index_of;
 use std::alloc::Global;
 use std::io::{self, ErrorKind, Write};
 
 /// The end of a line.
 const FEED: u8 = b'\n';
-
-/// Where the first line feed stands.
-fn first_feed(bytes: &[u8]) -> Option<usize>
-    ensures { result ≡ position (λ byte. byte == FEED) bytes.now }
-{
-    bytes.iter().position(|byte| *byte == FEED)
-}
 
 /// Takes lines, and hands on those that a choice lets through, each whole.
 #[derive(Drop)]
@@ -126,7 +120,7 @@ impl<W: Write> Write for Sieve<'_, W> {
     ghost contents = { λ sieve. sieve_contents sieve.given.start sieve.given.bytes };
 
     fn write(&mut self, bytes: &[u8]) -> io::Result<usize> {
-        match first_feed(bytes) {
+        match index_of(FEED, bytes) {
             Some(0) => {
                 self.end_line()?;
                 Ok(1)

@@ -1,13 +1,20 @@
 // The words of a line.
-ghost use Rattle.std.specs.Prelude.{◌≡◌, position};
+ghost use Rattle.std.specs.Prelude.{◌≡◌, ◌==◌, position};
 ghost use Rattle.chosen_lines.specs.Words.{first_word, after_word, number_told};
+
+/// The index of the first byte like this one.
+pub fn index_of(byte: u8, bytes: &[u8]) -> Option<usize>
+    ensures { result ≡ position (λ other. other == byte) bytes.now }
+{
+    bytes.iter().position(|other| *other == byte)
+}
 
 /// The first word, and what stands after the blank that ends it.
 pub fn cut_word(text: &[u8]) -> (&[u8], &[u8])
     ensures word { result.0.now ≡ first_word text.now }
     ensures rest { result.1.now ≡ after_word text.now }
 {
-    match text.iter().position(|byte| *byte == b' ') {
+    match index_of(b' ', text) {
         Some(length) => (&text[..length], &text[length + 1..]),
         None => (text, &[]),
     }
