@@ -1,11 +1,25 @@
 -- What a sieve holds as a writer.
-use Rattle.std.specs.Prelude.{◌≡◌, ℕ, suc, Option, Some, None, List, [], ◌∷◌, ◌++◌, length}
+use Rattle.std.specs.Prelude.{ℕ, suc, Option, Some, None, List, [], ◌∷◌, ◌++◌, length}
+use Rattle.std.specs.Option.{option_map}
+use Rattle.chosen_lines.specs.Asks.{Asks}
 
--- the bytes that the writer below held at first, where they are known, after a number that tells how many they were
-abbrev pub held_below : Option (List ℕ) → List ℕ
-held_below None = 0 ∷ []
-held_below (Some start) = suc (length start) ∷ start
+-- numbers where there are some, after one that tells how many they are
+abbrev pub counted : Option (List ℕ) → List ℕ
+counted None = 0 ∷ []
+counted (Some numbers) = suc (length numbers) ∷ numbers
 
--- those bytes, and what was given since
-abbrev pub sieve_contents : Option (List ℕ) → List ℕ → Option (List ℕ)
-sieve_contents start given = Some (held_below start ++ given)
+-- several of these, and then a text
+abbrev pub after_counted : List (Option (List ℕ)) → List ℕ → List ℕ
+after_counted [] text = text
+after_counted (one ∷ more) text = counted one ++ after_counted more text
+
+abbrev pub only : ℕ → List ℕ
+only number = number ∷ []
+
+-- what a choice asks, as numbers
+abbrev pub numbers_of : Asks → List (Option (List ℕ))
+numbers_of asks = option_map only asks.from ∷ option_map only asks.to ∷ asks.kinds ∷ asks.pid ∷ []
+
+-- what the sieve was made of, which stays: the known bytes of the writer below, and the choice; and then what it was given
+unfoldable pub sieve_contents : Asks → Option (List ℕ) → List ℕ → Option (List ℕ)
+sieve_contents asks start given = Some (after_counted (start ∷ numbers_of asks) given)

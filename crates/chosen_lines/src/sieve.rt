@@ -3,6 +3,7 @@ ghost use Rattle.std.specs.Prelude.{◌≡◌, ◌<◌, ◌≤◌, ℕ, Option, 
 ghost use Rattle.std.specs.Io.KnownBytes.{Appends, WriteAppends};
 ghost use Rattle.chosen_lines.specs.Lines.{lines_after, rest_after, chosen};
 ghost use Rattle.chosen_lines.specs.Lets.{lets};
+ghost use Rattle.chosen_lines.specs.Asks.{asks_of};
 ghost use Rattle.chosen_lines.specs.Sifted.{sieve_contents};
 ghost use Rattle.chosen_lines.specs.Growth.{Appends-prop};
 
@@ -19,16 +20,16 @@ const FEED: u8 = b'\n';
 #[derive(Drop)]
 pub struct Sieve<'c, W: Write> {
     pub choice: Choice<'c>,
-    out: W,
+    pub out: W,
     /// What came of the line that isn't at its end.
-    line: Vec<u8>,
+    pub line: Vec<u8>,
     /// How many bytes of that line are handed on, once it is known that it is to be.
-    sent: usize,
+    pub sent: usize,
     pub given: Given,
-    ghost part: { line.items ≡ rest_after [] given.bytes },
-    ghost within: { sent ≤ vec_len line },
-    ghost due: { 0 < sent → lets choice line.items ≡ true },
-    ghost held: { Appends given.start (W.contents out) (chosen (lets choice) given.bytes ++ take sent line.items) } by { Appends-prop given.start (W.contents out) (chosen (lets choice) given.bytes ++ take sent line.items) },
+    pub ghost part: { line.items ≡ rest_after [] given.bytes },
+    pub ghost within: { sent ≤ vec_len line },
+    pub ghost due: { 0 < sent → lets choice line.items ≡ true },
+    pub ghost held: { Appends given.start (W.contents out) (chosen (lets choice) given.bytes ++ take sent line.items) } by { Appends-prop given.start (W.contents out) (chosen (lets choice) given.bytes ++ take sent line.items) },
 }
 
 impl<'c, W: Write> Sieve<'c, W> {
@@ -53,6 +54,7 @@ impl<W: Write> Sieve<'_, W> {
     /// Takes bytes of a line that isn't at its end. Once a part of the line is handed on there are none to come.
     fn take_part(&mut self, part: &[u8]) -> io::Result<usize>
         requires { lines_after self.old.line.items part.now ≡ [] }
+        ensures choice { self.new.choice ≡ self.old.choice }
         ensures ok { OnOk result (self.new.given ≡ record self.old.given { bytes = self.old.given.bytes ++ part.now }) }
         ensures all { IfOk result (λ count. count ≡ length part.now) }
         ensures err { OnErr result (self.new.given ≡ self.old.given) }
@@ -88,6 +90,7 @@ impl<W: Write> Sieve<'_, W> {
     fn send_feed(&mut self) -> io::Result<()>
         requires sent { self.old.sent ≡ vec_len self.old.line }
         requires chosen { lets self.old.choice self.old.line.items ≡ true }
+        ensures choice { self.new.choice ≡ self.old.choice }
         ensures ok { OnOk result (self.new.given ≡ record self.old.given { bytes = self.old.given.bytes ++ 10 ∷ [] }) }
         ensures err { OnErr result (self.new.given ≡ self.old.given) }
     {
@@ -100,31 +103,31 @@ impl<W: Write> Sieve<'_, W> {
         Ok(())
     }
 
-    /// Takes the end of a line.
-    fn end_line(&mut self) -> io::Result<()>
+    /// Takes the line feed that ends a line, which is one byte.
+    fn end_line(&mut self) -> io::Result<usize>
+        ensures choice { self.new.choice ≡ self.old.choice }
         ensures ok { OnOk result (self.new.given ≡ record self.old.given { bytes = self.old.given.bytes ++ 10 ∷ [] }) }
+        ensures all { IfOk result (λ count. count ≡ 1) }
         ensures err { OnErr result (self.new.given ≡ self.old.given) }
     {
         if self.choice.lets_through(&self.line) {
             self.send_line()?;
-            return self.send_feed();
+            self.send_feed()?;
+            return Ok(1);
         }
         self.line.clear();
         self.sent = 0;
         self.given.note(&[FEED]);
-        Ok(())
+        Ok(1)
     }
 }
 
 impl<W: Write> Write for Sieve<'_, W> {
-    ghost contents = { λ sieve. sieve_contents sieve.given.start sieve.given.bytes };
+    ghost contents = { λ sieve. sieve_contents (asks_of sieve.choice) sieve.given.start sieve.given.bytes };
 
     fn write(&mut self, bytes: &[u8]) -> io::Result<usize> {
         match index_of(FEED, bytes) {
-            Some(0) => {
-                self.end_line()?;
-                Ok(1)
-            }
+            Some(0) => self.end_line(),
             Some(count) => self.take_part(&bytes[..count]),
             None => self.take_part(bytes),
         }
