@@ -5,9 +5,9 @@ use std::alloc::Global;
 use std::process::Abort;
 use std::slice;
 use std::test::*;
+use stores::MemStore;
 use trace_message::Event;
 use trace_port::{FilePort, PortFault, TracePort};
-use trace_store::MemStore;
 use trace_terms::{NoMemory, Term};
 use tracees::{Desk, HandFault, PlainBook, Receipt, Reply, Step, drive};
 

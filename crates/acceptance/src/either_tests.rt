@@ -3,8 +3,8 @@ use entry_codec::Entry;
 use std::alloc::Global;
 use std::process::Abort;
 use std::test::*;
+use stores::MemStore;
 use trace_port::{FilePort, Pending, PortFault, TracePort};
-use trace_store::MemStore;
 use tracees::{EitherPort, put_as_file, put_as_wrap};
 
 type Port<'s> = FilePort<'s, MemStore, Pending>;

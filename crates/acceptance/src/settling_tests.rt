@@ -9,9 +9,9 @@ use std::marker::Brand;
 use std::process::Abort;
 use std::sync::ledger::{Blank, Ledger};
 use std::test::*;
+use stores::MemStore;
 use trace_message::Event;
 use trace_port::{FilePort, TracePort};
-use trace_store::MemStore;
 use trace_terms::Term;
 use tracees::{
     Account, Bookkeeping, Desk, LedgerBook, Numbered, PARTS, SettleFault, SharedBook, Totals,

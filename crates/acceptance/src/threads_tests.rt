@@ -15,9 +15,9 @@ use std::sync::ledger::{Blank, Ledger};
 use std::sync::{Mutex, Wait};
 use std::test::*;
 use std::thread::Threads;
+use stores::{MemStore, Pick};
 use trace_message::Event;
 use trace_port::{FilePort, PortFault, PortState, Status, TracePort};
-use trace_store::{MemStore, Pick};
 use trace_terms::{Pid, Term};
 use tracees::{
     Account, Act, ActFault, Bookkeeping, Desk, Gate, HandFault, Job, JobState, LedgerBook,

@@ -7,9 +7,9 @@ use recovery::recover;
 use std::alloc::Global;
 use std::process::Abort;
 use std::test::*;
+use stores::MemStore;
 use trace_message::{Event, Stamp};
 use trace_port::{FilePort, TracePort};
-use trace_store::MemStore;
 use trace_terms::{NoMemory, Pid, Term};
 use tracees::{
     Bookkeeping, Desk, EitherPort, PlainBook, Receipt, Reply, Step, Traced, audit, drive,

@@ -3,12 +3,15 @@
 
 mod console;
 mod outlet;
+mod simulation;
 
 use clap::error::ErrorKind as MisuseKind;
 use command_line::{Misuse, Request, TraceRequest, asked_for};
 use console::Console;
 use outlet::Outlet;
-use recorder::{Complaint, SimFault, files_for, serve_sim, serve_stream, serve_trace};
+use recorder::{Complaint, files_for, serve_stream, serve_trace};
+use script_port::SimFault;
+use simulation::serve_sim;
 use std::io::{ErrorKind, IsTerminal};
 use std::process::ExitCode;
 use std::{env, io};

@@ -3,15 +3,15 @@ use Rattle.std.proofs.Common.{◌≡◌, ℕ, Option, List, Ok, Err, OnOk, IfErr
 use Rattle.std.specs.Prelude.{Result}
 use Rattle.std.specs.Io.KnownBytes.{Appends, Keeps}
 use Rattle.trace_store.specs.Disk.{Image}
-use Rattle.trace_store.specs.declared.folder_store.FolderStore.{FolderStore}
+use Rattle.stores.specs.declared.folder_store.FolderStore.{FolderStore}
 use Rattle.trace_client.specs.Forms.{Form}
 use Rattle.trace_files.specs.Standing.{IsStanding}
 use Rattle.trace_files.specs.declared.standing.Standing.TheVariants as standings
 use Rattle.trace_reader.specs.declared.wiping.Clearing.{Clearing}
 use Rattle.recorder.specs.Commands.{IsRead, whole, not_written_out, IsCleared, Clears, done, not_told}
 use Rattle.recorder.specs.Complaints.{status_told}
-use Rattle.recorder.specs.Texts.{line_of}
-use Rattle.recorder.specs.declared.answer.Answer.TheVariants.{Done}
+use Rattle.script_port.specs.Texts.{line_of}
+use Rattle.script_port.specs.declared.answer.Answer.TheVariants.{Done}
 use Rattle.recorder.specs.declared.complaint.Complaint.{Complaint}
 
 -- a trace was written whole, and then written out or not

@@ -1,15 +1,6 @@
-pub mod Asking
 pub mod Feeding
 pub mod Looking
-pub mod Misplaced
 pub mod Parts
-pub mod Placing
 pub mod Readings
-pub mod Running
-pub mod Simulating
 pub mod Starting
-pub mod Storing
-pub mod Through
-pub mod Turning
-pub mod Written
 pub mod Commanding

@@ -3,16 +3,16 @@ use Rattle.std.specs.Prelude.{◌≡◌, ◌⊎◌, ℕ, Bool, true, false, Opti
 use Rattle.std.specs.Io.KnownBytes.{Appends, Keeps}
 use Rattle.trace_store.specs.Disk.{Image}
 use Rattle.trace_store.specs.Moments.{LeavesOnly}
-use Rattle.trace_store.specs.FolderStore.{honest_of, reads_of, images_of, moments_of, clock_of}
-use Rattle.trace_store.specs.declared.folder_store.FolderStore.{FolderStore}
-use Rattle.trace_store.specs.contracts.folder_store.FolderStoreStore.TheImpl as folder
+use Rattle.stores.specs.FolderStore.{honest_of, reads_of, images_of, moments_of, clock_of}
+use Rattle.stores.specs.declared.folder_store.FolderStore.{FolderStore}
+use Rattle.stores.specs.contracts.folder_store.FolderStoreStore.TheImpl as folder
 use Rattle.segment.specs.Specification.{Spec}
 use Rattle.recovery.specs.Stores.{readings, IsBlank}
 use Rattle.trace_port.specs.Device.{Device, device_of}
 use Rattle.trace_client.specs.Forms.{Form, as_lines, as_bytes}
 use Rattle.trace_client.specs.declared.fault.StreamFault.{StreamFault}
-use Rattle.trace_client.specs.declared.style.Style.{Style}
-use Rattle.trace_client.specs.declared.style.Style.TheVariants.{Plain, Pretty}
+use Rattle.trace_text.specs.declared.style.Style.{Style}
+use Rattle.trace_text.specs.declared.style.Style.TheVariants.{Plain, Pretty}
 use Rattle.trace_files.specs.Clearing.{AreCleared, IsClearing, HasNoForeign}
 use Rattle.trace_files.specs.Standing.{IsStanding}
 use Rattle.trace_files.specs.declared.standing.Standing.TheVariants as standings
@@ -29,20 +29,21 @@ use Rattle.command_line.specs.declared.request.Rules.{Rules}
 use Rattle.command_line.specs.declared.request.TraceRequest.{TraceRequest}
 use Rattle.command_line.specs.declared.request.TraceRequest.TheVariants as requests
 use Rattle.recorder.specs.Complaints.{status_told}
-use Rattle.recorder.specs.Faults.{status_of, run_fault, read_fault, wipe_fault}
+use Rattle.script_port.specs.Faults.{status_of, run_fault, read_fault, wipe_fault}
 use Rattle.recorder.specs.Files.{OnlyLooks, WasRecorded, WasFed}
 use Rattle.recorder.specs.Incoming.{Outside, outside}
-use Rattle.recorder.specs.Openings.{wanted, told_of, Suits, Opens, IsOpenedSo, IsWhyNotOpened}
+use Rattle.script_port.specs.PortOpenings.{first_told, FitsStore, GoesOnOrBegins}
+use Rattle.recorder.specs.Openings.{wanted, KeepsTrace, IsWhyNotOpened}
 use Rattle.recorder.specs.Places.{turn_of}
-use Rattle.recorder.specs.Texts.{line_of}
-use Rattle.recorder.specs.declared.answer.Answer.TheVariants.{Done}
+use Rattle.script_port.specs.Texts.{line_of}
+use Rattle.script_port.specs.declared.answer.Answer.TheVariants.{Done}
 use Rattle.recorder.specs.declared.complaint.Complaint.{Complaint}
 use Rattle.recorder.specs.declared.complaint.Complaint.TheVariants as complaints
-use Rattle.recorder.specs.declared.fault.SimFault.{SimFault}
-use Rattle.recorder.specs.declared.fault.SimFault.TheVariants as faults
+use Rattle.script_port.specs.declared.fault.SimFault.{SimFault}
+use Rattle.script_port.specs.declared.fault.SimFault.TheVariants as faults
 use Rattle.recorder.specs.declared.files.Files.{Files}
-use Rattle.recorder.specs.declared.opening.Opened.{Opened}
-use Rattle.recorder.specs.declared.reply.Origin.{Origin}
+use Rattle.script_port.specs.declared.opening.AnyOpening.{AnyOpening}
+use Rattle.script_port.specs.declared.reply.Origin.{Origin}
 
 -- the files of a trace as a device
 abbrev pub device : FolderStore → Device
@@ -84,28 +85,28 @@ pub data Clears (clearing : Clearing) (old new : FolderStore) (was now : Option 
   refused : (fault : WipeFault) (complaint : Complaint) → IsWhyNotWiped clearing fault (reads_of old) → Appends was now [] → IsToldOf (wipe_fault fault) complaint → Clears clearing old new was now (Err complaint)
 
 -- a port was opened for a trace of this kind
-pub record IsOpened (spec : Spec) (old new : FolderStore) (opened : Opened) (origin : Origin) : Type 0 where
-  pub suits : Suits folder.ghosts opened new
-  pub opens : honest_of new → Opens (reads_of old) (told_of opened (device new)) spec origin
+pub record IsOpened (spec : Spec) (old new : FolderStore) (opened : AnyOpening) (origin : Origin) : Type 0 where
+  pub suits : FitsStore folder.ghosts opened new
+  pub opens : honest_of new → GoesOnOrBegins (reads_of old) (first_told opened (device new)) spec origin
   pub ours : honest_of new → HasNoForeign (reads_of old)
-  pub moments : honest_of new → IsOpenedSo (device old) (device new) spec
+  pub moments : honest_of new → KeepsTrace (device old) (device new) spec
 
 -- none was
 pub record IsNotOpened (spec : Spec) (old new : FolderStore) (fault : SimFault) : Type 0 where
   pub why : honest_of new → IsWhyNotOpened spec fault (reads_of old)
   pub untouched : honest_of new → HasForeign (reads_of old) → OnlyLooks old new
-  pub moments : honest_of new → IsOpenedSo (device old) (device new) spec
+  pub moments : honest_of new → KeepsTrace (device old) (device new) spec
 
 -- a trace was opened and the lines of a script, which had these bytes, were run at its port; or nothing was done but the opening, or not even that
 pub data Records (spec : Spec) (old new : FolderStore) (had was now : Option (List ℕ)) : Result Unit Complaint → Type 0 where
-  runs : {mid : FolderStore} {opened : Opened} {origin : Origin} {result : Result Unit Complaint} {has : Option (List ℕ)} (done : Result Unit SimFault) → IsOpened spec old mid opened origin → WasRecorded opened origin mid new had has done was now → IsToldAs done result
+  runs : {mid : FolderStore} {opened : AnyOpening} {origin : Origin} {result : Result Unit Complaint} {has : Option (List ℕ)} (done : Result Unit SimFault) → IsOpened spec old mid opened origin → WasRecorded opened origin mid new had has done was now → IsToldAs done result
       → Records spec old new had was now result
   not_opened : {mid : FolderStore} (fault : SimFault) (complaint : Complaint) → IsNotOpened spec old mid fault → OnlyLooks mid new → Keeps was now → IsToldOf fault complaint → Records spec old new had was now (Err complaint)
   no_memory : (complaint : Complaint) → new ≡ old → Keeps was now → status_told complaint ≡ 1 → Records spec old new had was now (Err complaint)
 
 -- a trace was opened and a stream put into its port, by what was seen before and what was observed until the end; or nothing was done but the opening
 pub data Feeds (spec : Spec) (rules : Rules) (old new : FolderStore) (saw : Outside) (observed : Observations) (was now : Option (List ℕ)) : Result Unit Complaint → Type 0 where
-  feeds : {mid last : FolderStore} {opened : Opened} {origin : Origin} {result : Result Unit Complaint} (remaining : Option (List ℕ)) (reads : ℕ) (done : Result Unit SimFault) → IsOpened spec old mid opened origin
+  feeds : {mid last : FolderStore} {opened : AnyOpening} {origin : Origin} {result : Result Unit Complaint} (remaining : Option (List ℕ)) (reads : ℕ) (done : Result Unit SimFault) → IsOpened spec old mid opened origin
       → WasFed opened origin rules mid last saw (outside remaining reads observed) done (λ text. Appends was now text) → OnlyLooks last new → IsExplained done result → Feeds spec rules old new saw observed was now result
   not_opened : {mid : FolderStore} (fault : SimFault) (complaint : Complaint) → IsNotOpened spec old mid fault → OnlyLooks mid new → observed ≡ saw.observed → Keeps was now → IsToldOf fault complaint → Feeds spec rules old new saw observed was now (Err complaint)
 

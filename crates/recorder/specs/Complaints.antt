@@ -2,7 +2,7 @@
 use Rattle.std.specs.Prelude.{ℕ}
 use Rattle.recorder.specs.declared.complaint.Complaint.{Complaint}
 use Rattle.recorder.specs.declared.complaint.Complaint.TheVariants as complaints
-use Rattle.recorder.specs.Faults.{status_of}
+use Rattle.script_port.specs.Faults.{status_of}
 
 -- the exit status
 abbrev pub status_told : Complaint → ℕ

@@ -2,9 +2,9 @@
 use Rattle.std.specs.Prelude.{◌≡◌, ℕ, true, Option, Some, None, List, Result, Ok, Err, OnOk}
 use Rattle.std.specs.Io.KnownBytes.{Appends}
 use Rattle.segment.specs.Pieces.{OnlyReads}
-use Rattle.trace_store.specs.FolderStore.{honest_of, reads_of, images_of, moments_of, clock_of}
-use Rattle.trace_store.specs.declared.folder_store.FolderStore.{FolderStore}
-use Rattle.trace_store.specs.contracts.folder_store.FolderStoreStore.TheImpl as folder
+use Rattle.stores.specs.FolderStore.{honest_of, reads_of, images_of, moments_of, clock_of}
+use Rattle.stores.specs.declared.folder_store.FolderStore.{FolderStore}
+use Rattle.stores.specs.contracts.folder_store.FolderStoreStore.TheImpl as folder
 use Rattle.trace_port.specs.Device.{device_of}
 use Rattle.trace_port.specs.Opened.{opened_told}
 use Rattle.trace_port.specs.FilePort.{file_told}
@@ -12,26 +12,26 @@ use Rattle.trace_port.specs.contracts.pending.PendingRoom.TheImpl as pending
 use Rattle.wrap_port.specs.WrapOpened.{wrap_opened_told}
 use Rattle.wrap_port.specs.WrapPort.{wrap_told}
 use Rattle.command_line.specs.declared.request.Rules.{Rules}
-use Rattle.recorder.specs.Answers.{opened_answer}
-use Rattle.recorder.specs.Sides.{in_desk}
-use Rattle.recorder.specs.Texts.{line_of}
-use Rattle.recorder.specs.Read.{Stretch, first_lines}
-use Rattle.recorder.specs.Held.{WasHeld}
+use Rattle.script_port.specs.Answers.{opened_answer}
+use Rattle.script_port.specs.Sides.{in_desk}
+use Rattle.script_port.specs.Texts.{line_of}
+use Rattle.script_port.specs.Read.{Stretch, first_lines}
+use Rattle.script_port.specs.Held.{WasHeld}
 use Rattle.recorder.specs.Incoming.{Outside}
 use Rattle.recorder.specs.Importing.{WasImported}
-use Rattle.recorder.specs.declared.answer.Answer.TheVariants.{Done}
-use Rattle.recorder.specs.declared.fault.SimFault.{SimFault}
-use Rattle.recorder.specs.declared.opening.Opened.{Opened}
-use Rattle.recorder.specs.declared.opening.Opened.TheVariants as openings
-use Rattle.recorder.specs.declared.reply.Leave.{Leave}
-use Rattle.recorder.specs.declared.reply.Origin.{Origin}
+use Rattle.script_port.specs.declared.answer.Answer.TheVariants.{Done}
+use Rattle.script_port.specs.declared.fault.SimFault.{SimFault}
+use Rattle.script_port.specs.declared.opening.AnyOpening.{AnyOpening}
+use Rattle.script_port.specs.declared.opening.AnyOpening.TheVariants as openings
+use Rattle.script_port.specs.declared.reply.Leave.{Leave}
+use Rattle.script_port.specs.declared.reply.Origin.{Origin}
 
 -- the files were read at most
 abbrev pub OnlyLooks : FolderStore → FolderStore → Type 0
 OnlyLooks old new = OnlyReads honest_of clock_of reads_of images_of moments_of old new
 
 -- the first lines of a script, each for a desk, were run at the desk of a port over this opening, which then was dropped
-abbrev pub RanAtDesk : Opened → Origin → FolderStore → FolderStore → Stretch → Result (Option Leave) SimFault → (List ℕ → Type 0) → Type 0
+abbrev pub RanAtDesk : AnyOpening → Origin → FolderStore → FolderStore → Stretch → Result (Option Leave) SimFault → (List ℕ → Type 0) → Type 0
 RanAtDesk (openings.File opening) origin old new over left Writes =
     WasHeld (file_told folder.ghosts pending.ghosts) in_desk (opened_told pending.ghosts opening (device_of folder.ghosts old)) (opened_answer origin) 0 over left (device_of folder.ghosts new) Writes
 RanAtDesk (openings.Wrap opening) origin old new over left Writes =
@@ -44,7 +44,7 @@ IsAnswered (Ok (Some leave)) result mid new = OnOk result (Appends mid new (line
 IsAnswered (Err fault) result mid new = (result ≡ Err fault) × (new ≡ mid)
 
 -- a script whose reader had these bytes, and has those left, was recorded so
-pub record WasRecorded (opened : Opened) (origin : Origin) (old new : FolderStore) (had has : Option (List ℕ)) (result : Result Unit SimFault) (was now : Option (List ℕ)) : Type 0 where
+pub record WasRecorded (opened : AnyOpening) (origin : Origin) (old new : FolderStore) (had has : Option (List ℕ)) (result : Result Unit SimFault) (was now : Option (List ℕ)) : Type 0 where
   pub left : Result (Option Leave) SimFault
   pub count : ℕ
   pub mid : Option (List ℕ)
@@ -52,7 +52,7 @@ pub record WasRecorded (opened : Opened) (origin : Origin) (old new : FolderStor
   pub answered : IsAnswered left result mid now
 
 -- an entry stream was put into a port over this opening, which then was closed and dropped
-abbrev pub WasFed : Opened → Origin → Rules → FolderStore → FolderStore → Outside → Outside → Result Unit SimFault → (List ℕ → Type 0) → Type 0
+abbrev pub WasFed : AnyOpening → Origin → Rules → FolderStore → FolderStore → Outside → Outside → Result Unit SimFault → (List ℕ → Type 0) → Type 0
 WasFed (openings.File opening) origin rules old new was is result Writes =
     WasImported (file_told folder.ghosts pending.ghosts) (opened_told pending.ghosts opening (device_of folder.ghosts old)) (opened_answer origin) rules.flushing rules.ending was is result (device_of folder.ghosts new) Writes
 WasFed (openings.Wrap opening) origin rules old new was is result Writes =

@@ -1,12 +1,3 @@
-pub mod Faults
-pub mod Texts
-pub mod Answers
-pub mod Sides
-pub mod DeskLines
-pub mod Asked
-pub mod Read
-pub mod Held
-pub mod Stored
 pub mod Places
 pub mod Openings
 pub mod Incoming
@@ -15,5 +6,4 @@ pub mod Importing
 pub mod Files
 pub mod Live
 pub mod Complaints
-pub mod Simulated
 pub mod Commands

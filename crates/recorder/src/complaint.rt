@@ -2,12 +2,11 @@
 ghost use Rattle.std.specs.Prelude.{◌≡◌, None};
 ghost use Rattle.recorder.specs.Complaints.{status_told};
 ghost use Rattle.recorder.specs.declared.complaint.Complaint.TheVariants as complaints;
-ghost use Rattle.recorder.specs.declared.fault.SimFault.TheVariants as faults;
+ghost use Rattle.script_port.specs.declared.fault.SimFault.TheVariants as faults;
 
-use crate::fault::SimFault;
-use crate::refusal::Refusal;
 use crate::shown::Shown;
 use recovery::RecoverFault;
+use script_port::{Refusal, SimFault};
 use std::alloc::AllocError;
 use std::{fmt, io};
 use trace_port::{PortFault, ResumeFault};

@@ -1,9 +1,9 @@
 // The lock of a trace.
 ghost use Rattle.std.specs.Prelude.{◌<◌, length, IfErr};
-ghost use Rattle.trace_store.specs.FolderStore.{reads_of, IsSame};
-ghost use Rattle.trace_store.specs.LockFault.{file_of};
+ghost use Rattle.stores.specs.FolderStore.{reads_of, IsSame};
+ghost use Rattle.stores.specs.LockFault.{file_of};
 
-use trace_store::{FolderStore, LockFault};
+use stores::{FolderStore, LockFault};
 
 /// Shows that the locks of a trace were taken: `lock` alone makes one. They are held as long as the store lives.
 #[derive(Drop)]

@@ -5,8 +5,8 @@ use command_line::{Asked, Shape};
 use segment::{Kind, SegHeader};
 use std::alloc::AllocError;
 use std::fs;
+use stores::FolderStore;
 use trace_files::first_header;
-use trace_store::FolderStore;
 
 /// What stands there.
 #[derive(Clone, Copy, Debug)]

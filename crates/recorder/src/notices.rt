@@ -2,9 +2,9 @@
 
 use crate::lookup::Found;
 use crate::place::Kind;
-use crate::reply::Origin;
 use crate::shown::Shown;
 use command_line::{Asked, Wanted};
+use script_port::Origin;
 use segment::{Kind as Turns, SegHeader};
 
 /// Names the options that mean nothing to a trace of one file.

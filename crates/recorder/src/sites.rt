@@ -1,7 +1,7 @@
 // The files of the trace that a command line asks for.
 ghost use Rattle.std.specs.Prelude.{◌≡◌, [], IfOk, IsSome};
-ghost use Rattle.trace_store.specs.Events.{World};
-ghost use Rattle.trace_store.specs.FolderStore.{past_of};
+ghost use Rattle.stores.specs.Events.{World};
+ghost use Rattle.stores.specs.FolderStore.{past_of};
 ghost use Rattle.recorder.specs.Commands.{Changes};
 ghost use Rattle.recorder.specs.Places.{file_count};
 

@@ -3,8 +3,8 @@ use Rattle.std.specs.Prelude.{◌≡◌, ℕ, ◌≤◌, ◌<◌, ⊤, Vec}
 use Rattle.std.specs.declared.alloc.Global.{Global}
 use Rattle.entry_codec.specs.Entries.{IsLawful}
 use Rattle.entry_codec.specs.Seen.{view}
-use Rattle.trace_store.specs.declared.pick.Pick.{Pick}
-use Rattle.trace_store.specs.declared.pick.Pick.TheVariants as picks
+use Rattle.stores.specs.declared.pick.Pick.{Pick}
+use Rattle.stores.specs.declared.pick.Pick.TheVariants as picks
 use Rattle.entry_codec.specs.declared.model.Entry.{Entry as Stored}
 use Rattle.trace_message.specs.Events.{event_view}
 use Rattle.trace_message.specs.declared.event.Event.{Event}

@@ -8,7 +8,7 @@ use Rattle.trace_terms.specs.Data.{Data, list}
 use Rattle.trace_terms.specs.View.{members_of}
 use Rattle.ext_format.specs.Spelling.{Spells as SpellsTerm}
 use Rattle.entry_codec.specs.declared.model.Entry.TheVariants as held
-use Rattle.trace_client.specs.AtomText.{is_plain}
+use Rattle.trace_text.specs.AtomText.{is_plain}
 use Rattle.trace_message.specs.Events.{EventData, event_view, call, return_from, exception_from, send, send_lost, receive}
 use Rattle.trace_message.specs.declared.event.Event.{Event}
 use Rattle.trace_message.specs.declared.event.Flags.{Flags}

@@ -14,9 +14,9 @@ use crate::keyword::{Keyword, keyword_behind};
 use crate::spelling::{bytes, within};
 use ext_format::{DecodeFault, decode};
 use std::alloc::{AllocError, Global};
-use trace_client::is_plain;
 use trace_message::Event;
 use trace_terms::{Atom, AtomFault, Term};
+use trace_text::is_plain;
 
 /// The term that these bytes are one spelling of.
 fn whole_term(alloc: Global, bytes: &[u8]) -> Result<Option<Term>, AllocError>

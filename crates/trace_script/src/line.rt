@@ -12,7 +12,7 @@ use crate::keyword::{Keyword, keyword_behind};
 use crate::spelling::{byte, bytes, within, words};
 use entry_codec::Entry;
 use std::alloc::{AllocError, Global};
-use trace_store::Pick;
+use stores::Pick;
 
 /// Files of the largest store.
 const MOST_FILES: u32 = 1001;

@@ -1,9 +1,0 @@
-use Rattle.std.proofs.Common.{refl}
-use Rattle.recorder.specs.Simulated.{wipes, wipes_not}
-use Rattle.recorder.proofs.sim.cleared.Goals as goal
-
-pub returns-in-Ok : goal.returns-in-Ok
-returns-in-Ok c = let e = c.in-Ok.ensures in wipes (e.reads tt) (e.wiped tt) (e.any_moment tt)
-
-pub returns-in-Err : goal.returns-in-Err
-returns-in-Err c = let e = c.in-Err.ensures in wipes_not (e.failed refl) (e.any_moment tt)

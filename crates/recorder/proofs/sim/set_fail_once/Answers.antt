@@ -1,5 +1,0 @@
-use Rattle.recorder.specs.Simulated.{fails_once}
-use Rattle.recorder.proofs.sim.set_fail_once.Goals as goal
-
-pub returns : goal.returns
-returns c = fails_once c.fail_once.ensures.fuse c.fail_once.ensures.rest

@@ -1,9 +1,0 @@
-use Rattle.std.proofs.Common.{refl}
-use Rattle.recorder.specs.Simulated.{blanks, no_memory}
-use Rattle.recorder.proofs.sim.set_store.Goals as goal
-
-pub returns-in-Ok : goal.returns-in-Ok
-returns-in-Ok c = blanks c.in-Ok.ensures.blank c.in-Ok.ensures.fuse
-
-pub returns-in-Err : goal.returns-in-Err
-returns-in-Err c = no_memory refl

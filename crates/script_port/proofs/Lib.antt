@@ -1,0 +1,7 @@
+pub mod Asking
+pub mod Misplaced
+pub mod Placing
+pub mod Running
+pub mod Through
+pub mod Turning
+pub mod Written

@@ -1,0 +1,209 @@
+-- The lines of a script that were read in a run.
+use Rattle.std.proofs.Common.{◌≡◌, ℕ, pos, Bool, Option, Some, None, List, [], ◌∷◌, ◌++◌, All, Result, Ok, Err, refl, sym, subst, ap, append_assoc}
+use Rattle.std.proofs.lemmas.List.{append-nil}
+use Rattle.std.proofs.lemmas.List.Elements.{All-nil, All-append, All-push}
+use Rattle.std.proofs.KnownBytes.{Consumes-nil}
+use Rattle.std.specs.Io.KnownBytes.{Appends}
+use Rattle.trace_port.specs.Port.{Told}
+use Rattle.trace_message.specs.declared.event.Stamp.{Stamp}
+use Rattle.tracees.specs.Desks.{Place, Seat}
+use Rattle.tracees.specs.PortCalls.{Finishes}
+use Rattle.tracees.specs.Effects.{Effect}
+use Rattle.trace_script.specs.Lines.{IsOfFiles}
+use Rattle.trace_script.specs.Reading.{Progress, HasNext, HasEnded, HasStopped, Breaks, AreTaken, AreGiven, TellsNext, IsSilent}
+use Rattle.trace_script.specs.declared.line.Line.{Line}
+use Rattle.trace_script.specs.declared.fault.ScriptFault.TheVariants as scripts
+use Rattle.script_port.specs.declared.answer.Answer.{Answer}
+use Rattle.script_port.specs.declared.reply.Leave.{Leave}
+use Rattle.script_port.specs.declared.reply.Reply.{Reply}
+use Rattle.script_port.specs.declared.reply.Reply.TheVariants.{Told as Answered, Left}
+use Rattle.script_port.specs.declared.fault.SimFault.{SimFault}
+use Rattle.script_port.specs.Texts.{line_of}
+use Rattle.script_port.specs.Sides.{DeskSide, Held, AtDesk, first_side, new_side}
+use Rattle.script_port.specs.Asked.{IsAsked}
+use Rattle.script_port.specs.Read.{Stretch, stretch, IsBrokenOff, AreTheLines}
+use Rattle.script_port.specs.Held.{Exchange, lines_of, ends, leaves, asks, written, IsLetGo, IsAtDesk, Ran}
+use Rattle.script_port.proofs.Running.{then_more}
+use Rattle.script_port.proofs.Written.{HasWritten, appends_none, appends_both, written-append, finished_there}
+
+-- ---- what is told of the next line
+
+pub next_line : (of_desk here : Bool) (was is : Progress) (found : Option Line) (line : Line) → here ≡ of_desk → found ≡ Some line → TellsNext here was is (Ok found) → HasNext of_desk was is line
+next_line of_desk here was is (Some other) line same e told =
+    let at : other ≡ line = cc in
+    subst (λ (l : Line). HasNext of_desk was is l) at (subst (λ (d : Bool). HasNext d was is other) same told)
+next_line of_desk here was is None line same e told = cc
+
+pub no_more : (here : Bool) (was is : Progress) (found : Option Line) → found ≡ None → TellsNext here was is (Ok found) → HasEnded was is
+no_more here was is None e told = told
+no_more here was is (Some line) e told = cc
+
+-- no line was read at the last
+pub none_read : (of_desk : Bool) (at : Progress) → HasStopped of_desk at at scripts.Read
+none_read of_desk at = record { silent = []; each = All-nil IsSilent; mid = at; before = AreTaken.none; breaks = Breaks.unread [] (Consumes-nil at.left) }
+
+-- ---- the lines that were done
+
+lines_of-append : (done more : List Exchange) → lines_of (done ++ more) ≡ lines_of done ++ lines_of more
+lines_of-append [] more = refl
+lines_of-append (one ∷ done) more = ap (λ (l : List Line). one.line ∷ l) (lines_of-append done more)
+
+-- the script gave these lines, and each names no file that isn't there
+pub record AreDone (of_desk : Bool) (files : ℕ) (from to : Progress) (done : List Line) : Type 0 where
+  pub given : AreGiven of_desk from done to
+  pub each : All (IsOfFiles files) done
+
+given_both : (of_desk : Bool) (from at to : Progress) (done more : List Line) → AreGiven of_desk from done at → AreGiven of_desk at more to → AreGiven of_desk from (done ++ more) to
+given_both of_desk from at to done more one AreGiven.none = subst (λ (l : List Line). AreGiven of_desk from l at) (sym (append-nil done)) one
+given_both of_desk from at to done more one (AreGiven.more {before = before} {mid = mid} line two next) =
+    subst (λ (l : List Line). AreGiven of_desk from l to) (append_assoc done before (line ∷ [])) (AreGiven.more line (given_both of_desk from at mid done before one two) next)
+
+done_none : (of_desk : Bool) (files : ℕ) (from : Progress) → AreDone of_desk files from from []
+done_none of_desk files from = record { given = AreGiven.none; each = All-nil (IsOfFiles files) }
+
+done_more : (of_desk : Bool) (files : ℕ) (from at to : Progress) (done : List Exchange) (one : Exchange) → AreDone of_desk files from at (lines_of done) → HasNext of_desk at to one.line → IsOfFiles files one.line → AreDone of_desk files from to (lines_of (done ++ one ∷ []))
+done_more of_desk files from at to done one d next there = subst (λ (l : List Line). AreDone of_desk files from to l) (sym (lines_of-append done (one ∷ [])))
+    (record { given = AreGiven.more one.line d.given next; each = All-push (IsOfFiles files) (lines_of done) one.line d.each there })
+
+-- what a run has done, written and read until now
+pub record HasRead {P : Type 0} (told : P → Told) (old : Held P) (leave : Option Leave) (new : Held P) (before now : Option (List ℕ)) (of_desk : Bool) (files : ℕ) (from to : Progress) : Type 0 where
+  pub run : HasWritten told old leave new before now
+  pub read : AreDone of_desk files from to (lines_of run.done)
+
+pub reads_none : {P : Type 0} (told : P → Told) (held : Held P) (known : Option (List ℕ)) (of_desk : Bool) (files : ℕ) (from : Progress) → HasRead told held None held known known of_desk files from from
+reads_none told held known of_desk files from = record { run = record { done = []; asked = ends; text = appends_none known }; read = done_none of_desk files from }
+
+-- a desk before its first line
+pub reads_none_there : {P : Type 0} (told : P → Told) (place : Place P) (moment : Stamp) (seats : List Seat) (known : Option (List ℕ)) (of_desk : Bool) (files : ℕ) (from : Progress) → (let zero : Stamp = record { mega = 0; sec = 0; micro = 0; mono = pos 0 } in moment ≡ zero) → seats ≡ []
+    → (let now : DeskSide P = record { desk = place; moment = moment; seats = seats } in HasRead told (AtDesk (first_side place)) None (AtDesk now) known known of_desk files from from)
+reads_none_there {P} told place moment seats known of_desk files from at none =
+    subst (λ (m : Stamp). let now : DeskSide P = record { desk = place; moment = m; seats = seats } in HasRead told (AtDesk (first_side place)) None (AtDesk now) known known of_desk files from from) (sym at)
+    (subst (λ (s : List Seat). let now : DeskSide P = record { desk = place; moment = record { mega = 0; sec = 0; micro = 0; mono = pos 0 }; seats = s } in HasRead told (AtDesk (first_side place)) None (AtDesk now) known known of_desk files from from) (sym none)
+    (reads_none told (AtDesk (first_side place)) known of_desk files from))
+
+-- a line that was read and answered, and what was written of it
+pub reads_on : {P : Type 0} (told : P → Told) (old mid new : Held P) (line : Line) (reply : Reply) (answer : Answer) (start before now : Option (List ℕ)) (of_desk : Bool) (files : ℕ) (from at to : Progress) → HasRead told old None mid start before of_desk files from at
+    → (did : Effect) × IsAsked told mid new line reply did → reply ≡ Answered answer → HasNext of_desk at to line → IsOfFiles files line → Appends before now (line_of answer) → HasRead told old None new start now of_desk files from to
+reads_on told old mid new line reply answer start before now of_desk files from at to has step is next there text =
+    let one : Exchange = record { line = line; reply = Answered answer; effect = step.0 } in
+    record {
+      run = record {
+        done = has.run.done ++ one ∷ [];
+        asked = then_more told old mid new has.run.done (one ∷ []) None has.run.asked (asks (subst (λ (r : Reply). IsAsked told mid new line r step.0) is step.1) ends);
+        text = subst (λ (l : List ℕ). Appends start now l) (sym (written-append has.run.done (one ∷ []))) (appends_both start before now (written has.run.done) (written (one ∷ [])) has.run.text
+            (subst (λ (l : List ℕ). Appends before now l) (sym (append-nil (line_of answer))) text));
+      };
+      read = done_more of_desk files from at to has.run.done one has.read next there;
+    }
+
+-- ---- a run that has ended
+
+-- with the script
+pub ran_through : {P : Type 0} (told : P → Told) (old new : Held P) (Stands : Held P → Type 0) (start now : Option (List ℕ)) (of_desk : Bool) (files : ℕ) (from at to : Progress) → HasRead told old None new start now of_desk files from at → Stands new → HasEnded at to
+    → Ran told old files (stretch of_desk from to) (Ok None) Stands (λ text. Appends start now text)
+ran_through told old new Stands start now of_desk files from at to has stands ended = record {
+  done = has.run.done;
+  end = new;
+  asks = has.run.asked;
+  read = record { last = at; read = has.read.given; each = has.read.each; ends = ended };
+  stands = stands;
+  text = has.run.text;
+}
+
+-- with a line that leaves the port
+pub left_through : {P : Type 0} (told : P → Told) (old mid new : Held P) (Stands : Held P → Type 0) (line : Line) (reply : Reply) (leave : Leave) (start before : Option (List ℕ)) (of_desk : Bool) (files : ℕ) (from at to : Progress) → HasRead told old None mid start before of_desk files from at
+    → (did : Effect) × IsAsked told mid new line reply did → reply ≡ Left leave → Stands new → HasNext of_desk at to line → IsOfFiles files line → Ran told old files (stretch of_desk from to) (Ok (Some leave)) Stands (λ text. Appends start before text)
+left_through told old mid new Stands line reply leave start before of_desk files from at to has step is stands next there =
+    let one : Exchange = record { line = line; reply = Left leave; effect = step.0 } in
+    let read = done_more of_desk files from at to has.run.done one has.read next there in
+    record {
+      done = has.run.done ++ one ∷ [];
+      end = new;
+      asks = then_more told old mid new has.run.done (one ∷ []) (Some leave) has.run.asked (leaves (subst (λ (r : Reply). IsAsked told mid new line r step.0) is step.1));
+      read = record { last = to; read = read.given; each = read.each; ends = refl };
+      stands = stands;
+      text = subst (λ (l : List ℕ). Appends start before l) (sym (written-append has.run.done (one ∷ []))) (appends_both start before before (written has.run.done) [] has.run.text (appends_none before));
+    }
+
+-- with a fault
+pub failed_through : {P : Type 0} (told : P → Told) (old new : Held P) (Stands : Held P → Type 0) (Writes : List ℕ → Type 0) (fault : SimFault) (start now : Option (List ℕ)) (of_desk : Bool) (files : ℕ) (from at to : Progress) → HasRead told old None new start now of_desk files from at → Stands new
+    → IsBrokenOff of_desk files at to fault → Ran told old files (stretch of_desk from to) (Err fault) Stands Writes
+failed_through told old new Stands Writes fault start now of_desk files from at to has stands broken = record {
+  done = has.run.done;
+  end = new;
+  asks = has.run.asked;
+  read = record { last = at; read = has.read.given; each = has.read.each; ends = broken };
+  stands = stands;
+  text = tt;
+}
+
+-- with a line whose answer wasn't written
+pub failed_behind : {P : Type 0} (told : P → Told) (old mid new : Held P) (Stands : Held P → Type 0) (Writes : List ℕ → Type 0) (line : Line) (reply : Reply) (answer : Answer) (start before : Option (List ℕ)) (of_desk : Bool) (files : ℕ) (from at to : Progress)
+    → HasRead told old None mid start before of_desk files from at → (did : Effect) × IsAsked told mid new line reply did → reply ≡ Answered answer → Stands new → HasNext of_desk at to line → IsOfFiles files line → (fault : SimFault) → IsBrokenOff of_desk files to to fault
+    → Ran told old files (stretch of_desk from to) (Err fault) Stands Writes
+failed_behind told old mid new Stands Writes line reply answer start before of_desk files from at to has step is stands next there fault broken =
+    let one : Exchange = record { line = line; reply = Answered answer; effect = step.0 } in
+    let read = done_more of_desk files from at to has.run.done one has.read next there in
+    record {
+      done = has.run.done ++ one ∷ [];
+      end = new;
+      asks = then_more told old mid new has.run.done (one ∷ []) None has.run.asked (asks (subst (λ (r : Reply). IsAsked told mid new line r step.0) is step.1) ends);
+      read = record { last = to; read = read.given; each = read.each; ends = broken };
+      stands = stands;
+      text = tt;
+    }
+
+-- ---- another run that went on behind it
+
+lines_both : (of_desk : Bool) (files : ℕ) (from at to : Progress) (r : Result (Option Leave) SimFault) (done more : List Exchange) → AreDone of_desk files from at (lines_of done) → AreTheLines files (stretch of_desk at to) r (lines_of more)
+    → AreTheLines files (stretch of_desk from to) r (lines_of (done ++ more))
+lines_both of_desk files from at to r done more one two = subst (λ (l : List Line). AreTheLines files (stretch of_desk from to) r l) (sym (lines_of-append done more)) (record {
+  last = two.last;
+  read = given_both of_desk from at two.last (lines_of done) (lines_of more) one.given two.read;
+  each = All-append (IsOfFiles files) (lines_of done) (lines_of more) one.each two.each;
+  ends = two.ends;
+})
+
+pub ran_on : {P : Type 0} (told : P → Told) (old mid : Held P) (r : Result (Option Leave) SimFault) (Stands : Held P → Type 0) (start before now : Option (List ℕ)) (of_desk : Bool) (files : ℕ) (from at to : Progress) → HasRead told old None mid start before of_desk files from at
+    → Ran told mid files (stretch of_desk at to) r Stands (λ text. Appends before now text) → Ran told old files (stretch of_desk from to) r Stands (λ text. Appends start now text)
+ran_on told old mid (Ok leave) Stands start before now of_desk files from at to has more = record {
+  done = has.run.done ++ more.done;
+  end = more.end;
+  asks = then_more told old mid more.end has.run.done more.done leave has.run.asked more.asks;
+  read = lines_both of_desk files from at to (Ok leave) has.run.done more.done has.read more.read;
+  stands = more.stands;
+  text = subst (λ (l : List ℕ). Appends start now l) (sym (written-append has.run.done more.done)) (appends_both start before now (written has.run.done) (written more.done) has.run.text more.text);
+}
+ran_on told old mid (Err fault) Stands start before now of_desk files from at to has more = record {
+  done = has.run.done ++ more.done;
+  end = more.end;
+  asks = then_more told old mid more.end has.run.done more.done None has.run.asked more.asks;
+  read = lines_both of_desk files from at to (Err fault) has.run.done more.done has.read more.read;
+  stands = more.stands;
+  text = tt;
+}
+
+-- where the next run has the line as its first one
+pub ran_after : {P : Type 0} (told : P → Told) (old mid : Held P) (r : Result (Option Leave) SimFault) (Stands : Held P → Type 0) (start before now : Option (List ℕ)) (of_desk here : Bool) (files : ℕ) (from at behind to : Progress) (line first : Line) → here ≡ of_desk → line ≡ first
+    → HasRead told old None mid start before of_desk files from at → HasNext of_desk at behind line → ((was : Progress) → HasNext here was behind first → Ran told mid files (stretch here was to) r Stands (λ text. Appends before now text))
+    → Ran told old files (stretch of_desk from to) r Stands (λ text. Appends start now text)
+ran_after told old mid r Stands start before now of_desk here files from at behind to line first same is has next more =
+    ran_on told old mid r Stands start before now of_desk files from at to has
+    (subst (λ (d : Bool). Ran told mid files (stretch d at to) r Stands (λ text. Appends before now text)) same
+    (more at (subst (λ (l : Line). HasNext here at behind l) is (subst (λ (d : Bool). HasNext d at behind line) (sym same) next))))
+
+-- what was written before a run
+pub ran_behind : {P : Type 0} (told : P → Told) (old : Held P) (files : ℕ) (over : Stretch) (r : Result (Option Leave) SimFault) (Stands : Held P → Type 0) (start before now : Option (List ℕ)) (first : List ℕ) → Appends start before first
+    → Ran told old files over r Stands (λ text. Appends before now text) → Ran told old files over r Stands (λ text. Appends start now (first ++ text))
+ran_behind told old files over (Ok leave) Stands start before now first wrote run = record { done = run.done; end = run.end; asks = run.asks; read = run.read; stands = run.stands; text = appends_both start before now first (written run.done) wrote run.text }
+ran_behind told old files over (Err fault) Stands start before now first wrote run = record { done = run.done; end = run.end; asks = run.asks; read = run.read; stands = run.stands; text = tt }
+
+-- at a desk that then has finished its port
+pub ran_to_end : {P : Type 0} (told : P → Told) (first : Held P) (files : ℕ) (over : Stretch) (r : Result (Option Leave) SimFault) (desk : Place P) (q : P) (Writes : List ℕ → Type 0) → Finishes (told desk.port) (told q) → Ran told first files over r (IsAtDesk desk) Writes
+    → Ran told first files over r (λ end. IsLetGo told end q) Writes
+ran_to_end told first files over r desk q Writes finished run = record { done = run.done; end = run.end; asks = run.asks; read = run.read; stands = finished_there told desk q run.end finished run.stands; text = run.text }
+
+-- at a desk that has just been made
+pub ran_from_new : {P : Type 0} (told : P → Told) (p : P) (desk : Place P) (files : ℕ) (over : Stretch) (r : Result (Option Leave) SimFault) (Stands : Held P → Type 0) (Writes : List ℕ → Type 0) → first_side desk ≡ new_side p
+    → Ran told (AtDesk (first_side desk)) files over r Stands Writes → Ran told (AtDesk (new_side p)) files over r Stands Writes
+ran_from_new {P} told p desk files over r Stands Writes is run = subst (λ (side : DeskSide P). Ran told (AtDesk side) files over r Stands Writes) is run

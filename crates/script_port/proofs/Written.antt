@@ -1,0 +1,57 @@
+-- What is written in a run.
+use Rattle.std.proofs.Common.{◌≡◌, ℕ, Option, Some, None, List, [], ◌∷◌, ◌++◌, refl, sym, ◌∙◌, ap, subst, append_assoc}
+use Rattle.std.proofs.lemmas.List.{append-nil}
+use Rattle.std.specs.Io.KnownBytes.{Appends}
+use Rattle.trace_port.specs.Port.{Told}
+use Rattle.tracees.specs.Books.{no_totals}
+use Rattle.tracees.specs.Desks.{Place}
+use Rattle.tracees.specs.PortCalls.{Finishes}
+use Rattle.script_port.specs.declared.reply.Leave.{Leave}
+use Rattle.script_port.specs.Sides.{Held, Alone, AtDesk, first_side, new_side}
+use Rattle.script_port.specs.Held.{Exchange, AreAsked, ends, reply_text, written, IsLetGo, IsAtDesk}
+use Rattle.script_port.proofs.Running.{then_more}
+
+-- nothing, and then two texts
+pub appends_none : (known : Option (List ℕ)) → Appends known known []
+appends_none None = tt
+appends_none (Some xs) = sym (append-nil xs)
+
+pub appends_both : (old mid new : Option (List ℕ)) (first second : List ℕ) → Appends old mid first → Appends mid new second → Appends old new (first ++ second)
+appends_both None mid new first second a b = tt
+appends_both (Some xs) None new first second a b = absurd a
+appends_both (Some xs) (Some ys) None first second a b = absurd b
+appends_both (Some xs) (Some ys) (Some zs) first second a b = b ∙ ap (λ (l : List ℕ). l ++ second) a ∙ append_assoc xs first second
+
+pub written-append : (done more : List Exchange) → written (done ++ more) ≡ written done ++ written more
+written-append [] more = refl
+written-append (first ∷ done) more = ap (λ (l : List ℕ). reply_text first.reply ++ l) (written-append done more) ∙ sym (append_assoc (reply_text first.reply) (written done) (written more))
+
+-- what a run has done and written until now
+pub record HasWritten {P : Type 0} (told : P → Told) (old : Held P) (leave : Option Leave) (new : Held P) (before now : Option (List ℕ)) : Type 0 where
+  pub done : List Exchange
+  pub asked : AreAsked told old done leave new
+  pub text : Appends before now (written done)
+
+pub nothing_yet : {P : Type 0} (told : P → Told) (held : Held P) (known : Option (List ℕ)) → HasWritten told held None held known known
+nothing_yet told held known = record { done = []; asked = ends; text = appends_none known }
+
+-- a run, and then another
+pub both_written : {P : Type 0} (told : P → Told) (old mid new : Held P) (leave : Option Leave) (start before now : Option (List ℕ)) → HasWritten told old None mid start before → HasWritten told mid leave new before now → HasWritten told old leave new start now
+both_written told old mid new leave start before now one two = record {
+  done = one.done ++ two.done;
+  asked = then_more told old mid new one.done two.done leave one.asked two.asked;
+  text = subst (λ (l : List ℕ). Appends start now l) (sym (written-append one.done two.done)) (appends_both start before now (written one.done) (written two.done) one.text two.text);
+}
+
+-- a desk has finished its port
+pub finished_there : {P : Type 0} (told : P → Told) (desk : Place P) (q : P) (end : Held P) → Finishes (told desk.port) (told q) → IsAtDesk desk end → IsLetGo told end q
+finished_there told desk q (Alone p) finished there = absurd there
+finished_there {P} told desk q (AtDesk side) finished there = subst (λ (d : Place P). Finishes (told d.port) (told q)) (sym there) finished
+
+-- a desk that has just been made
+pub new_desk : {P : Type 0} (p : P) (desk : Place P) → desk.number ≡ 0 → desk.port ≡ p → desk.counted ≡ no_totals → desk.attached ≡ 0 → first_side desk ≡ new_side p
+new_desk {P} p desk number port counted attached =
+    ap (λ n. let place : Place P = record { number = n; port = desk.port; counted = desk.counted; attached = desk.attached } in first_side place) number
+    ∙ ap (λ q. let place : Place P = record { number = 0; port = q; counted = desk.counted; attached = desk.attached } in first_side place) port
+    ∙ ap (λ t. let place : Place P = record { number = 0; port = p; counted = t; attached = desk.attached } in first_side place) counted
+    ∙ ap (λ n. let place : Place P = record { number = 0; port = p; counted = no_totals; attached = n } in first_side place) attached

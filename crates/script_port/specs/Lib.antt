@@ -1,0 +1,9 @@
+pub mod Faults
+pub mod Texts
+pub mod Answers
+pub mod Sides
+pub mod DeskLines
+pub mod Asked
+pub mod Read
+pub mod Held
+pub mod PortOpenings

@@ -1,0 +1,9 @@
+use Rattle.std.proofs.Common.{refl}
+use Rattle.simulator.specs.Simulated.{blanks, no_memory}
+use Rattle.simulator.proofs.sim.set_store.Goals as goal
+
+pub returns-in-Ok : goal.returns-in-Ok
+returns-in-Ok c = blanks c.in-Ok.ensures.blank c.in-Ok.ensures.fuse
+
+pub returns-in-Err : goal.returns-in-Err
+returns-in-Err c = no_memory refl

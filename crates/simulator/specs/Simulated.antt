@@ -1,0 +1,183 @@
+-- What a line of a script does to the store in memory while no port is held.
+use Rattle.std.specs.Prelude.{◌≡◌, ◌⊎◌, ℕ, Bool, Option, Some, None, List, [], ◌∷◌, ◌++◌, length, set, replicate, Result, Ok, Err, OnOk, IfErr, false}
+use Rattle.std.specs.Io.KnownBytes.{Appends, Keeps}
+use Rattle.std.specs.declared.vec.Vec.{Vec}
+use Rattle.std.specs.declared.alloc.Global.{Global}
+use Rattle.trace_store.specs.Disk.{Image}
+use Rattle.trace_store.specs.Moments.{Rose, LeavesOnly}
+use Rattle.stores.specs.MemStore.{honest_of, disk_of, reads_of, images_of, moments_of, clock_of, failures_of, fuse_of, SameButFuse, IsPossible, IsSettled}
+use Rattle.stores.specs.Crashes.{image_of}
+use Rattle.stores.specs.declared.fuse.Fuse.TheVariants.{Whole, After, Once}
+use Rattle.stores.specs.declared.mem_store.MemStore.{MemStore}
+use Rattle.stores.specs.declared.pick.CrashFault.{CrashFault}
+use Rattle.stores.specs.declared.pick.CrashFault.TheVariants.{NotImage}
+use Rattle.stores.specs.contracts.mem_store.MemStoreStore.TheImpl as mem
+use Rattle.segment.specs.Pieces.{OnlyReads}
+use Rattle.segment.specs.Specification.{Spec, File, Wrap, Timed}
+use Rattle.recovery.specs.Views.{empty}
+use Rattle.recovery.specs.Stores.{readings, IsBlank}
+use Rattle.recovery.specs.Wiping.{IsWiped, IsWiping}
+use Rattle.trace_port.specs.Device.{Device, device_of, Leaves}
+use Rattle.trace_port.specs.declared.create.CreateFault.TheVariants.{BadSpec}
+use Rattle.trace_port.specs.Openings.{ReadsAlike}
+use Rattle.trace_port.specs.Opened.{opened_told}
+use Rattle.trace_port.specs.Sound.{ReadsAs}
+use Rattle.trace_port.specs.FilePort.{file_told}
+use Rattle.trace_port.specs.contracts.pending.PendingRoom.TheImpl as pending
+use Rattle.wrap_port.specs.WrapOpened.{wrap_opened_told}
+use Rattle.wrap_port.specs.WrapPort.{wrap_told}
+use Rattle.trace_script.specs.declared.line.Line.{Line}
+use Rattle.trace_script.specs.declared.line.Line.TheVariants as lines
+use Rattle.trace_script.specs.declared.line.Unsynced.{Unsynced}
+use Rattle.trace_script.specs.Lines.{pick_of, IsOfFiles}
+use Rattle.trace_script.specs.Reading.{Progress, HasNext, HasEnded, HasStopped}
+use Rattle.trace_script.specs.declared.fault.ScriptFault.{ScriptFault}
+use Rattle.script_port.specs.Faults.{script_fault}
+use Rattle.script_port.specs.Sides.{Alone}
+use Rattle.script_port.specs.Read.{Stretch, stretch, first_lines, ReadsNothing}
+use Rattle.script_port.specs.Held.{WasHeld}
+use Rattle.script_port.specs.PortOpenings.{first_told, GoesOnOrBegins, IsNoSpec}
+use Rattle.simulator.specs.Stored.{TellsStore, TellsFiles}
+use Rattle.script_port.specs.Texts.{greeting, line_of}
+use Rattle.script_port.specs.declared.answer.Answer.TheVariants as answers
+use Rattle.script_port.specs.declared.fault.SimFault.{SimFault}
+use Rattle.script_port.specs.declared.fault.SimFault.TheVariants as faults
+use Rattle.script_port.specs.declared.opening.AnyOpening.{AnyOpening}
+use Rattle.script_port.specs.declared.opening.AnyOpening.TheVariants as openings
+use Rattle.script_port.specs.declared.refusal.Refusal.{Refusal}
+use Rattle.script_port.specs.declared.refusal.Refusal.TheVariants as refusals
+use Rattle.script_port.specs.declared.reply.Leave.{Leave}
+use Rattle.script_port.specs.declared.reply.Leave.TheVariants as leaving
+use Rattle.script_port.specs.declared.reply.Origin.{Origin}
+use Rattle.script_port.specs.declared.reply.Origin.TheVariants.{Created, Resumed}
+use Rattle.script_port.specs.declared.reply.Stop.{Stop}
+use Rattle.script_port.specs.declared.reply.Stop.TheVariants as stops
+
+-- a store in memory as a device
+abbrev pub device : MemStore → Device
+device m = device_of mem.ghosts m
+
+-- each moment of making a port leaves what was there; a creation over a blank store also an empty trace, and a resumption what reads alike
+abbrev pub LeavesSo : Origin → Spec → MemStore → MemStore → Type 0
+LeavesSo Created spec old new =
+    Leaves (device old) (device new) (λ image. (device old).images image ⊎ ReadsAs spec empty false image) × ((IsBlank (readings (reads_of old)) → ⊥) → Leaves (device old) (device new) (device old).images)
+LeavesSo Resumed spec old new = Leaves (device old) (device new) (λ image. (device old).images image ⊎ ReadsAlike (reads_of old) image)
+
+-- the lines of a stretch of a script were run on a port over this opening, which then was dropped
+abbrev pub RanOn : AnyOpening → Origin → MemStore → MemStore → Stretch → Result (Option Leave) SimFault → (List ℕ → Type 0) → Type 0
+RanOn (openings.File opening) origin old new over left Writes =
+    WasHeld (file_told mem.ghosts pending.ghosts) Alone (opened_told pending.ghosts opening (device old)) (greeting origin) (length (reads_of old)) over left (device new) Writes
+RanOn (openings.Wrap opening) origin old new over left Writes =
+    WasHeld (wrap_told mem.ghosts pending.ghosts) Alone (wrap_opened_told pending.ghosts opening (device old)) (greeting origin) (length (reads_of old)) over left (device new) Writes
+
+-- a port was made over the store, and the lines behind this one were run on it until it was given up
+pub record WasRun (origin : Origin) (spec : Spec) (old new : MemStore) (over : Stretch) (left : Result (Option Leave) SimFault) (Writes : List ℕ → Type 0) : Type 0 where
+  pub mid : MemStore
+  pub opening : AnyOpening
+  pub opens : GoesOnOrBegins (reads_of old) (first_told opening (device mid)) spec origin
+  pub moments : LeavesSo origin spec old mid
+  pub ran : RanOn opening origin mid new over left Writes
+
+-- a run that a fault ended, as what came of its line
+abbrev pub ended_so : Result (Option Leave) SimFault → Result (Option Leave) Stop
+ended_so (Ok left) = Ok left
+ended_so (Err fault) = Err (stops.Failed fault)
+
+-- what comes of a line that makes a port, and of the stretch of the script behind it: it was run so, or there is no port
+abbrev pub ComesOf : Origin → Spec → MemStore → MemStore → Stretch → Result (Option Leave) Stop → (List ℕ → Type 0) → Type 0
+ComesOf origin spec old new over (Ok left) Writes = WasRun origin spec old new over (Ok left) Writes
+ComesOf origin spec old new over (Err (stops.Failed fault)) Writes = WasRun origin spec old new over (Err fault) Writes
+ComesOf origin spec old new over (Err (stops.Refused refusal)) Writes = LeavesSo origin spec old new × ReadsNothing over × Writes []
+
+-- a crash left what was picked of the store and is answered of, or it can't leave that and the store stays as it is
+pub data Crashes (unsynced : Unsynced) (old new : MemStore) : List ℕ → Type 0 where
+  leaves : IsPossible (pick_of unsynced) old → IsSettled new (image_of (pick_of unsynced) (disk_of old)) → fuse_of new ≡ Whole → Crashes unsynced old new (line_of answers.Done)
+  refuses : (fault : CrashFault) → (fault ≡ NotImage → IsPossible (pick_of unsynced) old → ⊥) → new ≡ old → Crashes unsynced old new (line_of (answers.Refused (refusals.Crash fault)))
+
+-- how it is answered that a port was left, or that there is none: the text, and what is left of the store
+abbrev pub IsOver : Result (Option Leave) Stop → MemStore → MemStore → List ℕ → Type 0
+IsOver (Ok (Some leaving.Abandoned)) old new text = (new ≡ old) × (text ≡ line_of answers.Done)
+IsOver (Ok (Some leaving.Closed)) old new text = (new ≡ old) × (text ≡ line_of answers.Closed)
+IsOver (Ok (Some (leaving.Crashed unsynced))) old new text = Crashes unsynced old new text
+IsOver (Ok None) old new text = (new ≡ old) × (text ≡ [])
+IsOver (Err (stops.Refused refusal)) old new text = (new ≡ old) × (text ≡ line_of (answers.Refused refusal))
+IsOver (Err (stops.Failed fault)) old new text = ⊥
+
+-- a fault that ended a run ends it, and no other
+abbrev pub IsItsFault : Result (Option Leave) Stop → SimFault → Type 0
+IsItsFault (Err (stops.Failed ended)) fault = fault ≡ ended
+IsItsFault _ fault = fault ≡ faults.Write
+
+-- the calls of a look at its files changed nothing
+abbrev pub OnlyLooked : MemStore → MemStore → Type 0
+OnlyLooked old new = OnlyReads honest_of clock_of reads_of images_of moments_of old new
+
+-- what a line that makes no port does to the store, and what is written of it
+pub data Does (old new : MemStore) : Line → List ℕ → Type 0 where
+  blanks : {files : ℕ} → IsSettled new (replicate files []) → fuse_of new ≡ Whole → Does old new (lines.Store files) (line_of answers.Done)
+  no_memory : {files : ℕ} → new ≡ old → Does old new (lines.Store files) (line_of (answers.Refused refusals.NoMemory))
+  holds : {file : ℕ} {bytes : Vec ℕ Global} → IsSettled new (set (reads_of old) file bytes.items) → fuse_of new ≡ Whole → Does old new (lines.Bytes file bytes) (line_of answers.Done)
+  holds_not : {file : ℕ} {bytes : Vec ℕ Global} (refusal : Refusal) → OnlyLooked old new → Does old new (lines.Bytes file bytes) (line_of (answers.Refused refusal))
+  fuses : {calls : ℕ} → fuse_of new ≡ After (clock_of old) calls → SameButFuse old new → Does old new (lines.Fuse calls) (line_of answers.Done)
+  fails_once : {calls : ℕ} → fuse_of new ≡ Once (clock_of old) calls → SameButFuse old new → Does old new (lines.FailOnce calls) (line_of answers.Done)
+  crashes : {unsynced : Unsynced} {text : List ℕ} → Crashes unsynced old new text → Does old new (lines.Crash unsynced) text
+  lists : {text : List ℕ} → TellsStore (reads_of old) (Rose (failures_of old) (failures_of new)) text → OnlyLooked old new → Does old new lines.List text
+  tells_files : {text : List ℕ} → TellsFiles (reads_of old) (Rose (failures_of old) (failures_of new)) text → OnlyLooked old new → Does old new lines.Files text
+  wipes : IsWiped (reads_of old) (reads_of new) → ((c : Image) → images_of new c → IsBlank (readings c)) → LeavesOnly clock_of moments_of old new (IsWiping (images_of old)) → Does old new lines.Wipe (line_of answers.Done)
+  wipes_not : Rose (failures_of old) (failures_of new) → LeavesOnly clock_of moments_of old new (IsWiping (images_of old)) → Does old new lines.Wipe (line_of (answers.Refused refusals.Device))
+  out_of_order : {line : Line} → new ≡ old → Does old new line (line_of answers.OutOfOrder)
+
+-- what comes of a line that makes no port
+abbrev pub DoesAlone : Line → MemStore → MemStore → Result (Option Leave) Stop → (List ℕ → Type 0) → Type 0
+DoesAlone line old new (Ok left) Writes = (left ≡ None) × ((text : List ℕ) × Does old new line text × Writes text)
+DoesAlone line old new (Err (stops.Failed fault)) Writes = Unit {0}
+DoesAlone line old new (Err (stops.Refused refusal)) Writes = ⊥
+
+-- there is no such wrap, and nothing was done
+abbrev pub IsNoWrap : MemStore → MemStore → Result (Option Leave) Stop → (List ℕ → Type 0) → Type 0
+IsNoWrap old new result Writes = (new ≡ old) × (result ≡ Err (stops.Refused (refusals.Create BadSpec))) × Writes []
+
+-- what comes of a line, and of the stretch of the script behind it that its port takes
+abbrev pub Runs : Line → MemStore → MemStore → Stretch → Result (Option Leave) Stop → (List ℕ → Type 0) → Type 0
+Runs (lines.CreateFile limit) old new over result Writes = ComesOf Created File old new over result Writes
+Runs (lines.ResumeFile limit) old new over result Writes = ComesOf Resumed File old new over result Writes
+Runs (lines.CreateWrap size count) old new over result Writes = ComesOf Created (Wrap size count) old new over result Writes ⊎ (IsNoSpec (Wrap size count) × IsNoWrap old new result Writes × ReadsNothing over)
+Runs (lines.CreateTime millis count) old new over result Writes = ComesOf Created (Timed millis count) old new over result Writes ⊎ (IsNoSpec (Timed millis count) × IsNoWrap old new result Writes × ReadsNothing over)
+Runs lines.ResumeWrap old new over result Writes = (spec : Spec) → ComesOf Resumed spec old new over result Writes
+Runs line old new over result Writes = DoesAlone line old new result Writes × ReadsNothing over
+
+-- a line was run whole: with its port, if it made one, the stretch of the script that this took, and what is answered once that is no more
+pub record IsRunWhole (line : Line) (old new : MemStore) (taken : Stretch) (result : Result Unit SimFault) (was now : Option (List ℕ)) : Type 0 where
+  pub mid : MemStore
+  pub between : Option (List ℕ)
+  pub left : Result (Option Leave) Stop
+  pub runs : Runs line old mid taken left (λ text. Appends was between text)
+  pub over : OnOk result ((text : List ℕ) × IsOver left mid new text × Appends between now text)
+  pub fault : IfErr result (IsItsFault left)
+
+-- lines were run whole one after another, each on the store that the one before it left, and each was the next one of the script, behind all that was read for the one before it
+pub data AreRun (of_desk : Bool) (first : MemStore) (from : Progress) (out : Option (List ℕ)) : List Line → MemStore → Progress → Option (List ℕ) → Type 0 where
+  none : AreRun of_desk first from out [] first from out
+  more : {before : List Line} {mid new : MemStore} {at behind to : Progress} {was now : Option (List ℕ)} (line : Line) → AreRun of_desk first from out before mid at was → HasNext of_desk at behind line → IsOfFiles (length (reads_of mid)) line
+      → IsRunWhole line mid new (stretch of_desk behind to) (Ok tt) was now → AreRun of_desk first from out (before ++ line ∷ []) new to now
+
+-- the lines of a stretch of a script were run to its end; or the next one is none, or names a file that isn't there, which its number tells; or a fault of the line that came next ended that
+pub data Simulates (old new : MemStore) (over : Stretch) (was now : Option (List ℕ)) : Result Unit SimFault → Type 0 where
+  to_end : {last : Progress} (done : List Line) → AreRun over.of_desk old over.from was done new last now → HasEnded last over.to → Simulates old new over was now (Ok tt)
+  no_line : {last : Progress} (done : List Line) (fault : ScriptFault) → AreRun over.of_desk old over.from was done new last now → HasStopped over.of_desk last over.to fault → Simulates old new over was now (Err (script_fault fault))
+  no_file : {last : Progress} (done : List Line) (line : Line) → AreRun over.of_desk old over.from was done new last now → HasNext over.of_desk last over.to line → (IsOfFiles (length (reads_of new)) line → ⊥)
+      → Simulates old new over was now (Err (faults.BadCommand over.to.lines))
+  broken_off : {mid : MemStore} {last behind : Progress} {between : Option (List ℕ)} (done : List Line) (line : Line) (fault : SimFault) → AreRun over.of_desk old over.from was done mid last between → HasNext over.of_desk last behind line → IsOfFiles (length (reads_of mid)) line
+      → IsRunWhole line mid new (stretch over.of_desk behind over.to) (Err fault) between now → Simulates old new over was now (Err fault)
+
+-- of two causes the first
+abbrev pub first_of : Result Unit SimFault → Result Unit SimFault → Result Unit SimFault
+first_of (Ok done) later = later
+first_of (Err fault) later = Err fault
+
+-- a script was run, whose reader had these bytes and has those left, over a store that was blank at first and had one file, and what was written was written out
+pub data IsRun (had has was now : Option (List ℕ)) : Result Unit SimFault → Type 0 where
+  runs : {old new : MemStore} {mid : Option (List ℕ)} {done : Result Unit SimFault} (count : ℕ) → IsSettled old (replicate 1 []) → fuse_of old ≡ Whole → Simulates old new (first_lines false count had has) was mid done → Keeps mid now → IsRun had has was now done
+  not_written_out : {old new : MemStore} {mid : Option (List ℕ)} (count : ℕ) → IsSettled old (replicate 1 []) → fuse_of old ≡ Whole → Simulates old new (first_lines false count had has) was mid (Ok tt) → Keeps mid now → IsRun had has was now (Err faults.Write)
+  -- there was no memory for its store
+  no_memory : has ≡ had → Keeps was now → IsRun had has was now (Err faults.NoMemory)

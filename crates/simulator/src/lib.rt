@@ -1,0 +1,8 @@
+//! A run of a script over a store in memory.
+#![tactic(auto)]
+
+mod contents;
+mod sim;
+mod store_lines;
+
+pub use sim::{run_lines, run_sim};

@@ -1,0 +1,438 @@
+// A script over a store in memory.
+ghost use Rattle.std.specs.Prelude.{◌≡◌, ◌≢◌, ◌<◌, ◌≤◌, ℕ, List, length, OnOk, IfErr, false};
+ghost use Rattle.std.specs.Io.KnownBytes.{Appends};
+ghost use Rattle.stores.specs.MemStore.{reads_of};
+ghost use Rattle.trace_script.specs.Lines.{IsWithinLimits, IsOfFiles};
+ghost use Rattle.trace_script.specs.Reading.{progress};
+ghost use Rattle.segment.specs.Specification.{Spec, File};
+ghost use Rattle.wrap_port.specs.WrapSpecs.{wrap_seen};
+ghost use Rattle.script_port.specs.Read.{stretch};
+ghost use Rattle.simulator.specs.Simulated.{ended_so, ComesOf, Crashes, Does, DoesAlone, Runs, IsRunWhole, Simulates, IsOver, IsItsFault, IsRun, first_of as first_told};
+ghost use Rattle.script_port.specs.Texts.{line_of};
+ghost use Rattle.trace_port.specs.declared.create.CreateFault.TheVariants as creating;
+ghost use Rattle.script_port.specs.declared.fault.SimFault.TheVariants as faults;
+ghost use Rattle.script_port.specs.declared.refusal.Refusal.TheVariants as refusals;
+ghost use Rattle.script_port.specs.declared.reply.Stop.TheVariants as stops;
+ghost use Rattle.trace_script.specs.declared.line.Line.TheVariants as lines;
+ghost use Rattle.script_port.specs.declared.reply.Origin.TheVariants.{Created, Resumed};
+
+use crate::contents::with_bytes;
+use crate::store_lines::{list, list_files};
+use recovery::wipe;
+use script_port::{
+    Answer, Answers, Leave, Origin, Refusal, SimFault, Stop, hold_file, hold_wrap, is_beyond,
+};
+use std::alloc::Global;
+use std::io::{BufRead, Write};
+use stores::{MemStore, Pick};
+use trace_port::{CreateFault, begin_create, begin_resume};
+use trace_script::{Line, Script, Unsynced};
+use trace_store::{DeviceFault, Store};
+use wrap_port::{BadSpec, WrapSpec};
+
+/// Runs a script over a store in memory, at first a blank one of one file. What was answered before a fault has been
+/// written. A run that fails of several causes answers the first.
+pub fn run_sim<R: BufRead, W: Write>(
+    alloc: Global,
+    reader: &mut R,
+    writer: &mut W,
+) -> Result<(), SimFault>
+    ensures { IsRun (R.remaining reader.old) (R.remaining reader.new) (W.contents writer.old) (W.contents writer.new) result }
+{
+    let mut text = Vec::new(alloc);
+    let mut script = Script::new(alloc, reader, &mut text);
+    run_script(alloc, &mut script, writer)
+}
+
+/// Runs the lines of a script, of which none is read yet, over a blank store of one file.
+fn run_script<R: BufRead, W: Write>(
+    alloc: Global,
+    script: &mut Script<'_, R>,
+    writer: &mut W,
+) -> Result<(), SimFault>
+    requires any { script.old.is_of_desk ≡ false }
+    requires first { script.old.number ≡ 0 }
+    ensures reader { script.new.reader.ghost_name ≡ script.old.reader.ghost_name }
+    ensures run { IsRun (R.remaining script.old.reader.now) (R.remaining script.new.reader.now) (W.contents writer.old) (W.contents writer.new) result }
+{
+    let Ok(mut store) = MemStore::blank(alloc, 1) else {
+        return Err(SimFault::NoMemory);
+    };
+    let mut answers = Answers::new(writer);
+    let done = run_lines(alloc, &mut store, script, &mut answers);
+    let flushed = answers.finish();
+    drop(store);
+    first_of(done, flushed)
+}
+
+/// The fault of a run, or else that of writing out what it wrote.
+fn first_of(done: Result<(), SimFault>, flushed: Result<(), SimFault>) -> Result<(), SimFault>
+    ensures { result ≡ first_told done flushed }
+{
+    match done {
+        Ok(()) => flushed,
+        Err(fault) => {
+            drop(flushed);
+            Err(fault)
+        }
+    }
+}
+
+/// Runs lines while no port is held.
+pub fn run_lines<R: BufRead, W: Write>(
+    alloc: Global,
+    store: &mut MemStore,
+    script: &mut Script<'_, R>,
+    answers: &mut Answers<'_, W>,
+) -> Result<(), SimFault>
+    ensures name { answers.new.writer.ghost_name ≡ answers.old.writer.ghost_name }
+    ensures of_desk { script.new.is_of_desk ≡ script.old.is_of_desk }
+    ensures reader { script.new.reader.ghost_name ≡ script.old.reader.ghost_name }
+    ensures simulates { let over = stretch script.old.is_of_desk (progress script.old.number (R.remaining script.old.reader.now)) (progress script.new.number (R.remaining script.new.reader.now)) in
+        Simulates store.old store.new over (W.contents answers.old.writer.now) (W.contents answers.new.writer.now) result }
+{
+    for _line in 0..u64::MAX {
+        let Some(line) = script.next_line()? else {
+            return Ok(());
+        };
+        if is_beyond(&line, store.files()) {
+            drop(line);
+            return Err(SimFault::from(script.bad_command()));
+        }
+        run_whole(alloc, store, line, script, answers)?;
+    }
+    Err(SimFault::Read)
+}
+
+/// Runs a line with the lines that its port takes, and answers how that was left.
+fn run_whole<R: BufRead, W: Write>(
+    alloc: Global,
+    store: &mut MemStore,
+    line: Line,
+    script: &mut Script<'_, R>,
+    answers: &mut Answers<'_, W>,
+) -> Result<(), SimFault>
+    requires sound { IsWithinLimits line }
+    requires file { IsOfFiles (length (reads_of store.old)) line }
+    ensures name { answers.new.writer.ghost_name ≡ answers.old.writer.ghost_name }
+    ensures of_desk { script.new.is_of_desk ≡ script.old.is_of_desk }
+    ensures reader { script.new.reader.ghost_name ≡ script.old.reader.ghost_name }
+    ensures run { let over = stretch script.old.is_of_desk (progress script.old.number (R.remaining script.old.reader.now)) (progress script.new.number (R.remaining script.new.reader.now)) in
+        IsRunWhole line store.old store.new over result (W.contents answers.old.writer.now) (W.contents answers.new.writer.now) }
+{
+    let left = run_line(alloc, &mut *store, &line, script, &mut *answers);
+    drop(line);
+    finish(store, left, answers)
+}
+
+/// Runs a line and, where it makes a port, the lines behind it until that is given up.
+fn run_line<R: BufRead, W: Write>(
+    alloc: Global,
+    store: &mut MemStore,
+    line: &Line,
+    script: &mut Script<'_, R>,
+    answers: &mut Answers<'_, W>,
+) -> Result<Option<Leave>, Stop>
+    requires sound { IsWithinLimits line.now }
+    requires file { IsOfFiles (length (reads_of store.old)) line.now }
+    ensures name { answers.new.writer.ghost_name ≡ answers.old.writer.ghost_name }
+    ensures of_desk { script.new.is_of_desk ≡ script.old.is_of_desk }
+    ensures reader { script.new.reader.ghost_name ≡ script.old.reader.ghost_name }
+    ensures runs { let over = stretch script.old.is_of_desk (progress script.old.number (R.remaining script.old.reader.now)) (progress script.new.number (R.remaining script.new.reader.now)) in
+        Runs line.now store.old store.new over result (λ text. Appends (W.contents answers.old.writer.now) (W.contents answers.new.writer.now) text) }
+{
+    match line {
+        Line::CreateFile(limit) => create_file(alloc, store, *limit, script, answers),
+        Line::ResumeFile(limit) => resume_file(alloc, store, *limit, script, answers),
+        Line::CreateWrap { size, count } => {
+            match WrapSpec::new(*size, *count) {
+                Ok(spec) => create_wrap(alloc, store, spec, script, answers),
+                Err(BadSpec) => Err(no_wrap()),
+            }
+        }
+        Line::CreateTime { millis, count } => {
+            match WrapSpec::timed(*millis, *count) {
+                Ok(spec) => create_wrap(alloc, store, spec, script, answers),
+                Err(BadSpec) => Err(no_wrap()),
+            }
+        }
+        Line::ResumeWrap => resume_wrap(alloc, store, script, answers),
+        line => run_alone(alloc, store, line, answers),
+    }
+}
+
+/// The refusal of a wrap that can't be.
+fn no_wrap() -> Stop
+    ensures { result ≡ stops.Refused (refusals.Create creating.BadSpec) }
+{
+    Stop::Refused(Refusal::Create(CreateFault::BadSpec))
+}
+
+/// Runs a line that makes no port, as a line whose port is no more.
+fn run_alone<W: Write>(
+    alloc: Global,
+    store: &mut MemStore,
+    line: &Line,
+    answers: &mut Answers<'_, W>,
+) -> Result<Option<Leave>, Stop>
+    requires sound { IsWithinLimits line.now }
+    requires file { IsOfFiles (length (reads_of store.old)) line.now }
+    ensures name { answers.new.writer.ghost_name ≡ answers.old.writer.ghost_name }
+    ensures does { DoesAlone line.now store.old store.new result (λ text. Appends (W.contents answers.old.writer.now) (W.contents answers.new.writer.now) text) }
+{
+    match run_store_line(alloc, store, line, &mut *answers) {
+        Ok(()) => Ok(None),
+        Err(fault) => Err(Stop::Failed(fault)),
+    }
+}
+
+/// What comes of a line whose port was run.
+fn ended(left: Result<Option<Leave>, SimFault>) -> Result<Option<Leave>, Stop>
+    ensures { result ≡ ended_so left }
+{
+    match left {
+        Ok(leave) => Ok(leave),
+        Err(fault) => Err(Stop::Failed(fault)),
+    }
+}
+
+/// Makes a file port over a blank store, and runs lines until it is given up.
+fn create_file<R: BufRead, W: Write>(
+    alloc: Global,
+    store: &mut MemStore,
+    limit: u64,
+    script: &mut Script<'_, R>,
+    answers: &mut Answers<'_, W>,
+) -> Result<Option<Leave>, Stop>
+    ensures name { answers.new.writer.ghost_name ≡ answers.old.writer.ghost_name }
+    ensures of_desk { script.new.is_of_desk ≡ script.old.is_of_desk }
+    ensures reader { script.new.reader.ghost_name ≡ script.old.reader.ghost_name }
+    ensures comes { let over = stretch script.old.is_of_desk (progress script.old.number (R.remaining script.old.reader.now)) (progress script.new.number (R.remaining script.new.reader.now)) in
+        ComesOf Created File store.old store.new over result (λ text. Appends (W.contents answers.old.writer.now) (W.contents answers.new.writer.now) text) }
+{
+    match begin_create(alloc, &mut *store, limit) {
+        Ok(opening) => {
+            let left = hold_file(
+                alloc,
+                &mut *store,
+                opening,
+                Origin::Created,
+                script,
+                &mut *answers,
+            );
+            ended(left)
+        }
+        Err(fault) => Err(Stop::Refused(Refusal::Create(fault))),
+    }
+}
+
+/// Makes a file port that goes on with the trace that is there, and runs lines until it is given up.
+fn resume_file<R: BufRead, W: Write>(
+    alloc: Global,
+    store: &mut MemStore,
+    limit: u64,
+    script: &mut Script<'_, R>,
+    answers: &mut Answers<'_, W>,
+) -> Result<Option<Leave>, Stop>
+    ensures name { answers.new.writer.ghost_name ≡ answers.old.writer.ghost_name }
+    ensures of_desk { script.new.is_of_desk ≡ script.old.is_of_desk }
+    ensures reader { script.new.reader.ghost_name ≡ script.old.reader.ghost_name }
+    ensures comes { let over = stretch script.old.is_of_desk (progress script.old.number (R.remaining script.old.reader.now)) (progress script.new.number (R.remaining script.new.reader.now)) in
+        ComesOf Resumed File store.old store.new over result (λ text. Appends (W.contents answers.old.writer.now) (W.contents answers.new.writer.now) text) }
+{
+    match begin_resume(alloc, &mut *store, limit) {
+        Ok(opening) => {
+            let left = hold_file(
+                alloc,
+                &mut *store,
+                opening,
+                Origin::Resumed,
+                script,
+                &mut *answers,
+            );
+            ended(left)
+        }
+        Err(fault) => Err(Stop::Refused(Refusal::Resume(fault))),
+    }
+}
+
+/// Makes a wrap port that goes on with the trace that is there, and runs lines until it is given up.
+fn resume_wrap<R: BufRead, W: Write>(
+    alloc: Global,
+    store: &mut MemStore,
+    script: &mut Script<'_, R>,
+    answers: &mut Answers<'_, W>,
+) -> Result<Option<Leave>, Stop>
+    ensures name { answers.new.writer.ghost_name ≡ answers.old.writer.ghost_name }
+    ensures of_desk { script.new.is_of_desk ≡ script.old.is_of_desk }
+    ensures reader { script.new.reader.ghost_name ≡ script.old.reader.ghost_name }
+    ensures comes { let over = stretch script.old.is_of_desk (progress script.old.number (R.remaining script.old.reader.now)) (progress script.new.number (R.remaining script.new.reader.now)) in
+        (spec : Spec) → ComesOf Resumed spec store.old store.new over result (λ text. Appends (W.contents answers.old.writer.now) (W.contents answers.new.writer.now) text) }
+{
+    match wrap_port::begin_resume(alloc, &mut *store) {
+        Ok(opening) => {
+            let left = hold_wrap(
+                alloc,
+                &mut *store,
+                opening,
+                Origin::Resumed,
+                script,
+                &mut *answers,
+            );
+            ended(left)
+        }
+        Err(fault) => Err(Stop::Refused(Refusal::Resume(fault))),
+    }
+}
+
+/// Makes a wrap port over a blank store, and runs lines until it is given up.
+fn create_wrap<R: BufRead, W: Write>(
+    alloc: Global,
+    store: &mut MemStore,
+    spec: WrapSpec,
+    script: &mut Script<'_, R>,
+    answers: &mut Answers<'_, W>,
+) -> Result<Option<Leave>, Stop>
+    ensures name { answers.new.writer.ghost_name ≡ answers.old.writer.ghost_name }
+    ensures of_desk { script.new.is_of_desk ≡ script.old.is_of_desk }
+    ensures reader { script.new.reader.ghost_name ≡ script.old.reader.ghost_name }
+    ensures comes { let over = stretch script.old.is_of_desk (progress script.old.number (R.remaining script.old.reader.now)) (progress script.new.number (R.remaining script.new.reader.now)) in
+        ComesOf Created (wrap_seen spec) store.old store.new over result (λ text. Appends (W.contents answers.old.writer.now) (W.contents answers.new.writer.now) text) }
+{
+    match wrap_port::begin_create(alloc, &mut *store, spec) {
+        Ok(opening) => {
+            let left = hold_wrap(
+                alloc,
+                &mut *store,
+                opening,
+                Origin::Created,
+                script,
+                &mut *answers,
+            );
+            ended(left)
+        }
+        Err(fault) => Err(Stop::Refused(Refusal::Create(fault))),
+    }
+}
+
+/// Runs a line that makes no port.
+fn run_store_line<W: Write>(
+    alloc: Global,
+    store: &mut MemStore,
+    line: &Line,
+    answers: &mut Answers<'_, W>,
+) -> Result<(), SimFault>
+    requires sound { IsWithinLimits line.now }
+    requires file { IsOfFiles (length (reads_of store.old)) line.now }
+    ensures name { answers.new.writer.ghost_name ≡ answers.old.writer.ghost_name }
+    ensures does { OnOk result ((text : List ℕ) × Does store.old store.new line.now text × Appends (W.contents answers.old.writer.now) (W.contents answers.new.writer.now) text) }
+{
+    match line {
+        Line::Store(files) => answers.tell(set_store(alloc, store, *files)),
+        Line::Bytes(file, bytes) => answers.tell(set_bytes(alloc, store, *file, bytes)),
+        Line::Fuse(calls) => answers.tell(set_fuse(store, *calls)),
+        Line::FailOnce(calls) => answers.tell(set_fail_once(store, *calls)),
+        Line::Crash(unsynced) => crash(store, *unsynced, answers),
+        Line::Files => list_files(store, answers),
+        Line::List => list(alloc, store, answers),
+        Line::Wipe => answers.tell(cleared(store)),
+        _ => answers.tell(Answer::OutOfOrder),
+    }
+}
+
+/// Closes each open file for good.
+fn cleared(store: &mut MemStore) -> Answer
+    ensures { Does store.old store.new lines.Wipe (line_of result) }
+{
+    match wipe(store) {
+        Ok(()) => Answer::Done,
+        Err(DeviceFault) => Answer::Refused(Refusal::Device),
+    }
+}
+
+/// Puts a blank store in the place of this one.
+fn set_store(alloc: Global, store: &mut MemStore, files: u32) -> Answer
+    requires { (1 ≤ files) × (files ≤ 1001) }
+    ensures { Does store.old store.new (lines.Store files) (line_of result) }
+{
+    match MemStore::blank(alloc, files) {
+        Ok(blank) => {
+            *store = blank;
+            Answer::Done
+        }
+        Err(_) => Answer::Refused(Refusal::NoMemory),
+    }
+}
+
+/// Puts a store in the place of this one, in which this file holds these bytes.
+fn set_bytes(alloc: Global, store: &mut MemStore, file: u32, bytes: &Vec<u8>) -> Answer
+    requires { file < length (reads_of store.old) }
+    ensures { Does store.old store.new (lines.Bytes file bytes.now) (line_of result) }
+{
+    match with_bytes(alloc, &mut *store, file, bytes) {
+        Ok(changed) => {
+            *store = changed;
+            Answer::Done
+        }
+        Err(refusal) => Answer::Refused(refusal),
+    }
+}
+
+/// Lets the store's device calls fail after so many.
+fn set_fuse(store: &mut MemStore, calls: u64) -> Answer
+    ensures { Does store.old store.new (lines.Fuse calls) (line_of result) }
+{
+    store.fuse(calls);
+    Answer::Done
+}
+
+/// Lets one of the store's device calls fail, after so many.
+fn set_fail_once(store: &mut MemStore, calls: u64) -> Answer
+    ensures { Does store.old store.new (lines.FailOnce calls) (line_of result) }
+{
+    store.fail_once(calls);
+    Answer::Done
+}
+
+/// Answers how a line's port was left, which has been dropped, or why there is none.
+fn finish<W: Write>(
+    store: &mut MemStore,
+    left: Result<Option<Leave>, Stop>,
+    answers: &mut Answers<'_, W>,
+) -> Result<(), SimFault>
+    ensures name { answers.new.writer.ghost_name ≡ answers.old.writer.ghost_name }
+    ensures over { OnOk result ((text : List ℕ) × IsOver left store.old store.new text × Appends (W.contents answers.old.writer.now) (W.contents answers.new.writer.now) text) }
+    ensures fault { IfErr result (IsItsFault left) }
+{
+    match left {
+        Ok(Some(Leave::Abandoned)) => answers.tell(Answer::Done),
+        Ok(Some(Leave::Closed)) => answers.tell(Answer::Closed),
+        Ok(Some(Leave::Crashed(unsynced))) => crash(store, unsynced, answers),
+        Ok(None) => Ok(()),
+        Err(Stop::Refused(refusal)) => answers.tell(Answer::Refused(refusal)),
+        Err(Stop::Failed(fault)) => Err(fault),
+    }
+}
+
+/// Leaves one of the images that a crash may leave, with nothing unsynced and no fuse.
+fn crashed(store: &mut MemStore, unsynced: Unsynced) -> Answer
+    ensures { Crashes unsynced store.old store.new (line_of result) }
+{
+    match store.crash(Pick::from(unsynced)) {
+        Ok(()) => Answer::Done,
+        Err(fault) => Answer::Refused(Refusal::Crash(fault)),
+    }
+}
+
+/// Crashes the store, and answers of that.
+fn crash<W: Write>(
+    store: &mut MemStore,
+    unsynced: Unsynced,
+    answers: &mut Answers<'_, W>,
+) -> Result<(), SimFault>
+    ensures name { answers.new.writer.ghost_name ≡ answers.old.writer.ghost_name }
+    ensures crashes { OnOk result ((text : List ℕ) × Crashes unsynced store.old store.new text × Appends (W.contents answers.old.writer.now) (W.contents answers.new.writer.now) text) }
+    ensures fault { IfErr result (λ fault. fault ≡ faults.Write) }
+{
+    answers.tell(crashed(store, unsynced))
+}

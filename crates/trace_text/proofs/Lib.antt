@@ -1,0 +1,17 @@
+pub mod Digits
+pub mod SpelledLemmas
+pub mod Telling
+pub mod WholeDecimal
+pub mod AnyLemmas
+pub mod LeafLemmas
+pub mod SightLemmas
+pub mod KindFinding
+pub mod OtherTags
+pub mod PlainWords
+pub mod BigLemmas
+pub mod AnyAgain
+pub mod LeafSound
+pub mod AnySound
+pub mod PrettyTelling
+pub mod OnePretty
+pub mod SubsetLemmas

@@ -1,0 +1,17 @@
+pub mod AtomText
+pub mod TermText
+pub mod PlainLines
+pub mod Lines
+pub mod Spelled
+pub mod AnyTerm
+pub mod SpellsAny
+pub mod AnyReading
+pub mod Pretty
+pub mod PrettyWords
+pub mod Sights
+pub mod Printed
+pub mod BigText
+pub mod Manners
+pub mod PrettyKinds
+pub mod PrettyLines
+pub mod Subset
