@@ -19,6 +19,16 @@ pub struct Choice<'a> {
 }
 
 impl Choice<'_> {
+    /// Every line.
+    pub const ALL: Choice<'static> = Choice {
+        from: None,
+        to: None,
+        kinds: None,
+        pid: None,
+    };
+}
+
+impl Choice<'_> {
     ghost use Rattle.chosen_lines.specs.Lets.{lets, is_from, is_to, is_of_kinds, is_of_pid};
     ghost use Rattle.chosen_lines.specs.Asks.{asks_of};
 

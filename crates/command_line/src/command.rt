@@ -1,9 +1,12 @@
 // The words of a command line, and what they ask for.
+ghost use Rattle.std.specs.Prelude.{◌≡◌, IfOk};
 
+use crate::kind::{Listing, kind_named};
 use crate::request::{
     Asked, Ending, Flushing, Misuse, Request, Rules, Shape, TraceRequest, Wanted,
 };
 use crate::size::bytes_in;
+use chosen_lines::Choice;
 use clap::{Arg, ArgAction, ArgMatches, Command, value_parser};
 use std::alloc::{AllocError, Global};
 use std::convert::AsStr;
@@ -167,14 +170,62 @@ fn pretty<'a>(alloc: Global) -> Arg<'a> {
     .short('p')
 }
 
+fn from<'a>(alloc: Global) -> Arg<'a> {
+    option(
+        alloc,
+        "from",
+        "N",
+        "Shows no entry before the one of this number",
+    )
+    .value_parser(value_parser!(u64))
+}
+
+fn to<'a>(alloc: Global) -> Arg<'a> {
+    option(
+        alloc,
+        "to",
+        "N",
+        "Shows no entry after the one of this number",
+    )
+    .value_parser(value_parser!(u64))
+}
+
+fn only<'a>(alloc: Global) -> Arg<'a> {
+    option(
+        alloc,
+        "only",
+        "KIND[,KIND..]",
+        "Shows the entries of these kinds",
+    )
+}
+
+fn pid<'a>(alloc: Global) -> Arg<'a> {
+    option(
+        alloc,
+        "pid",
+        "PID",
+        "Shows what this process did, of the text that a listing has for it, with or without < and >",
+    )
+}
+
+/// A listing, and the options that choose its lines.
+fn with_choice<'a>(alloc: Global, command: Command<'a>) -> Result<Command<'a>, AllocError> {
+    command
+        .arg(pretty(alloc))?
+        .arg(from(alloc))?
+        .arg(to(alloc))?
+        .arg(only(alloc))?
+        .arg(pid(alloc))
+}
+
 fn list<'a>(alloc: Global) -> Result<Command<'a>, AllocError> {
-    of_files(
+    let command = of_files(
         alloc,
         "list",
         "Lists a stored trace on standard output",
-        "Example: dbgrec list -p trace",
-    )?
-    .arg(pretty(alloc))
+        "With --from, --to, --only or --pid it shows the entries of which all of these hold, each with its number, and all drop records.\n\nExample: dbgrec list -p trace",
+    )?;
+    with_choice(alloc, command)
 }
 
 fn export<'a>(alloc: Global) -> Result<Command<'a>, AllocError> {
@@ -197,12 +248,12 @@ fn wipe<'a>(alloc: Global) -> Result<Command<'a>, AllocError> {
 }
 
 fn stream<'a>(alloc: Global) -> Result<Command<'a>, AllocError> {
-    Command::new(alloc, "stream")
+    let command = Command::new(alloc, "stream")
         .about(
             "Lists an entry stream from standard input on standard output, each line as it comes",
         )
-        .after_help("Example: nc HOST 4711 | dbgrec stream -p")
-        .arg(pretty(alloc))
+        .after_help("Example: nc HOST 4711 | dbgrec stream -p");
+    with_choice(alloc, command)
 }
 
 fn sim<'a>(alloc: Global) -> Command<'a> {
@@ -276,6 +327,35 @@ fn rules_in(matches: &ArgMatches<'_>) -> Rules {
     Rules { flushing, ending }
 }
 
+/// The kinds that are shown, if each word is one that a listing of this style may have.
+fn kinds_in<'a>(text: &'a str, is_pretty: bool) -> Result<&'a str, Misuse<'a>>
+    ensures { IfOk result (λ kinds. kinds.now ≡ text.entry.now) }
+{
+    for word in text.split(',') {
+        match kind_named(word) {
+            None => return Err(Misuse::Kind(word)),
+            Some(Listing::Pretty) if !is_pretty => return Err(Misuse::PrettyKind(word)),
+            Some(_) => {}
+        }
+    }
+    Ok(text)
+}
+
+/// Which lines of a listing are shown; None stands for all.
+fn choice_in<'a>(matches: &ArgMatches<'a>) -> Result<Option<Choice<'a>>, Misuse<'a>> {
+    let kinds = match matches.get_str("only") {
+        None => None,
+        Some(text) => Some(kinds_in(text, matches.get_flag("pretty"))?),
+    };
+    let choice = Choice {
+        from: matches.get_one::<u64>("from"),
+        to: matches.get_one::<u64>("to"),
+        kinds,
+        pid: matches.get_str("pid"),
+    };
+    Ok(if choice == Choice::ALL { None } else { Some(choice) })
+}
+
 /// What a subcommand of this name asks of a stored trace, if it is one for that.
 fn trace_request_in<'a>(
     name: &str,
@@ -306,9 +386,13 @@ fn request_in<'a>(matches: &ArgMatches<'a>) -> Result<Request<'a>, Misuse<'a>> {
         return Ok(Request::Sim);
     };
     Ok(match trace_request_in(name, matches)? {
-        Some(asked) => Request::OfTrace(asked),
+        Some(request) => Request::OfTrace {
+            request,
+            choice: if name == "list" { choice_in(matches)? } else { None },
+        },
         None if name == "stream" => Request::Stream {
             is_pretty: matches.get_flag("pretty"),
+            choice: choice_in(matches)?,
         },
         None => Request::Sim,
     })
