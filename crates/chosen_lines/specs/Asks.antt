@@ -3,12 +3,14 @@ use Rattle.std.specs.Prelude.{ℕ, Option, List}
 use Rattle.std.specs.Option.{option_map}
 use Rattle.chosen_lines.specs.declared.choice.Choice.{Choice}
 
--- the numbers of the first and of the last entry, words for kinds with commas between them, and a traced process, each where it is asked for
+-- the numbers of the first and of the last entry, words for kinds with commas between them, a traced process and a function's module and name, each where it is asked for
 pub record Asks : Type 0 where
   pub from : Option ℕ
   pub to : Option ℕ
   pub kinds : Option (List ℕ)
   pub pid : Option (List ℕ)
+  pub of_module : Option (List ℕ)
+  pub of_name : Option (List ℕ)
 
 abbrev pub asks_of : Choice → Asks
 asks_of choice = record {
@@ -16,4 +18,6 @@ asks_of choice = record {
   to = choice.to;
   kinds = option_map (λ text. text.now) choice.kinds;
   pid = option_map (λ text. text.now) choice.pid;
+  of_module = option_map (λ text. text.now) choice.module;
+  of_name = option_map (λ text. text.now) choice.name;
 }

@@ -5,7 +5,7 @@ use Rattle.std.specs.Option.{option_and_then}
 use Rattle.std.specs.Str.{bytes_eq}
 use Rattle.chosen_lines.specs.declared.choice.Choice.{Choice}
 use Rattle.chosen_lines.specs.Asks.{Asks, asks_of}
-use Rattle.chosen_lines.specs.Members.{members_of, after_pid, after_bare_pid}
+use Rattle.chosen_lines.specs.Members.{members_of, after_pid, after_atom, function_of}
 use Rattle.chosen_lines.specs.Words.{first_word, after_word, number_told}
 
 -- the parts of an entry's line: `NUMBER KIND TOLD`
@@ -36,11 +36,21 @@ is_of_kinds (Some words) kind = list_any (λ word. bytes_eq word kind) (slice_sp
 -- what is told is of the process of this text, which may lack its angle brackets
 abbrev pub is_of_pid : Option (List ℕ) → List ℕ → Bool
 is_of_pid None told = true
-is_of_pid (Some pid) told = is_some (option_and_then (after_pid pid) (members_of told)) || is_some (option_and_then (after_bare_pid pid) (members_of told))
+is_of_pid (Some pid) told = is_some (option_and_then (after_pid pid) (members_of told))
+
+-- what stands after the name, where one is asked for
+abbrev pub after_name : Option (List ℕ) → List ℕ → Option (List ℕ)
+after_name None rest = Some rest
+after_name (Some name) rest = after_atom name rest
+
+-- a function of this module, and of this name, is told to be called or returned from; each of these texts may lack its quotes
+abbrev pub is_of_function : Option (List ℕ) → Option (List ℕ) → List ℕ → Bool
+is_of_function None name told = true
+is_of_function (Some wanted) name told = is_some (option_and_then (after_name name) (option_and_then (after_atom wanted) (option_and_then function_of (members_of told))))
 
 -- the line of an entry is let through where it is of a drop record, or all that is asked for is so
 abbrev pub lets_entry : Asks → ℕ → List ℕ → List ℕ → Bool
-lets_entry asks number kind told = bytes_eq kind (codes "drop") || (is_from asks.from number && (is_to asks.to number && (is_of_kinds asks.kinds kind && is_of_pid asks.pid told)))
+lets_entry asks number kind told = bytes_eq kind (codes "drop") || (is_from asks.from number && (is_to asks.to number && (is_of_kinds asks.kinds kind && (is_of_pid asks.pid told && is_of_function asks.of_module asks.of_name told))))
 
 -- a line that has no number is no entry's, and let through
 abbrev pub lets_line : Asks → Option ℕ → List ℕ → Bool

@@ -2,7 +2,7 @@
 ghost use Rattle.std.specs.Prelude.{◌≡◌, ◌&&◌, Some};
 ghost use Rattle.chosen_lines.specs.Lets.{is_of_kinds, is_of_pid};
 
-use crate::members::{after_bare_pid, after_pid, members_of};
+use crate::members::{after_atom, after_pid, function_of, members_of};
 use crate::words::{cut_word, number_told};
 
 /// Which lines of a listing are to be shown: those that all of this holds of; None stands for what isn't asked for.
@@ -16,6 +16,10 @@ pub struct Choice<'a> {
     pub kinds: Option<&'a str>,
     /// The traced process, as a listing shows it, with or without its angle brackets.
     pub pid: Option<&'a str>,
+    /// The module of a function that is called or returned from, with or without quotes.
+    pub module: Option<&'a str>,
+    /// Its name, where the module is asked for.
+    pub name: Option<&'a str>,
 }
 
 impl Choice<'_> {
@@ -25,11 +29,15 @@ impl Choice<'_> {
         to: None,
         kinds: None,
         pid: None,
+        module: None,
+        name: None,
     };
 }
 
 impl Choice<'_> {
-    ghost use Rattle.chosen_lines.specs.Lets.{lets, is_from, is_to, is_of_kinds, is_of_pid};
+    ghost use Rattle.chosen_lines.specs.Lets.{lets, is_from, is_to, is_of_kinds, is_of_pid, is_of_function, after_name};
+    ghost use Rattle.chosen_lines.specs.Members.{members_of, after_atom, function_of};
+    ghost use Rattle.std.specs.Option.{option_copied, option_and_then};
     ghost use Rattle.chosen_lines.specs.Asks.{asks_of};
 
     /// Whether a line, without its line feed, is to be shown. A line that isn't of an entry is, and so is that of a drop record.
@@ -42,7 +50,7 @@ impl Choice<'_> {
             return true;
         };
         let (kind, told) = cut_word(rest);
-        kind == b"drop".as_slice() || self.has_number(number) && self.has_kind(kind) && self.has_pid(told)
+        kind == b"drop".as_slice() || self.has_number(number) && self.has_kind(kind) && self.has_pid(told) && self.has_function(told)
     }
 
     fn has_number(&self, number: u64) -> bool
@@ -68,6 +76,26 @@ impl Choice<'_> {
             None => true,
         }
     }
+
+    fn has_function(&self, told: &[u8]) -> bool
+        ensures { result ≡ is_of_function (asks_of self.now).of_module (asks_of self.now).of_name told.now }
+    {
+        match self.module {
+            Some(module) => self.after_function(module.as_bytes(), told).is_some(),
+            None => true,
+        }
+    }
+
+    /// What stands after the function of this module, where it is as it is asked for.
+    fn after_function<'a>(&self, module: &[u8], told: &'a [u8]) -> Option<&'a [u8]>
+        ensures { option_copied result ≡ option_and_then (after_name (asks_of self.now).of_name) (option_and_then (after_atom module.now) (option_and_then function_of (members_of told.now))) }
+    {
+        let rest = after_atom(module, function_of(members_of(told)?)?)?;
+        match self.name {
+            Some(name) => after_atom(name.as_bytes(), rest),
+            None => Some(rest),
+        }
+    }
 }
 
 /// Whether a word is one of those that have commas between them.
@@ -82,7 +110,7 @@ fn is_of_pid(pid: &[u8], told: &[u8]) -> bool
     ensures { result ≡ is_of_pid (Some pid.now) told.now }
 {
     match members_of(told) {
-        Some(members) => after_pid(pid, members).is_some() || after_bare_pid(pid, members).is_some(),
+        Some(members) => after_pid(pid, members).is_some(),
         None => false,
     }
 }
