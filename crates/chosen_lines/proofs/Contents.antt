@@ -12,7 +12,7 @@ use Rattle.chosen_lines.specs.Sifted.{counted, after_counted, numbers_of, sieve_
 use Rattle.chosen_lines.proofs.Holding.{with_more}
 use Rattle.chosen_lines.proofs.WordLemmas.{position-is}
 
-counted-append : (parts : List (Option (List ℕ))) (text more : List ℕ) → after_counted parts (text ++ more) ≡ after_counted parts text ++ more
+pub counted-append : (parts : List (Option (List ℕ))) (text more : List ℕ) → after_counted parts (text ++ more) ≡ after_counted parts text ++ more
 counted-append [] text more = refl
 counted-append (one ∷ parts) text more = ap (λ rest. counted one ++ rest) (counted-append parts text more) ∙ sym (append_assoc (counted one) (after_counted parts text) more)
 

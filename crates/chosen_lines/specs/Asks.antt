@@ -3,7 +3,7 @@ use Rattle.std.specs.Prelude.{ℕ, Option, List}
 use Rattle.std.specs.Option.{option_map}
 use Rattle.chosen_lines.specs.declared.choice.Choice.{Choice}
 
--- the numbers of the first and of the last entry, words for kinds with commas between them, a traced process and a function's module and name, each where it is asked for
+-- the numbers of the first and of the last entry, words for kinds with commas between them, a traced process and a function's module, name and number of arguments, each where it is asked for
 pub record Asks : Type 0 where
   pub from : Option ℕ
   pub to : Option ℕ
@@ -11,6 +11,7 @@ pub record Asks : Type 0 where
   pub pid : Option (List ℕ)
   pub of_module : Option (List ℕ)
   pub of_name : Option (List ℕ)
+  pub of_arity : Option ℕ
 
 abbrev pub asks_of : Choice → Asks
 asks_of choice = record {
@@ -20,4 +21,5 @@ asks_of choice = record {
   pid = option_map (λ text. text.now) choice.pid;
   of_module = option_map (λ text. text.now) choice.module;
   of_name = option_map (λ text. text.now) choice.name;
+  of_arity = choice.arity;
 }

@@ -18,7 +18,7 @@ only number = number ∷ []
 
 -- what a choice asks, as numbers
 abbrev pub numbers_of : Asks → List (Option (List ℕ))
-numbers_of asks = option_map only asks.from ∷ option_map only asks.to ∷ asks.kinds ∷ asks.pid ∷ asks.of_module ∷ asks.of_name ∷ []
+numbers_of asks = option_map only asks.from ∷ option_map only asks.to ∷ asks.kinds ∷ asks.pid ∷ asks.of_module ∷ asks.of_name ∷ option_map only asks.of_arity ∷ []
 
 -- what the sieve was made of, which stays: the known bytes of the writer below, and the choice; and then what it was given
 unfoldable pub sieve_contents : Asks → Option (List ℕ) → List ℕ → Option (List ℕ)

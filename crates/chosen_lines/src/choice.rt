@@ -1,7 +1,8 @@
 // Which lines are shown.
 ghost use Rattle.std.specs.Prelude.{◌≡◌, ◌&&◌, Some};
-ghost use Rattle.chosen_lines.specs.Lets.{is_of_kinds, is_of_pid};
+ghost use Rattle.chosen_lines.specs.Lets.{is_of_kinds, is_of_pid, is_of_call, is_number};
 
+use crate::counts::arity_told;
 use crate::members::{after_atom, after_pid, function_of, members_of};
 use crate::words::{cut_word, number_told};
 
@@ -20,6 +21,8 @@ pub struct Choice<'a> {
     pub module: Option<&'a str>,
     /// Its name, where the module is asked for.
     pub name: Option<&'a str>,
+    /// The number of its arguments, where the name is asked for.
+    pub arity: Option<u64>,
 }
 
 impl Choice<'_> {
@@ -31,13 +34,13 @@ impl Choice<'_> {
         pid: None,
         module: None,
         name: None,
+        arity: None,
     };
 }
 
 impl Choice<'_> {
-    ghost use Rattle.chosen_lines.specs.Lets.{lets, is_from, is_to, is_of_kinds, is_of_pid, is_of_function, after_name};
-    ghost use Rattle.chosen_lines.specs.Members.{members_of, after_atom, function_of};
-    ghost use Rattle.std.specs.Option.{option_copied, option_and_then};
+    ghost use Rattle.chosen_lines.specs.Lets.{lets, is_from, is_to, is_of_kinds, is_of_pid, is_of_function, after_function, is_of_arity};
+    ghost use Rattle.std.specs.Option.{option_copied};
     ghost use Rattle.chosen_lines.specs.Asks.{asks_of};
 
     /// Whether a line, without its line feed, is to be shown. A line that isn't of an entry is, and so is that of a drop record.
@@ -50,7 +53,7 @@ impl Choice<'_> {
             return true;
         };
         let (kind, told) = cut_word(rest);
-        kind == b"drop".as_slice() || self.has_number(number) && self.has_kind(kind) && self.has_pid(told) && self.has_function(told)
+        kind == b"drop".as_slice() || self.has_number(number) && self.has_kind(kind) && self.has_pid(told) && self.has_function(kind, told)
     }
 
     fn has_number(&self, number: u64) -> bool
@@ -77,24 +80,58 @@ impl Choice<'_> {
         }
     }
 
-    fn has_function(&self, told: &[u8]) -> bool
-        ensures { result ≡ is_of_function (asks_of self.now).of_module (asks_of self.now).of_name told.now }
+    fn has_function(&self, kind: &[u8], told: &[u8]) -> bool
+        ensures { result ≡ is_of_function (asks_of self.now) (asks_of self.now).of_module kind.now told.now }
     {
         match self.module {
-            Some(module) => self.after_function(module.as_bytes(), told).is_some(),
+            Some(wanted) => is_of_call(kind) && self.tells_function(wanted.as_bytes(), told),
             None => true,
         }
     }
 
-    /// What stands after the function of this module, where it is as it is asked for.
-    fn after_function<'a>(&self, module: &[u8], told: &'a [u8]) -> Option<&'a [u8]>
-        ensures { option_copied result ≡ option_and_then (after_name (asks_of self.now).of_name) (option_and_then (after_atom module.now) (option_and_then function_of (members_of told.now))) }
+    fn tells_function(&self, wanted: &[u8], told: &[u8]) -> bool
+        ensures { result ≡ is_of_arity (asks_of self.now).of_arity (after_function wanted.now (asks_of self.now).of_name told.now) }
     {
-        let rest = after_atom(module, function_of(members_of(told)?)?)?;
+        match self.after_function(wanted, told) {
+            Some(rest) => self.has_arity(rest),
+            None => false,
+        }
+    }
+
+    /// What stands after the function's module and name, where they are as they are asked for.
+    fn after_function<'a>(&self, wanted: &[u8], told: &'a [u8]) -> Option<&'a [u8]>
+        ensures { option_copied result ≡ after_function wanted.now (asks_of self.now).of_name told.now }
+    {
+        let rest = after_atom(wanted, function_of(members_of(told)?)?)?;
         match self.name {
             Some(name) => after_atom(name.as_bytes(), rest),
             None => Some(rest),
         }
+    }
+
+    fn has_arity(&self, rest: &[u8]) -> bool
+        ensures { result ≡ is_of_arity (asks_of self.now).of_arity (Some rest.now) }
+    {
+        match self.arity {
+            Some(arity) => is_number(arity, arity_told(rest)),
+            None => true,
+        }
+    }
+}
+
+/// Whether a kind tells of a function.
+fn is_of_call(kind: &[u8]) -> bool
+    ensures { result ≡ is_of_call kind.now }
+{
+    kind == b"call".as_slice() || kind == b"return".as_slice() || kind == b"exception".as_slice()
+}
+
+fn is_number(wanted: u64, told: Option<u64>) -> bool
+    ensures { result ≡ is_number wanted told }
+{
+    match told {
+        Some(number) => number == wanted,
+        None => false,
     }
 }
 

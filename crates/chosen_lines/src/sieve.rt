@@ -25,6 +25,8 @@ pub struct Sieve<'c, W: Write> {
     pub line: Vec<u8>,
     /// How many bytes of that line are handed on, once it is known that it is to be.
     pub sent: usize,
+    /// A line had no memory.
+    pub is_refused: bool,
     pub given: Given,
     pub ghost part: { line.items ≡ rest_after [] given.bytes },
     pub ghost within: { sent ≤ vec_len line },
@@ -45,6 +47,7 @@ impl<'c, W: Write> Sieve<'c, W> {
             out,
             line: Vec::new(alloc),
             sent: 0,
+            is_refused: false,
             given: Given::new(),
         }
     }
@@ -63,6 +66,7 @@ impl<W: Write> Sieve<'_, W> {
             return Err(io::Error::from(ErrorKind::InvalidInput));
         }
         if self.line.extend_from_slice(part).is_err() {
+            self.is_refused = true;
             return Err(io::Error::from(ErrorKind::OutOfMemory));
         }
         self.given.note(part);

@@ -1,6 +1,7 @@
 // The words of a command line, and what they ask for.
 ghost use Rattle.std.specs.Prelude.{◌≡◌, IfOk};
 
+use crate::function::{Function, function_in};
 use crate::kind::{Listing, kind_named};
 use crate::request::{
     Asked, Ending, Flushing, Misuse, Request, Rules, Shape, TraceRequest, Wanted,
@@ -208,6 +209,15 @@ fn pid<'a>(alloc: Global) -> Arg<'a> {
     )
 }
 
+fn mfa<'a>(alloc: Global) -> Arg<'a> {
+    option(
+        alloc,
+        "mfa",
+        "M[:F[/A]]",
+        "Shows calls of these functions, and what they return or raise",
+    )
+}
+
 /// A listing, and the options that choose its lines.
 fn with_choice<'a>(alloc: Global, command: Command<'a>) -> Result<Command<'a>, AllocError> {
     command
@@ -215,7 +225,8 @@ fn with_choice<'a>(alloc: Global, command: Command<'a>) -> Result<Command<'a>, A
         .arg(from(alloc))?
         .arg(to(alloc))?
         .arg(only(alloc))?
-        .arg(pid(alloc))
+        .arg(pid(alloc))?
+        .arg(mfa(alloc))
 }
 
 fn list<'a>(alloc: Global) -> Result<Command<'a>, AllocError> {
@@ -223,7 +234,7 @@ fn list<'a>(alloc: Global) -> Result<Command<'a>, AllocError> {
         alloc,
         "list",
         "Lists a stored trace on standard output",
-        "With --from, --to, --only or --pid it shows the entries of which all of these hold, each with its number, and all drop records.\n\nExample: dbgrec list -p trace",
+        "With --from, --to, --only, --pid or --mfa it shows the entries of which all of these hold, each with its number, and all drop records.\n\nExample: dbgrec list -p trace",
     )?;
     with_choice(alloc, command)
 }
@@ -341,8 +352,20 @@ fn kinds_in<'a>(text: &'a str, is_pretty: bool) -> Result<&'a str, Misuse<'a>>
     Ok(text)
 }
 
+/// The functions that are shown, where not all are.
+fn function_asked<'a>(matches: &ArgMatches<'a>) -> Result<Option<Function<'a>>, Misuse<'a>> {
+    match matches.get_str("mfa") {
+        None => Ok(None),
+        Some(text) => match function_in(text) {
+            None => Err(Misuse::Function(text)),
+            found => Ok(found),
+        },
+    }
+}
+
 /// Which lines of a listing are shown; None stands for all.
 fn choice_in<'a>(matches: &ArgMatches<'a>) -> Result<Option<Choice<'a>>, Misuse<'a>> {
+    let function = function_asked(matches)?;
     let kinds = match matches.get_str("only") {
         None => None,
         Some(text) => Some(kinds_in(text, matches.get_flag("pretty"))?),
@@ -352,6 +375,9 @@ fn choice_in<'a>(matches: &ArgMatches<'a>) -> Result<Option<Choice<'a>>, Misuse<
         to: matches.get_one::<u64>("to"),
         kinds,
         pid: matches.get_str("pid"),
+        module: function.map(|function| function.module),
+        name: function.and_then(|function| function.name),
+        arity: function.and_then(|function| function.arity),
     };
     Ok(if choice == Choice::ALL { None } else { Some(choice) })
 }

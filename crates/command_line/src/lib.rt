@@ -2,6 +2,7 @@
 #![tactic(auto)]
 
 mod command;
+mod function;
 mod kind;
 mod request;
 mod size;

@@ -117,6 +117,8 @@ pub enum Misuse<'a> {
     Kind(&'a str),
     /// A word of `--only` that is a kind with `--pretty` alone.
     PrettyKind(&'a str),
+    /// The value of `--mfa`.
+    Function(&'a str),
 }
 
 impl From<Error> for Misuse<'_> {
