@@ -41,6 +41,7 @@ impl<'c, W: Write> Sieve<'c, W> {
         requires { start ≡ W.contents out }
         ensures start { result.given.start ≡ W.contents out }
         ensures none { result.given.bytes ≡ [] }
+        ensures choice { result.choice ≡ choice.entry }
     {
         Sieve {
             choice,
@@ -90,7 +91,7 @@ impl<W: Write> Sieve<'_, W> {
         Ok(())
     }
 
-    /// Hands on the line feed behind a line that is handed on.
+    /// Hands on the line feed after a line that is handed on.
     fn send_feed(&mut self) -> io::Result<()>
         requires sent { self.old.sent ≡ vec_len self.old.line }
         requires chosen { lets self.old.choice self.old.line.items ≡ true }
