@@ -1,5 +1,5 @@
 -- What a choice asks of a line.
-use Rattle.std.specs.Prelude.{ℕ, Option, List}
+use Rattle.std.specs.Prelude.{ℕ, Bool, Option, List, ◌&&◌, is_none, string_bytes}
 use Rattle.std.specs.Option.{option_map}
 use Rattle.chosen_lines.specs.declared.choice.Choice.{Choice}
 
@@ -17,9 +17,17 @@ abbrev pub asks_of : Choice → Asks
 asks_of choice = record {
   from = choice.from;
   to = choice.to;
-  kinds = option_map (λ text. text.now) choice.kinds;
-  pid = option_map (λ text. text.now) choice.pid;
-  of_module = option_map (λ text. text.now) choice.module;
-  of_name = option_map (λ text. text.now) choice.name;
+  kinds = option_map string_bytes choice.kinds;
+  pid = option_map string_bytes choice.pid;
+  of_module = option_map string_bytes choice.module;
+  of_name = option_map string_bytes choice.name;
   of_arity = choice.arity;
 }
+
+-- nothing that is asked for is a text
+abbrev pub asks_no_text : Asks → Bool
+asks_no_text asks = is_none asks.kinds && (is_none asks.pid && (is_none asks.of_module && is_none asks.of_name))
+
+-- nothing is asked for
+abbrev pub asks_nothing : Asks → Bool
+asks_nothing asks = asks_no_text asks && (is_none asks.from && (is_none asks.to && is_none asks.of_arity))

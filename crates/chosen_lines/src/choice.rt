@@ -7,41 +7,41 @@ use crate::members::{after_atom, after_pid, function_of, members_of};
 use crate::words::{cut_word, number_told};
 
 /// Which lines of a listing are to be shown: those that all of this holds of; None stands for what isn't asked for.
-#[derive(Clone, Copy, Debug, PartialEq, Eq)]
-pub struct Choice<'a> {
+#[derive(Debug, Drop)]
+pub struct Choice {
     /// The number of the first entry.
     pub from: Option<u64>,
     /// The number of the last entry.
     pub to: Option<u64>,
     /// Words for kinds, with commas between them.
-    pub kinds: Option<&'a str>,
+    pub kinds: Option<String>,
     /// The traced process, as a listing shows it, with or without its angle brackets.
-    pub pid: Option<&'a str>,
+    pub pid: Option<String>,
     /// The module of a function that is called or returned from, with or without quotes.
-    pub module: Option<&'a str>,
+    pub module: Option<String>,
     /// Its name, where the module is asked for.
-    pub name: Option<&'a str>,
+    pub name: Option<String>,
     /// The number of its arguments, where the name is asked for.
     pub arity: Option<u64>,
 }
 
-impl Choice<'_> {
-    /// Every line.
-    pub const ALL: Choice<'static> = Choice {
-        from: None,
-        to: None,
-        kinds: None,
-        pid: None,
-        module: None,
-        name: None,
-        arity: None,
-    };
-}
-
-impl Choice<'_> {
+impl Choice {
     ghost use Rattle.chosen_lines.specs.Lets.{lets, is_from, is_to, is_of_kinds, is_of_pid, is_of_function, after_function, is_of_arity};
     ghost use Rattle.std.specs.Option.{option_copied};
-    ghost use Rattle.chosen_lines.specs.Asks.{asks_of};
+    ghost use Rattle.chosen_lines.specs.Asks.{asks_of, asks_no_text, asks_nothing};
+
+    /// Whether nothing is asked for, so that every line is to be shown.
+    pub fn is_all(&self) -> bool
+        ensures { result ≡ asks_nothing (asks_of self.now) }
+    {
+        self.has_no_text() && self.from.is_none() && self.to.is_none() && self.arity.is_none()
+    }
+
+    fn has_no_text(&self) -> bool
+        ensures { result ≡ asks_no_text (asks_of self.now) }
+    {
+        self.kinds.is_none() && self.pid.is_none() && self.module.is_none() && self.name.is_none()
+    }
 
     /// Whether a line, without its line feed, is to be shown. A line that isn't of an entry is, and so is that of a drop record.
     #[tactic(auto, unfolding(crate::specs::Lets::lets_by))]
@@ -65,7 +65,7 @@ impl Choice<'_> {
     fn has_kind(&self, kind: &[u8]) -> bool
         ensures { result ≡ is_of_kinds (asks_of self.now).kinds kind.now }
     {
-        match self.kinds {
+        match &self.kinds {
             Some(words) => is_among(kind, words.as_bytes()),
             None => true,
         }
@@ -74,7 +74,7 @@ impl Choice<'_> {
     fn has_pid(&self, told: &[u8]) -> bool
         ensures { result ≡ is_of_pid (asks_of self.now).pid told.now }
     {
-        match self.pid {
+        match &self.pid {
             Some(pid) => is_of_pid(pid.as_bytes(), told),
             None => true,
         }
@@ -83,7 +83,7 @@ impl Choice<'_> {
     fn has_function(&self, kind: &[u8], told: &[u8]) -> bool
         ensures { result ≡ is_of_function (asks_of self.now) (asks_of self.now).of_module kind.now told.now }
     {
-        match self.module {
+        match &self.module {
             Some(wanted) => is_of_call(kind) && self.tells_function(wanted.as_bytes(), told),
             None => true,
         }
@@ -103,7 +103,7 @@ impl Choice<'_> {
         ensures { option_copied result ≡ after_function wanted.now (asks_of self.now).of_name told.now }
     {
         let rest = after_atom(wanted, function_of(members_of(told)?)?)?;
-        match self.name {
+        match &self.name {
             Some(name) => after_atom(name.as_bytes(), rest),
             None => Some(rest),
         }

@@ -18,8 +18,8 @@ const FEED: u8 = b'\n';
 
 /// Takes lines, and hands on those that a choice lets through, each whole.
 #[derive(Drop)]
-pub struct Sieve<'c, W: Write> {
-    pub choice: Choice<'c>,
+pub struct Sieve<W: Write> {
+    pub choice: Choice,
     pub out: W,
     /// What came of the line that isn't at its end.
     pub line: Vec<u8>,
@@ -34,14 +34,14 @@ pub struct Sieve<'c, W: Write> {
     pub ghost held: { Appends given.start (W.contents out) (chosen (lets choice) given.bytes ++ take sent line.items) } by { Appends-prop given.start (W.contents out) (chosen (lets choice) given.bytes ++ take sent line.items) },
 }
 
-impl<'c, W: Write> Sieve<'c, W> {
+impl<W: Write> Sieve<W> {
     /// Hands on to this writer.
-    pub fn new(alloc: Global, choice: Choice<'c>, out: W) -> Sieve<'c, W>
+    pub fn new(alloc: Global, choice: Choice, out: W) -> Sieve<W>
         ghost start: { Option (List ℕ) }
         requires { start ≡ W.contents out }
         ensures start { result.given.start ≡ W.contents out }
         ensures none { result.given.bytes ≡ [] }
-        ensures choice { result.choice ≡ choice.entry }
+        ensures choice { result.choice ≡ choice }
     {
         Sieve {
             choice,
@@ -54,7 +54,7 @@ impl<'c, W: Write> Sieve<'c, W> {
     }
 }
 
-impl<W: Write> Sieve<'_, W> {
+impl<W: Write> Sieve<W> {
     /// Takes bytes of a line that isn't at its end. Once a part of the line is handed on there are none to come.
     fn take_part(&mut self, part: &[u8]) -> io::Result<usize>
         requires { lines_after self.old.line.items part.now ≡ [] }
@@ -127,7 +127,7 @@ impl<W: Write> Sieve<'_, W> {
     }
 }
 
-impl<W: Write> Write for Sieve<'_, W> {
+impl<W: Write> Write for Sieve<W> {
     ghost contents = { λ sieve. sieve_contents (asks_of sieve.choice) sieve.given.start sieve.given.bytes };
 
     fn write(&mut self, bytes: &[u8]) -> io::Result<usize> {

@@ -1,5 +1,6 @@
 // The words of a command line, and what they ask for.
-ghost use Rattle.std.specs.Prelude.{◌≡◌, IfOk};
+ghost use Rattle.std.specs.Prelude.{◌≡◌, IfOk, string_bytes};
+ghost use Rattle.std.specs.Option.{option_map, option_copied};
 
 use crate::function::{Function, function_in};
 use crate::kind::{Listing, kind_named};
@@ -363,23 +364,38 @@ fn function_asked<'a>(matches: &ArgMatches<'a>) -> Result<Option<Function<'a>>, 
     }
 }
 
+/// A text that is kept.
+fn kept(alloc: Global, text: Option<&str>) -> Result<Option<String>, AllocError>
+    ensures { IfOk result (λ kept. option_map string_bytes kept ≡ option_copied text) }
+{
+    match text {
+        Some(text) => Ok(Some(String::from_str(alloc, text)?)),
+        None => Ok(None),
+    }
+}
+
+/// The words of the kinds that are shown, where not all are.
+fn kinds_asked<'a>(matches: &ArgMatches<'a>) -> Result<Option<&'a str>, Misuse<'a>> {
+    match matches.get_str("only") {
+        None => Ok(None),
+        Some(text) => Ok(Some(kinds_in(text, matches.get_flag("pretty"))?)),
+    }
+}
+
 /// Which lines of a listing are shown; None stands for all.
-fn choice_in<'a>(matches: &ArgMatches<'a>) -> Result<Option<Choice<'a>>, Misuse<'a>> {
+fn choice_in<'a>(alloc: Global, matches: &ArgMatches<'a>) -> Result<Option<Choice>, Misuse<'a>> {
     let function = function_asked(matches)?;
-    let kinds = match matches.get_str("only") {
-        None => None,
-        Some(text) => Some(kinds_in(text, matches.get_flag("pretty"))?),
-    };
+    let kinds = kinds_asked(matches)?;
     let choice = Choice {
         from: matches.get_one::<u64>("from"),
         to: matches.get_one::<u64>("to"),
-        kinds,
-        pid: matches.get_str("pid"),
-        module: function.map(|function| function.module),
-        name: function.and_then(|function| function.name),
+        kinds: kept(alloc, kinds)?,
+        pid: kept(alloc, matches.get_str("pid"))?,
+        module: kept(alloc, function.map(|function| function.module))?,
+        name: kept(alloc, function.and_then(|function| function.name))?,
         arity: function.and_then(|function| function.arity),
     };
-    Ok(if choice == Choice::ALL { None } else { Some(choice) })
+    Ok(if choice.is_all() { None } else { Some(choice) })
 }
 
 /// What a subcommand of this name asks of a stored trace, if it is one for that.
@@ -407,18 +423,18 @@ fn trace_request_in<'a>(
 }
 
 /// What the words that were found ask for.
-fn request_in<'a>(matches: &ArgMatches<'a>) -> Result<Request<'a>, Misuse<'a>> {
+fn request_in<'a>(alloc: Global, matches: &ArgMatches<'a>) -> Result<Request<'a>, Misuse<'a>> {
     let Some((name, matches)) = matches.subcommand() else {
         return Ok(Request::Sim);
     };
     Ok(match trace_request_in(name, matches)? {
         Some(request) => Request::OfTrace {
             request,
-            choice: if name == "list" { choice_in(matches)? } else { None },
+            choice: if name == "list" { choice_in(alloc, matches)? } else { None },
         },
         None if name == "stream" => Request::Stream {
             is_pretty: matches.get_flag("pretty"),
-            choice: choice_in(matches)?,
+            choice: choice_in(alloc, matches)?,
         },
         None => Request::Sim,
     })
@@ -427,5 +443,5 @@ fn request_in<'a>(matches: &ArgMatches<'a>) -> Result<Request<'a>, Misuse<'a>> {
 /// What the words ask for, of which the first is the program's name.
 pub fn asked_for<'a, S: AsStr>(alloc: Global, words: &'a [S]) -> Result<Request<'a>, Misuse<'a>> {
     let matches = dbgrec(alloc)?.try_get_matches_from(words)?;
-    request_in(&matches)
+    request_in(alloc, &matches)
 }

@@ -61,7 +61,7 @@ pub struct Rules {
 }
 
 /// What a command line asks for.
-#[derive(Clone, Copy, Debug, PartialEq, Eq)]
+#[derive(Debug, Drop)]
 pub enum Request<'a> {
     /// Run a script over a store in memory.
     Sim,
@@ -70,13 +70,13 @@ pub enum Request<'a> {
         /// Every term as a person at a node's shell would see it.
         is_pretty: bool,
         /// The lines that are shown, where not all are.
-        choice: Option<Choice<'a>>,
+        choice: Option<Choice>,
     },
     /// What is done with the files of a trace.
     OfTrace {
         request: TraceRequest<'a>,
         /// The lines of a listing that are shown, where not all are.
-        choice: Option<Choice<'a>>,
+        choice: Option<Choice>,
     },
 }
 

@@ -1,5 +1,5 @@
 -- Listings of which some lines are shown.
-use Rattle.std.specs.Prelude.{◌≡◌, ℕ, Bool, Option, Some, None, List, ◌++◌, Result, Ok, Err, IfSome}
+use Rattle.std.specs.Prelude.{◌≡◌, ◌⊎◌, ℕ, Bool, Option, Some, None, List, ◌++◌, Result, Ok, Err, IfSome}
 use Rattle.std.specs.Io.KnownBytes.{Appends}
 use Rattle.trace_client.specs.Streams.{IsListed}
 use Rattle.chosen_lines.specs.declared.choice.Choice.{Choice}
@@ -24,6 +24,7 @@ ListsStream is_pretty had (Ok done) was now = IfSome had (λ bytes. (text : List
 ListsStream is_pretty had (Err complaint) was now = EndsStream (style_of is_pretty) had was now complaint
 
 -- how a listing ended is told; or, where it didn't end well, that there was no memory for a line
-pub data IsToldOf : Result Unit Complaint → Result Unit Complaint → Type 0 where
-  as_ended : (done : Result Unit Complaint) → IsToldOf done done
-  no_memory : (complaint : Complaint) → IsToldOf (Err complaint) (Err (complaints.Fault faults.NoMemory None))
+abbrev pub IsToldOf : Result Unit Complaint → Result Unit Complaint → Type 0
+IsToldOf (Ok done) result = result ≡ Ok tt
+IsToldOf (Err complaint) (Ok done) = ⊥
+IsToldOf (Err complaint) (Err told) = (told ≡ complaint) ⊎ (told ≡ complaints.Fault faults.NoMemory None)

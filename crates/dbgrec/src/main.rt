@@ -52,7 +52,7 @@ fn serve_whole(
 fn serve_files(
     rt: &HostRuntime,
     request: TraceRequest<'_>,
-    choice: Option<Choice<'_>>,
+    choice: Option<Choice>,
     output: &mut Outlet,
 ) -> Result<(), Complaint> {
     let mut files = files_for(rt, &request)?;
@@ -72,7 +72,7 @@ fn serve_files(
 fn list_stream(
     rt: &HostRuntime,
     is_pretty: bool,
-    choice: Option<Choice<'_>>,
+    choice: Option<Choice>,
     output: &mut Outlet,
 ) -> Result<(), Complaint> {
     match choice {
