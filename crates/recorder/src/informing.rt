@@ -1,11 +1,12 @@
 // A trace is told in numbers.
-ghost use Rattle.std.specs.Prelude.{◌≡◌, OnOk, IfErr};
+ghost use Rattle.std.specs.Prelude.{◌≡◌, OnOk, IfOk, IfErr};
 ghost use Rattle.stores.specs.FolderStore.{honest_of, reads_of};
 ghost use Rattle.trace_files.specs.Standing.{IsStanding};
 ghost use Rattle.trace_files.specs.declared.standing.Standing.TheVariants as standings;
 ghost use Rattle.recorder.specs.Complaints.{status_told};
 ghost use Rattle.script_port.specs.Faults.{status_of};
 ghost use Rattle.recorder.specs.Files.{OnlyLooks};
+ghost use Rattle.recorder.specs.Summed.{Gathers, AreOfStore, AreWhole};
 
 use crate::complaint::Complaint;
 use script_port::SimFault;
@@ -19,7 +20,9 @@ use trace_reader::{FileFound, Host, ReadFault, Watched};
 const AGAIN: u32 = 4;
 
 /// What its files were found to hold, together, and whether another process has the trace.
-fn gathered(files: &Files<'_>, found: Vec<FileFound>) -> Result<Info, AllocError> {
+fn gathered(files: &Files<'_>, found: Vec<FileFound>) -> Result<Info, AllocError>
+    ensures { IfOk result (Gathers found.items) }
+{
     let mut info = Info::new(files.alloc(), files.is_held()?);
     let mut file: u32 = 0;
     for one in found {
@@ -32,6 +35,7 @@ fn gathered(files: &Files<'_>, found: Vec<FileFound>) -> Result<Info, AllocError
 /// Reads a trace once.
 fn look_once(files: &mut Files<'_>) -> Result<Info, ReadFault>
     ensures there { honest_of files.new.store → OnOk result (IsStanding standings.Ours (reads_of files.old.store)) }
+    ensures found { honest_of files.new.store → IfOk result (AreOfStore (reads_of files.old.store)) }
     ensures only_reads { OnlyLooks files.old.store files.new.store }
 {
     let found = files.sum_up()?;
@@ -44,6 +48,7 @@ fn look_once(files: &mut Files<'_>) -> Result<Info, ReadFault>
 /// Reads a trace, and where it isn't whole while another process writes it again, five times in all.
 fn look_over(files: &mut Files<'_>) -> Result<Info, ReadFault>
     ensures there { honest_of files.new.store → OnOk result (IsStanding standings.Ours (reads_of files.old.store)) }
+    ensures found { honest_of files.new.store → IfOk result (AreOfStore (reads_of files.old.store)) }
     ensures only_reads { OnlyLooks files.old.store files.new.store }
 {
     let mut made = 0;
@@ -108,6 +113,7 @@ pub fn info<W: Write, H: Host>(
     watched: &mut Watched<'_, W, H>,
 ) -> Result<(), Complaint>
     ensures there { honest_of files.new.store → OnOk result (IsStanding standings.Ours (reads_of files.old.store)) }
+    ensures whole { honest_of files.new.store → OnOk result (AreWhole (reads_of files.old.store)) }
     ensures status { IfErr result (λ complaint. status_told complaint ≡ 1) }
     ensures only_reads { OnlyLooks files.old.store files.new.store }
 {
