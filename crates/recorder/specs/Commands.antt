@@ -29,7 +29,8 @@ use Rattle.command_line.specs.declared.request.Rules.{Rules}
 use Rattle.command_line.specs.declared.request.TraceRequest.{TraceRequest}
 use Rattle.command_line.specs.declared.request.TraceRequest.TheVariants as requests
 use Rattle.recorder.specs.Complaints.{status_told}
-use Rattle.script_port.specs.Faults.{status_of, run_fault, read_fault, wipe_fault}
+use Rattle.script_port.specs.Faults.{status_of, run_fault}
+use Rattle.recorder.specs.Faults.{read_fault, wipe_fault}
 use Rattle.recorder.specs.Files.{OnlyLooks, WasRecorded, WasFed}
 use Rattle.recorder.specs.Incoming.{Outside, outside}
 use Rattle.script_port.specs.PortOpenings.{first_told, FitsStore, GoesOnOrBegins}

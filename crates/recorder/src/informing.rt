@@ -8,6 +8,7 @@ ghost use Rattle.script_port.specs.Faults.{status_of};
 ghost use Rattle.recorder.specs.Files.{OnlyLooks};
 
 use crate::complaint::Complaint;
+use crate::fault::fault_of_reading;
 use crate::files::{Doing, Files};
 use crate::info::Info;
 use script_port::SimFault;
@@ -102,7 +103,7 @@ fn told(files: &mut Files<'_>, fault: ReadFault, doing: Doing) -> Complaint
     ensures status { status_told result ≡ 1 }
     ensures only_reads { OnlyLooks files.old.store files.new.store }
 {
-    files.explained(SimFault::from(fault), doing)
+    files.explained(fault_of_reading(fault), doing)
 }
 
 /// Tells what a trace holds, in numbers; where it isn't whole, what could be read of it.

@@ -3,6 +3,7 @@
 
 mod commands;
 mod complaint;
+mod fault;
 mod files;
 mod import;
 mod incoming;
