@@ -35,7 +35,7 @@ use Rattle.recorder.specs.Files.{OnlyLooks, WasRecorded, WasFed}
 use Rattle.recorder.specs.Incoming.{Outside, outside}
 use Rattle.script_port.specs.PortOpenings.{first_told, FitsStore, GoesOnOrBegins}
 use Rattle.recorder.specs.Openings.{wanted, KeepsTrace, IsWhyNotOpened}
-use Rattle.recorder.specs.Places.{turn_of}
+use Rattle.trace_places.specs.Places.{turn_of}
 use Rattle.script_port.specs.Texts.{line_of}
 use Rattle.script_port.specs.declared.answer.Answer.TheVariants.{Done}
 use Rattle.recorder.specs.declared.complaint.Complaint.{Complaint}

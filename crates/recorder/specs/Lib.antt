@@ -1,5 +1,4 @@
 pub mod Faults
-pub mod Places
 pub mod Openings
 pub mod Incoming
 pub mod Parts

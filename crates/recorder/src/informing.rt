@@ -10,10 +10,10 @@ ghost use Rattle.recorder.specs.Files.{OnlyLooks};
 use crate::complaint::Complaint;
 use crate::fault::fault_of_reading;
 use crate::files::{Doing, Files};
-use crate::info::Info;
 use script_port::SimFault;
 use std::alloc::{AllocError, Global};
 use std::io::{self, Write};
+use trace_info::Info;
 use trace_reader::{FileFound, Host, ReadFault, Watched};
 
 /// How often a trace that isn't whole is read again at most, while another process writes it.
@@ -58,6 +58,15 @@ fn look_over(files: &mut Files<'_>) -> Result<Info, ReadFault>
     }
 }
 
+/// What was done when a trace was found not to be whole.
+fn doing_of(info: &Info) -> Doing {
+    if info.is_written {
+        Doing::ReadingAgain
+    } else {
+        Doing::Counting(info.before_damage)
+    }
+}
+
 /// Writes out what is told of a trace.
 fn write_info<W: Write>(
     info: &Info,
@@ -84,8 +93,7 @@ fn write_json<W: Write>(
     alloc: Global,
     out: &mut W,
 ) -> Result<io::Result<()>, AllocError> {
-    let object = info.as_json(alloc)?;
-    let text = object.to_string(alloc)?;
+    let text = info.to_json(alloc)?;
     Ok(writeln!(out, "{text}"))
 }
 
@@ -125,6 +133,6 @@ pub fn info<W: Write, H: Host>(
     }
     match info.fault() {
         None => Ok(()),
-        Some(cause) => Err(told(files, ReadFault::Refused(cause), info.doing())),
+        Some(cause) => Err(told(files, ReadFault::Refused(cause), doing_of(&info))),
     }
 }

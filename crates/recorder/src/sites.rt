@@ -3,14 +3,13 @@ ghost use Rattle.std.specs.Prelude.{◌≡◌, [], IfOk, IsSome};
 ghost use Rattle.stores.specs.Events.{World};
 ghost use Rattle.stores.specs.FolderStore.{past_of};
 ghost use Rattle.recorder.specs.Commands.{Changes};
-ghost use Rattle.recorder.specs.Places.{file_count};
+ghost use Rattle.trace_places.specs.Places.{file_count};
 
 use crate::complaint::{Complaint, FAILED_DISK};
 use crate::files::Files;
-use crate::lookup::{Found, find};
 use crate::notices::{tell_idle, tell_idle_on_file};
-use crate::place::Place;
 use command_line::{Asked, TraceRequest, Wanted};
+use trace_places::{Found, Place, find};
 
 /// The files of the trace that is asked for: locked, where they are to be changed. Standard error says what is worth
 /// knowing of it.

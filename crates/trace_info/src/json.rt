@@ -32,8 +32,13 @@ fn kind_of(header: &SegHeader) -> &'static str {
 }
 
 impl Info {
+    /// The text of the object.
+    pub fn to_json(&self, alloc: Global) -> Result<String, AllocError> {
+        self.as_json(alloc)?.to_string(alloc)
+    }
+
     /// The object.
-    pub fn as_json(&self, alloc: Global) -> Result<Value, AllocError> {
+    fn as_json(&self, alloc: Global) -> Result<Value, AllocError> {
         let totals = self.totals();
         let (first, lost_before) = self.before();
         let last = match totals.entries {

@@ -1,7 +1,7 @@
 use Rattle.std.proofs.Common.{◌≡◌, ◌<◌, ◌+◌, ◌++◌, ℕ, zero, suc, List, [], ◌∷◌, length, Some, map, slice_get, sym, subst, ◌∙◌, ap, arith, rules}
 use Rattle.std.specs.String.{string_bytes}
-use Rattle.recorder.specs.Places.{name_of}
-use Rattle.recorder.proofs.place.Place.names.Goals as goal
+use Rattle.trace_places.specs.Places.{name_of}
+use Rattle.trace_places.proofs.place.Place.names.Goals as goal
 
 -- a list that has these items in their order, with one more after them
 more_at : {A B : Type 0} (f : A → B) (at : ℕ → B) (xs : List A) (x : A) → ((i : ℕ) → i < length xs → slice_get (map f xs) i ≡ Some (at i)) → f x ≡ at (length xs)

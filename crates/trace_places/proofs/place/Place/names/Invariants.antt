@@ -1,7 +1,7 @@
 use Rattle.std.proofs.Common.{◌≡◌, ◌<◌, ℕ, length, Some, map, slice_get}
 use Rattle.std.specs.String.{string_bytes}
-use Rattle.recorder.specs.Places.{name_of}
-use Rattle.recorder.proofs.place.Place.names.Given as goal
+use Rattle.trace_places.specs.Places.{name_of}
+use Rattle.trace_places.proofs.place.Place.names.Given as goal
 
 abbrev pub invariant-loop-k : goal.invariant-loop-k
 invariant-loop-k l = record {

@@ -2,10 +2,10 @@
 use Rattle.std.specs.Prelude.{ℕ, ◌+◌, Option, Some, None, List, ◌++◌}
 use Rattle.std.specs.Fmt.{decimal}
 use Rattle.command_line.specs.declared.request.Wanted.{Wanted}
-use Rattle.recorder.specs.declared.place.Kind.{Kind}
-use Rattle.recorder.specs.declared.place.Kind.TheVariants as kinds
-use Rattle.recorder.specs.declared.place.Turn.{Turn}
-use Rattle.recorder.specs.declared.place.Turn.TheVariants as turning
+use Rattle.trace_places.specs.declared.place.Kind.{Kind}
+use Rattle.trace_places.specs.declared.place.Kind.TheVariants as kinds
+use Rattle.trace_places.specs.declared.place.Turn.{Turn}
+use Rattle.trace_places.specs.declared.place.Turn.TheVariants as turning
 
 -- one file, or one more than the runs that a wrap keeps
 abbrev pub file_count : Kind → ℕ

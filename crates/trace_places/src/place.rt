@@ -1,6 +1,6 @@
 // Where a trace is stored.
 ghost use Rattle.std.specs.Prelude.{◌≡◌, ◌≤◌};
-ghost use Rattle.recorder.specs.Places.{file_count, turn_of};
+ghost use Rattle.trace_places.specs.Places.{file_count, turn_of};
 
 use crate::lookup::Found;
 use command_line::{Asked, Shape, Wanted};
@@ -91,7 +91,7 @@ impl<'a> Place<'a> {
 impl Place<'_> {
     ghost use Rattle.std.specs.Prelude.{◌≡◌, ◌<◌, ℕ, length, IfOk, Some, map, slice_get};
     ghost use Rattle.std.specs.String.{string_bytes};
-    ghost use Rattle.recorder.specs.Places.{name_of};
+    ghost use Rattle.trace_places.specs.Places.{name_of};
 
     /// How many files there are.
     pub fn files(&self) -> u32
