@@ -2,6 +2,8 @@
 #![tactic(auto)]
 
 mod command;
+mod function;
+mod kind;
 mod request;
 mod size;
 

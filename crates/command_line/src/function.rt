@@ -1,0 +1,47 @@
+// A function, as a command line names it.
+
+/// A module, and a name and a number of arguments where they are told.
+#[derive(Clone, Copy, Debug, PartialEq, Eq)]
+pub struct Function<'a> {
+    pub module: &'a str,
+    pub name: Option<&'a str>,
+    pub arity: Option<u64>,
+}
+
+/// The module, which may stand in quotes, and what stands after the colon that ends it.
+fn cut_module(text: &str) -> Option<(&str, &str)> {
+    match text.strip_prefix('\'') {
+        Some(quoted) => quoted.split_once("':"),
+        None => text.split_once(':'),
+    }
+}
+
+/// The function of a module, by its name, and its number of arguments after a stroke. None where either is missing.
+fn named<'a>(module: &'a str, text: &'a str) -> Option<Function<'a>> {
+    let (name, arity) = match text.rsplit_once('/') {
+        Some((name, _)) if name == "'" => (text, None),
+        Some((name, digits)) => (name, Some(digits.parse::<u64>().ok()?)),
+        None => (text, None),
+    };
+    if module.is_empty() || name.is_empty() {
+        return None;
+    }
+    Some(Function {
+        module,
+        name: Some(name),
+        arity,
+    })
+}
+
+/// The functions that M, M:F or M:F/A stands for. None where it is none of these.
+pub fn function_in(text: &str) -> Option<Function<'_>> {
+    match cut_module(text) {
+        Some((module, rest)) => named(module, rest),
+        None if text.is_empty() => None,
+        None => Some(Function {
+            module: text,
+            name: None,
+            arity: None,
+        }),
+    }
+}
