@@ -388,7 +388,7 @@ fn process_asked<'a>(matches: &ArgMatches<'a>) -> Result<Option<&'a str>, Misuse
 
 /// A text that is kept.
 fn kept(alloc: Global, text: Option<&str>) -> Result<Option<String>, AllocError>
-    ensures { IfOk result (λ kept. option_map string_bytes kept ≡ option_copied text) }
+    ensures { IfOk result (λ kept. option_map string_bytes kept ≡ option_copied text.entry) }
 {
     match text {
         Some(text) => Ok(Some(String::from_str(alloc, text)?)),
