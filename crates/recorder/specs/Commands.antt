@@ -1,9 +1,10 @@
 -- What a command does with the files of a trace.
-use Rattle.std.specs.Prelude.{◌≡◌, ◌⊎◌, ℕ, Bool, true, false, Option, None, List, [], Result, Ok, Err, OnOk, IfErr}
+use Rattle.std.specs.Prelude.{◌≡◌, ◌⊎◌, ℕ, Bool, true, false, Option, None, List, [], Result, Ok, Err, IsSome, OnOk, IfErr}
 use Rattle.std.specs.Io.KnownBytes.{Appends, Keeps}
 use Rattle.trace_store.specs.Disk.{Image}
 use Rattle.trace_store.specs.Moments.{LeavesOnly}
-use Rattle.stores.specs.FolderStore.{honest_of, reads_of, images_of, moments_of, clock_of}
+use Rattle.stores.specs.Events.{World}
+use Rattle.stores.specs.FolderStore.{past_of, honest_of, reads_of, images_of, moments_of, clock_of}
 use Rattle.stores.specs.declared.folder_store.FolderStore.{FolderStore}
 use Rattle.stores.specs.contracts.folder_store.FolderStoreStore.TheImpl as folder
 use Rattle.segment.specs.Specification.{Spec}
@@ -34,7 +35,7 @@ use Rattle.recorder.specs.Files.{OnlyLooks, WasRecorded, WasFed}
 use Rattle.recorder.specs.Incoming.{Outside, outside}
 use Rattle.script_port.specs.PortOpenings.{first_told, FitsStore, GoesOnOrBegins}
 use Rattle.recorder.specs.Openings.{wanted, KeepsTrace, IsWhyNotOpened}
-use Rattle.recorder.specs.Places.{turn_of}
+use Rattle.recorder.specs.Places.{file_count, turn_of}
 use Rattle.script_port.specs.Texts.{line_of}
 use Rattle.script_port.specs.declared.answer.Answer.TheVariants.{Done}
 use Rattle.recorder.specs.declared.complaint.Complaint.{Complaint}
@@ -141,3 +142,12 @@ Serves (requests.Wipe asked is_forced) old new saw observed was now result = (ho
     × (honest_of new.store → IsNotToWipe (clearing_of is_forced) (reads_of old.store) → OnlyLooks old.store new.store) × (honest_of new.store → LeavesOnly clock_of moments_of old.store new.store (IsClearing (images_of old.store)))
 Serves (requests.Record asked) old new saw observed was now result = Records (wanted old.place.kind (turn_of asked)) old.store new.store saw.remaining was now result
 Serves (requests.Import asked rules) old new saw observed was now result = Feeds (wanted old.place.kind (turn_of asked)) rules old.store new.store saw observed was now result
+
+-- no device call was made yet on the files of a trace, whatever the world that they are part of
+abbrev pub IsUntouched : World → Files → Type 0
+IsUntouched world files = past_of files.store ≡ record { world = world; count = file_count files.place.kind; events = [] }
+
+-- and their lock was taken
+pub record IsLocked (world : World) (files : Files) : Type 0 where
+  pub past : IsUntouched world files
+  pub locked : IsSome files.locked
