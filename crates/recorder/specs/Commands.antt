@@ -31,7 +31,7 @@ use Rattle.command_line.specs.declared.request.TraceRequest.{TraceRequest}
 use Rattle.command_line.specs.declared.request.TraceRequest.TheVariants as requests
 use Rattle.recorder.specs.Complaints.{status_told}
 use Rattle.script_port.specs.Faults.{status_of, run_fault, read_fault, wipe_fault}
-use Rattle.recorder.specs.Files.{OnlyLooks, WasRecorded, WasFed}
+use Rattle.recorder.specs.Files.{OnlyLooks, LooksOver, WasRecorded, WasFed}
 use Rattle.recorder.specs.Incoming.{Outside, outside}
 use Rattle.script_port.specs.PortOpenings.{first_told, FitsStore, GoesOnOrBegins}
 use Rattle.recorder.specs.Openings.{wanted, KeepsTrace, IsWhyNotOpened}
@@ -135,9 +135,9 @@ Changes _ = Unit {0}
 
 -- what is done with a trace for what the command line asks, by what is seen of the stream that comes in, what is observed until the end, and the bytes that are written
 abbrev pub Serves : TraceRequest → Files → Files → Outside → Observations → Option (List ℕ) → Option (List ℕ) → Result Unit Complaint → Type 0
-Serves (requests.List asked is_pretty) old new saw observed was now result = (honest_of new.store → IsRead (ListsStore (style_of is_pretty)) (as_lines (style_of is_pretty)) (reads_of old.store) was now result) × OnlyLooks old.store new.store
-Serves (requests.Export asked) old new saw observed was now result = (honest_of new.store → IsRead ExportsStore as_bytes (reads_of old.store) was now result) × OnlyLooks old.store new.store
-Serves (requests.Info asked is_json) old new saw observed was now result = (honest_of new.store → OnOk result (IsStanding standings.Ours (reads_of old.store))) × IfErr result (λ complaint. status_told complaint ≡ 1) × OnlyLooks old.store new.store
+Serves (requests.List asked is_pretty) old new saw observed was now result = LooksOver old.store new.store (IsRead (ListsStore (style_of is_pretty)) (as_lines (style_of is_pretty)) (reads_of old.store) was now result)
+Serves (requests.Export asked) old new saw observed was now result = LooksOver old.store new.store (IsRead ExportsStore as_bytes (reads_of old.store) was now result)
+Serves (requests.Info asked is_json) old new saw observed was now result = LooksOver old.store new.store (OnOk result (IsStanding standings.Ours (reads_of old.store))) × IfErr result (λ complaint. status_told complaint ≡ 1)
 Serves (requests.Wipe asked is_forced) old new saw observed was now result = (honest_of new.store → Clears (clearing_of is_forced) old.store new.store was now result)
     × (honest_of new.store → IsNotToWipe (clearing_of is_forced) (reads_of old.store) → OnlyLooks old.store new.store) × (honest_of new.store → LeavesOnly clock_of moments_of old.store new.store (IsClearing (images_of old.store)))
 Serves (requests.Record asked) old new saw observed was now result = Records (wanted old.place.kind (turn_of asked)) old.store new.store saw.remaining was now result
