@@ -1,11 +1,11 @@
 // A trace is told in numbers.
 ghost use Rattle.std.specs.Prelude.{◌≡◌, OnOk, IfErr};
-ghost use Rattle.stores.specs.FolderStore.{honest_of, reads_of};
+ghost use Rattle.stores.specs.FolderStore.{reads_of};
 ghost use Rattle.trace_files.specs.Standing.{IsStanding};
 ghost use Rattle.trace_files.specs.declared.standing.Standing.TheVariants as standings;
 ghost use Rattle.recorder.specs.Complaints.{status_told};
 ghost use Rattle.script_port.specs.Faults.{status_of};
-ghost use Rattle.recorder.specs.Files.{OnlyLooks};
+ghost use Rattle.recorder.specs.Files.{OnlyLooks, LooksOver};
 
 use crate::complaint::Complaint;
 use crate::fault::fault_of_reading;
@@ -32,8 +32,7 @@ fn gathered(files: &Files<'_>, found: Vec<FileFound>) -> Result<Info, AllocError
 
 /// Reads a trace once.
 fn look_once(files: &mut Files<'_>) -> Result<Info, ReadFault>
-    ensures there { honest_of files.new.store → OnOk result (IsStanding standings.Ours (reads_of files.old.store)) }
-    ensures only_reads { OnlyLooks files.old.store files.new.store }
+    ensures there { LooksOver files.old.store files.new.store (OnOk result (IsStanding standings.Ours (reads_of files.old.store))) }
 {
     let found = files.sum_up()?;
     match gathered(files, found) {
@@ -44,8 +43,7 @@ fn look_once(files: &mut Files<'_>) -> Result<Info, ReadFault>
 
 /// Reads a trace, and where it isn't whole while another process writes it again, five times in all.
 fn look_over(files: &mut Files<'_>) -> Result<Info, ReadFault>
-    ensures there { honest_of files.new.store → OnOk result (IsStanding standings.Ours (reads_of files.old.store)) }
-    ensures only_reads { OnlyLooks files.old.store files.new.store }
+    ensures there { LooksOver files.old.store files.new.store (OnOk result (IsStanding standings.Ours (reads_of files.old.store))) }
 {
     let mut made = 0;
     'readings: loop {
@@ -120,9 +118,8 @@ pub fn info<W: Write, H: Host>(
     is_json: bool,
     watched: &mut Watched<'_, W, H>,
 ) -> Result<(), Complaint>
-    ensures there { honest_of files.new.store → OnOk result (IsStanding standings.Ours (reads_of files.old.store)) }
+    ensures there { LooksOver files.old.store files.new.store (OnOk result (IsStanding standings.Ours (reads_of files.old.store))) }
     ensures status { IfErr result (λ complaint. status_told complaint ≡ 1) }
-    ensures only_reads { OnlyLooks files.old.store files.new.store }
 {
     let info = match look_over(files) {
         Ok(info) => info,
