@@ -285,7 +285,7 @@ def what_no_listing_can_show_is_refused(program):
         misused(program, *command, "--only", "call,", says="call, return, exception, send")
         misused(program, *command, "--only", "spawn", says="needs '--pretty'")
         misused(program, *command, "--from", "x", says="--from")
-        misused(program, *command, "--to", "-1", says="-1")
+        misused(program, *command, "--to=-1", says="--to")
         for function in ("", ":f", "m:", "m:f/", "m:f/x", "m:/2", "m,n", "m:f/1,m:g/2"):
             misused(program, *command, "--mfa", function, says="--mfa <M[:F[/A]]>")
         for process in ("", "<>", "0.80.0", "<0.80.0>", "shell", ".1.0.0", "0.1.0.0", "a@b.1.0.x", "a@my-host.1.0.0", "a@b.1.0.0,a@b.2.0.0"):

@@ -44,11 +44,20 @@ impl Scan {
         ensures { result ≡ scan_quoted self quote byte }
     {
         if self.is_escaped {
-            Scan { is_escaped: false, ..self }
+            Scan {
+                is_escaped: false,
+                ..self
+            }
         } else if byte == b'\\' {
-            Scan { is_escaped: true, ..self }
+            Scan {
+                is_escaped: true,
+                ..self
+            }
         } else if byte == quote {
-            Scan { quote: None, ..self }
+            Scan {
+                quote: None,
+                ..self
+            }
         } else {
             self
         }
@@ -58,7 +67,10 @@ impl Scan {
         ensures { result ≡ scan_closed self }
     {
         if self.depth == 0 {
-            Scan { is_over: true, ..self }
+            Scan {
+                is_over: true,
+                ..self
+            }
         } else {
             Scan {
                 depth: self.depth - 1,
@@ -72,9 +84,15 @@ impl Scan {
         requires commas { self.commas < usize.MAX }
         ensures { result ≡ scan_bare self byte }
     {
-        let next = Scan { is_arrow: byte == b'=', ..self };
+        let next = Scan {
+            is_arrow: byte == b'=',
+            ..self
+        };
         if is_quote(byte) {
-            Scan { quote: Some(byte), ..next }
+            Scan {
+                quote: Some(byte),
+                ..next
+            }
         } else if opens(byte) {
             Scan {
                 depth: self.depth + 1,
@@ -130,9 +148,15 @@ impl Letters {
         if self.is_over || goes_on(byte) {
             self
         } else if self.is_escaped {
-            Letters { is_escaped: false, ..self }
+            Letters {
+                is_escaped: false,
+                ..self
+            }
         } else if byte == b'"' {
-            Letters { is_over: true, ..self }
+            Letters {
+                is_over: true,
+                ..self
+            }
         } else {
             Letters {
                 count: self.count + 1,

@@ -457,7 +457,11 @@ fn request_in<'a>(alloc: Global, matches: &ArgMatches<'a>) -> Result<Request<'a>
     Ok(match trace_request_in(name, matches)? {
         Some(request) => Request::OfTrace {
             request,
-            choice: if name == "list" { choice_in(alloc, matches)? } else { None },
+            choice: if name == "list" {
+                choice_in(alloc, matches)?
+            } else {
+                None
+            },
         },
         None if name == "stream" => Request::Stream {
             is_pretty: matches.get_flag("pretty"),

@@ -9,7 +9,15 @@ pub enum Listing {
 
 /// The kinds of every listing.
 const KINDS: [&str; 9] = [
-    "call", "return", "exception", "send", "send_lost", "receive", "other", "opaque", "drop",
+    "call",
+    "return",
+    "exception",
+    "send",
+    "send_lost",
+    "receive",
+    "other",
+    "opaque",
+    "drop",
 ];
 
 /// The other kinds of a readable one.

@@ -26,8 +26,7 @@ fn node_of(text: &str) -> Option<&str> {
 
 /// Whether all signs of a text may stand in an atom without quotes.
 fn is_plain(text: &str) -> bool {
-    text.bytes()
-        .all(|byte| byte.is_ascii_alphanumeric() || byte == b'_' || byte == b'@')
+    text.bytes().all(|byte| byte.is_ascii_alphanumeric() || byte == b'_' || byte == b'@')
 }
 
 /// Whether a listing may show a node by this text.

@@ -1,5 +1,5 @@
 -- What a listing into a sieve leaves written.
-use Rattle.std.proofs.Common.{◌≡◌, ℕ, ◌<◌, Bool, true, Option, Some, List, [], ◌∷◌, ◌++◌, Result, Ok, Err, OnOk, IfErr, IfSome, take, subst}
+use Rattle.std.proofs.Common.{◌≡◌, ℕ, ◌<◌, Bool, true, Option, List, [], ◌∷◌, ◌++◌, Result, Ok, Err, OnOk, IfErr, IfSome, take, subst}
 use Rattle.std.specs.Io.KnownBytes.{Appends}
 use Rattle.trace_client.specs.Streams.{IsListed}
 use Rattle.chosen_lines.specs.declared.choice.Choice.{Choice}

@@ -78,9 +78,7 @@ fn serve_files(
     let mut console = console_for(rt, &request);
     let done = match choice {
         None => serve_whole(rt, request, &mut files, &mut console, output),
-        Some(choice) => {
-            serve_chosen(rt, choice, request, &mut files, &mut console, output)
-        }
+        Some(choice) => { serve_chosen(rt, choice, request, &mut files, &mut console, output) }
     };
     drop(console);
     drop(files);
@@ -161,7 +159,7 @@ fn no_kind(rt: &HostRuntime, word: &str) -> ExitCode {
 
 fn pretty_kind(rt: &HostRuntime, word: &str) -> ExitCode {
     let _ = eprintln!(rt;
-        "error: '--only {word}' needs '--pretty': without it such a message has the kind other\n\nFor more information, try '--help'."
+        "error: '--only {word}' needs '--pretty': without it such a message is other or opaque\n\nFor more information, try '--help'."
     );
     ExitCode::from(2)
 }
