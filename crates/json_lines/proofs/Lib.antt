@@ -1,0 +1,5 @@
+pub mod Contents
+pub mod Handing
+pub mod Measuring
+pub mod Numbering
+pub mod Printing

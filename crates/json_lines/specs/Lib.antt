@@ -1,0 +1,5 @@
+pub mod Held
+pub mod Members
+pub mod Objects
+pub mod Seen
+pub mod Told
