@@ -1,5 +1,6 @@
 pub mod Contents
 pub mod Handing
+pub mod Joining
 pub mod Measuring
 pub mod Numbering
 pub mod Printing

@@ -9,7 +9,7 @@ use Rattle.chosen_lines.specs.Words.{first_word, after_word, number_told, is_num
 use Rattle.json.specs.Tree.{HasNumbers, MembersHaveNumbers, depth, members_depth}
 use Rattle.json.proofs.Printed.Decimals.{IsNumber-decimal}
 use Rattle.json_lines.specs.Told.{process_told, function_told, function_text}
-use Rattle.json_lines.specs.Members.{Value, number, text, Member, of_some, of_count, of_message, of_told, of_entry, dropped_told, counts_told, before_told, of_last, of_other, of_line, members_of_line}
+use Rattle.json_lines.specs.Members.{Value, number, text, Member, of_number, of_text, of_some, of_count, of_message, of_told, of_entry, dropped_told, counts_told, before_told, of_last, of_other, of_line, members_of_line}
 use Rattle.json_lines.specs.Objects.{value_of, members_as}
 
 abbrev IsSmall : Option ℕ → Type 0
@@ -64,8 +64,9 @@ small-count name told (Some count) small = (small, tt)
 
 small-message : (kind told : List ℕ) → AreSmall (of_message kind told)
 small-message kind told =
-    small-append (of_some (codes "pid") (process_told told)) _ (small-some (codes "pid") (process_told told))
-    (small-append (of_some (codes "mfa") (option_map function_text (function_told kind told))) _ (small-some (codes "mfa") (option_map function_text (function_told kind told))) (tt, tt))
+    let text_alone : List Member = of_text (codes "text") told ∷ [] in
+    small-append (of_some (codes "pid") (process_told told)) (of_some (codes "mfa") (option_map function_text (function_told kind told)) ++ text_alone) (small-some (codes "pid") (process_told told))
+    (small-append (of_some (codes "mfa") (option_map function_text (function_told kind told))) text_alone (small-some (codes "mfa") (option_map function_text (function_told kind told))) (tt, tt))
 
 small-of_told : (kind told : List ℕ) → AreSmall (of_told kind told)
 small-of_told kind told =
@@ -78,11 +79,11 @@ small-of_told kind told =
     ]
 
 small-last : (line : List ℕ) → AreSmall (of_last line)
-small-last line = elim (bytes_eq line (codes "end_of_trace")) as (λ b. AreSmall (if b then _ else _)) [ true ↦ (tt, tt) | false ↦ (tt, tt) ]
+small-last line = elim (bytes_eq line (codes "end_of_trace")) as (λ b. AreSmall (if b then of_text (codes "kind") line ∷ [] else of_text (codes "text") line ∷ [])) [ true ↦ (tt, tt) | false ↦ (tt, tt) ]
 
 small-other : (line : List ℕ) (counts : Option (ℕ × ℕ)) → AreTwoSmall counts → AreSmall (of_other line counts)
 small-other line None small = small-last line
-small-other line (Some counts) small = (tt, small.0, small.1, tt)
+small-other line (Some counts) small = (tt, (small.0, (small.1, tt)))
 
 small-line : (o : Option ℕ) (line : List ℕ) → IsSmall o → AreSmall (of_line o line)
 small-line None line small = small-other line (before_told line) (small-counts (after (codes "before entries ") line))

@@ -33,7 +33,7 @@ of_count name told (Some count) = of_number name count ∷ []
 
 abbrev pub of_message : List ℕ → List ℕ → List Member
 of_message kind told =
-    of_some (codes "pid") (process_told told) ++ of_some (codes "mfa") (option_map function_text (function_told kind told)) ++ of_text (codes "text") told ∷ []
+    of_some (codes "pid") (process_told told) ++ (of_some (codes "mfa") (option_map function_text (function_told kind told)) ++ of_text (codes "text") told ∷ [])
 
 -- what is told after a kind
 abbrev pub of_told : List ℕ → List ℕ → List Member
