@@ -1,10 +1,9 @@
 -- What the writer of objects holds as a writer, as it takes bytes; and what came through it, as it is known by that.
-use Rattle.std.proofs.Common.{◌≡◌, ℕ, ◌<◌, Option, Some, None, Result, Ok, Err, OnOk, OnErr, IfOk, List, [], ◌∷◌, ◌++◌, length, take, refl, sym, ◌∙◌, ap, subst}
+use Rattle.std.proofs.Common.{◌≡◌, ℕ, ◌<◌, Option, Result, Ok, Err, OnOk, OnErr, IfOk, List, [], ◌∷◌, ◌++◌, length, take, refl, sym, ◌∙◌, ap, subst}
 use Rattle.std.proofs.KnownBytes.{Keeps-refl}
 use Rattle.std.specs.Io.KnownBytes.{Appends, Keeps, WriteAppends}
 use Rattle.chosen_lines.specs.declared.given.Given.{Given}
 use Rattle.chosen_lines.specs.Lines.{rest_after}
-use Rattle.chosen_lines.specs.Sifted.{after_counted}
 use Rattle.chosen_lines.proofs.Contents.{counted-append}
 use Rattle.chosen_lines.proofs.Holding.{with_more}
 use Rattle.chosen_lines.proofs.Sifting.{after-apart}

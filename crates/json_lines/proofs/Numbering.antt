@@ -1,5 +1,5 @@
 -- The numbers of a line's object are below 2^64, and its members hold no others.
-use Rattle.std.proofs.Common.{◌≡◌, ℕ, ◌<◌, ◌≤◌, ◌^◌, max, Bool, true, false, ◌&&◌, Option, Some, None, List, [], ◌∷◌, ◌++◌, length, nat_lt, if◌then◌else◌, codes, refl, sym, ◌∙◌, ap, option_map, option_and_then, arith}
+use Rattle.std.proofs.Common.{◌≡◌, ℕ, ◌<◌, ◌^◌, max, true, false, ◌&&◌, Option, Some, None, List, [], ◌∷◌, ◌++◌, length, nat_lt, if◌then◌else◌, codes, refl, ◌∙◌, ap, option_map, option_and_then}
 use Rattle.std.specs.Str.{all_ascii_digits, bytes_eq}
 use Rattle.std.specs.Str.Parse.{digits_value}
 use Rattle.std.proofs.lemmas.Bool.{ltb-true, and_parts}
@@ -9,7 +9,7 @@ use Rattle.chosen_lines.specs.Words.{first_word, after_word, number_told, is_num
 use Rattle.json.specs.Tree.{HasNumbers, MembersHaveNumbers, depth, members_depth}
 use Rattle.json.proofs.Printed.Decimals.{IsNumber-decimal}
 use Rattle.json_lines.specs.Told.{process_told, function_told, function_text}
-use Rattle.json_lines.specs.Members.{Value, number, text, Member, of_number, of_text, of_some, of_count, of_message, of_told, of_entry, dropped_told, counts_told, before_told, of_last, of_other, of_line, members_of_line}
+use Rattle.json_lines.specs.Members.{Value, number, text, Member, of_text, of_some, of_count, of_message, of_told, dropped_told, counts_told, before_told, of_last, of_other, of_line, members_of_line}
 use Rattle.json_lines.specs.Objects.{value_of, members_as}
 
 abbrev IsSmall : Option ℕ → Type 0
@@ -73,9 +73,9 @@ small-of_told kind told =
     elim (bytes_eq kind (codes "opaque")) as (λ a. AreSmall (if a then of_count (codes "size") told (number_told told) else if bytes_eq kind (codes "drop") then of_count (codes "count") told (number_told told) else of_message kind told)) [
       | true ↦ small-count (codes "size") told (number_told told) (small-told told)
       | false ↦ elim (bytes_eq kind (codes "drop")) as (λ b. AreSmall (if b then of_count (codes "count") told (number_told told) else of_message kind told)) [
-          | true ↦ small-count (codes "count") told (number_told told) (small-told told)
-          | false ↦ small-message kind told
-        ]
+        | true ↦ small-count (codes "count") told (number_told told) (small-told told)
+        | false ↦ small-message kind told
+      ]
     ]
 
 small-last : (line : List ℕ) → AreSmall (of_last line)

@@ -1,12 +1,12 @@
 -- The text of an object is the kit's print of its tokens.
-use Rattle.std.proofs.Common.{◌≡◌, ◌≤◌, ℕ, Bool, true, false, Some, List, [], ◌∷◌, ◌++◌, decimal, refl, sym, ◌∙◌, ap, append_assoc, subst, arith}
+use Rattle.std.proofs.Common.{◌≡◌, ◌≤◌, ℕ, Bool, true, false, Some, List, [], ◌∷◌, ◌++◌, decimal, refl, sym, ◌∙◌, ap, append_assoc, arith}
 use Rattle.json.specs.Token.{Token}
 use Rattle.json.specs.Json as json
 use Rattle.json.specs.Print.{quoted, separator, print, print_from}
-use Rattle.json.specs.Tree.{json_tokens, members_tokens, depth, members_depth}
+use Rattle.json.specs.Tree.{json_tokens, members_tokens, depth}
 use Rattle.json.proofs.Printed.Trees.{document-print}
 use Rattle.json_lines.specs.Members.{Value, number, text, Member, members_of_line}
-use Rattle.json_lines.specs.Objects.{value_of, members_as, object_of, value_text, member_text, more_text, members_text, object_text}
+use Rattle.json_lines.specs.Objects.{value_of, members_as, object_of, value_text, more_text, members_text, object_text}
 use Rattle.json_lines.proofs.Numbering.{small-members, members-have, members-flat}
 
 -- one member, and what follows

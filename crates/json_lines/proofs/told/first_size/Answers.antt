@@ -1,4 +1,4 @@
-use Rattle.std.proofs.Common.{◌≡◌, ◌≤◌, true, false, nat_lt, arith}
+use Rattle.std.proofs.Common.{◌≡◌, true, false, nat_lt, arith}
 use Rattle.std.proofs.lemmas.Bool.{or_left, or_right, or_from, lt-ltb, le-ltb}
 use Rattle.json_lines.specs.Told.{has_ended}
 use Rattle.json_lines.proofs.Measuring.{size-here, size-there, size-all}
