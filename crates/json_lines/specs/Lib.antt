@@ -1,4 +1,5 @@
 pub mod Held
+pub mod Listed
 pub mod Members
 pub mod Objects
 pub mod Seen

@@ -40,6 +40,7 @@ impl<W: Write> Objects<W> {
         requires { start ≡ W.contents out }
         ensures start { result.given.start ≡ W.contents out }
         ensures none { result.given.bytes ≡ [] }
+        ensures out { result.out ≡ out }
     {
         Objects {
             out,
