@@ -5,7 +5,7 @@ _dbgrec() {
     local commands="import list export info wipe stream record sim"
     local readers="--kind --suffix --count" new="--size --time --after-failure"
     local chosen="--pretty --from --to --only --pid --mfa"
-    local kinds="call return exception send send_lost receive other opaque drop"
+    local kinds="call return exception send send_lost receive other opaque drop" kind told=
 
     # bash parts `--kind=wrap` at the sign
     if [[ $word == = ]]; then
@@ -17,7 +17,10 @@ _dbgrec() {
     case $before in
     --kind) offered="file wrap" ;;
     --flush) offered="always paused never" ;;
-    --only) offered=$kinds ;;
+    --only)
+        [[ $word == *,* ]] && told=${word%,*},
+        for kind in $kinds; do offered+="$told$kind "; done
+        ;;
     --suffix | --count | --size | --time | --from | --to | --pid | --mfa) return ;;
     *)
         if ((COMP_CWORD == 1)); then

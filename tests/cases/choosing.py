@@ -180,6 +180,25 @@ def each_function_is_chosen_by_its_module_name_and_arity(program):
 
 
 @case
+def a_port_is_chosen_and_a_name_with_a_stroke(program):
+    head = b"\x83\x68\x05" + short_atom("trace")
+    pid = b"\x58" + short_atom("n@h.example") + struct.pack(">III", 90, 0, 7)
+    port = b"\x59" + short_atom("n@h") + struct.pack(">II", 4, 7)
+    opened = head + port + short_atom("open") + pid + short_atom("driver")
+    names = ("/", "-f/1-fun-0-", "f")
+    calls = [b"\x83\x68\x04" + short_atom("trace") + pid + short_atom("call") + b"\x68\x03" + short_atom("m") + short_atom(name) + b"\x61\x02" for name in names]
+    stream = b"".join(map(message, [opened, *calls, head + pid + short_atom("send") + b"\x6a" + port]))
+    listed = Listed(program, stream)
+    listed.shows(Asked(process="#Port<n@h.4.7>"), "--pid", "#Port<n@h.4.7>", styles=(("-p",),))
+    for words in ("'n@h.example'.90.0.7", "<'n@h.example'.90.0.7>"):
+        listed.shows(Asked(process="<'n@h.example'.90.0.7>"), "--pid", words, styles=(("-p",),))
+    for name in names:
+        for words in (f"m:{name}/2", f"m:'{name}'/2", f"m:'{name}'"):
+            if "'" not in words or name != "f":
+                listed.shows(Asked(function=("m", name if name == "f" else f"'{name}'")), "--mfa", words, styles=(("-p",),))
+
+
+@case
 def several_options_narrow(program):
     stream = stream_of("node")
     listed = Listed(program, stream)
@@ -260,13 +279,15 @@ def misused(program, *words, says):
 
 
 @case
-def a_word_that_is_no_kind_is_refused_with_those_that_are(program):
+def what_no_listing_can_show_is_refused(program):
     for command in (("stream",), ("list", "t")):
         misused(program, *command, "--only", "calls", says="'calls'")
         misused(program, *command, "--only", "call,", says="call, return, exception, send")
         misused(program, *command, "--only", "spawn", says="needs '--pretty'")
         misused(program, *command, "--from", "x", says="--from")
         misused(program, *command, "--to", "-1", says="--to")
-        for function in ("", ":f", "m:", "m:f/", "m:f/x", "m:/2"):
+        for function in ("", ":f", "m:", "m:f/", "m:f/x", "m:/2", "m,n", "m:f/1,m:g/2"):
             misused(program, *command, "--mfa", function, says="--mfa <M[:F[/A]]>")
+        for process in ("", "<>", "0.80.0", "<0.80.0>", "shell", ".1.0.0", "0.1.0.0", "a@b.1.0.x", "a@my-host.1.0.0", "a@b.1.0.0,a@b.2.0.0"):
+            misused(program, *command, "--pid", process, says="--pid <PID>': a process as a listing shows it")
     misused(program, "export", "t", "--from", "1", says="--from")

@@ -42,6 +42,7 @@ impl<W: Write> Sieve<W> {
         ensures start { result.given.start ≡ W.contents out }
         ensures none { result.given.bytes ≡ [] }
         ensures choice { result.choice ≡ choice }
+        ensures out { result.out ≡ out }
     {
         Sieve {
             choice,

@@ -4,6 +4,7 @@ ghost use Rattle.std.specs.Option.{option_map, option_copied};
 
 use crate::function::{Function, function_in};
 use crate::kind::{Listing, kind_named};
+use crate::process::is_process;
 use crate::request::{
     Asked, Ending, Flushing, Misuse, Request, Rules, Shape, TraceRequest, Wanted,
 };
@@ -377,9 +378,17 @@ fn function_asked<'a>(matches: &ArgMatches<'a>) -> Result<Option<Function<'a>>, 
     }
 }
 
+/// The text of the process that is shown, where not all are.
+fn process_asked<'a>(matches: &ArgMatches<'a>) -> Result<Option<&'a str>, Misuse<'a>> {
+    match matches.get_str("pid") {
+        Some(text) if !is_process(text) => Err(Misuse::Process(text)),
+        found => Ok(found),
+    }
+}
+
 /// A text that is kept.
 fn kept(alloc: Global, text: Option<&str>) -> Result<Option<String>, AllocError>
-    ensures { IfOk result (λ kept. option_map string_bytes kept ≡ option_copied text) }
+    ensures { IfOk result (λ kept. option_map string_bytes kept ≡ option_copied text.entry) }
 {
     match text {
         Some(text) => Ok(Some(String::from_str(alloc, text)?)),
@@ -399,11 +408,12 @@ fn kinds_asked<'a>(matches: &ArgMatches<'a>) -> Result<Option<&'a str>, Misuse<'
 fn choice_in<'a>(alloc: Global, matches: &ArgMatches<'a>) -> Result<Option<Choice>, Misuse<'a>> {
     let function = function_asked(matches)?;
     let kinds = kinds_asked(matches)?;
+    let process = process_asked(matches)?;
     let choice = Choice {
         from: matches.get_one::<u64>("from"),
         to: matches.get_one::<u64>("to"),
         kinds: kept(alloc, kinds)?,
-        pid: kept(alloc, matches.get_str("pid"))?,
+        pid: kept(alloc, process)?,
         module: kept(alloc, function.map(|function| function.module))?,
         name: kept(alloc, function.and_then(|function| function.name))?,
         arity: function.and_then(|function| function.arity),

@@ -4,6 +4,7 @@
 mod command;
 mod function;
 mod kind;
+mod process;
 mod request;
 mod size;
 

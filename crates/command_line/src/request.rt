@@ -123,6 +123,8 @@ pub enum Misuse<'a> {
     Kind(&'a str),
     /// A word of `--only` that is a kind with `--pretty` alone.
     PrettyKind(&'a str),
+    /// The value of `--pid`.
+    Process(&'a str),
     /// The value of `--mfa`.
     Function(&'a str),
 }

@@ -1,5 +1,5 @@
 -- Listings of which some lines are shown.
-use Rattle.std.specs.Prelude.{◌≡◌, ◌⊎◌, ℕ, Bool, Option, Some, None, List, ◌++◌, Result, Ok, Err, IfSome}
+use Rattle.std.specs.Prelude.{◌≡◌, ℕ, Bool, Option, Some, None, List, Result, Ok, Err, IfSome, if◌then◌else◌}
 use Rattle.std.specs.Io.KnownBytes.{Appends}
 use Rattle.trace_client.specs.Streams.{IsListed}
 use Rattle.chosen_lines.specs.declared.choice.Choice.{Choice}
@@ -23,8 +23,7 @@ abbrev pub ListsStream : Bool → Option (List ℕ) → Result Unit Complaint �
 ListsStream is_pretty had (Ok done) was now = IfSome had (λ bytes. (text : List ℕ) × IsListed (style_of is_pretty) bytes (Ok tt) text × Appends was now text)
 ListsStream is_pretty had (Err complaint) was now = EndsStream (style_of is_pretty) had was now complaint
 
--- how a listing ended is told; or, where it didn't end well, that there was no memory for a line
-abbrev pub IsToldOf : Result Unit Complaint → Result Unit Complaint → Type 0
-IsToldOf (Ok done) result = result ≡ Ok tt
-IsToldOf (Err complaint) (Ok done) = ⊥
-IsToldOf (Err complaint) (Err told) = (told ≡ complaint) ⊎ (told ≡ complaints.Fault faults.NoMemory None)
+-- how a listing ended is told; where it didn't end well and a line was refused memory, that is
+abbrev pub IsToldOf : Bool → Result Unit Complaint → Result Unit Complaint → Type 0
+IsToldOf is_refused (Ok done) result = result ≡ Ok tt
+IsToldOf is_refused (Err complaint) result = result ≡ Err (if is_refused then complaints.Fault faults.NoMemory None else complaint)

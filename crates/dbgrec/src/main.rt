@@ -7,7 +7,7 @@ mod outlet;
 mod simulation;
 
 use choosing::{choose_of_stream, choose_of_trace};
-use chosen_lines::Choice;
+use chosen_lines::{Choice, Sieve};
 use clap::error::ErrorKind as MisuseKind;
 use command_line::{Misuse, Request, TraceRequest, asked_for};
 use console::Console;
@@ -50,6 +50,23 @@ fn serve_whole(
     done
 }
 
+/// Does with a trace what is asked, and writes the lines that are chosen of what comes of it.
+fn serve_chosen(
+    rt: &HostRuntime,
+    choice: Choice,
+    request: TraceRequest<'_>,
+    files: &mut Files<'_>,
+    console: &mut Console,
+    output: &mut Outlet,
+) -> Result<(), Complaint> {
+    let mut sieve = Sieve::new(rt.alloc(), choice, output);
+    let mut watched = Watched::new(&mut sieve, console);
+    let done = choose_of_trace(rt, request, files, rt.stdin(), &mut watched);
+    drop(watched);
+    drop(sieve);
+    done
+}
+
 /// Does with a trace what is asked. Of a listing the lines that are chosen are shown.
 fn serve_files(
     rt: &HostRuntime,
@@ -62,11 +79,24 @@ fn serve_files(
     let done = match choice {
         None => serve_whole(rt, request, &mut files, &mut console, output),
         Some(choice) => {
-            choose_of_trace(rt, choice, request, &mut files, rt.stdin(), &mut console, output)
+            serve_chosen(rt, choice, request, &mut files, &mut console, output)
         }
     };
     drop(console);
     drop(files);
+    done
+}
+
+/// Lists an entry stream, and writes the lines that are chosen.
+fn stream_chosen(
+    rt: &HostRuntime,
+    is_pretty: bool,
+    choice: Choice,
+    output: &mut Outlet,
+) -> Result<(), Complaint> {
+    let mut sieve = Sieve::new(rt.alloc(), choice, output);
+    let done = choose_of_stream(rt.alloc(), is_pretty, rt.stdin(), &mut sieve);
+    drop(sieve);
     done
 }
 
@@ -79,7 +109,7 @@ fn list_stream(
 ) -> Result<(), Complaint> {
     match choice {
         None => serve_stream(rt.alloc(), is_pretty, rt.stdin(), output),
-        Some(choice) => choose_of_stream(rt.alloc(), choice, is_pretty, rt.stdin(), output),
+        Some(choice) => stream_chosen(rt, is_pretty, choice, output),
     }
 }
 
@@ -136,6 +166,13 @@ fn pretty_kind(rt: &HostRuntime, word: &str) -> ExitCode {
     ExitCode::from(2)
 }
 
+fn no_process(rt: &HostRuntime, text: &str) -> ExitCode {
+    let _ = eprintln!(rt;
+        "error: invalid value '{text}' for '--pid <PID>': a process as a listing shows it, as <app@host.80.0.0> or <'app@my-host'.80.0.0>, or a port, as #Port<app@host.4.0>\n\nFor more information, try '--help'."
+    );
+    ExitCode::from(2)
+}
+
 fn no_function(rt: &HostRuntime, text: &str) -> ExitCode {
     let _ = eprintln!(rt;
         "error: invalid value '{text}' for '--mfa <M[:F[/A]]>': a module, as lists, a function, as lists:seq, or one of so many arguments, as lists:seq/2\n\nFor more information, try '--help'."
@@ -156,6 +193,7 @@ fn correct(rt: &HostRuntime, misuse: Misuse<'_>) -> ExitCode {
         Misuse::Size(text) => not_of_size(rt, text),
         Misuse::Kind(word) => no_kind(rt, word),
         Misuse::PrettyKind(word) => pretty_kind(rt, word),
+        Misuse::Process(text) => no_process(rt, text),
         Misuse::Function(text) => no_function(rt, text),
     }
 }
