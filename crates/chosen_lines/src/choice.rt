@@ -53,7 +53,11 @@ impl Choice {
             return true;
         };
         let (kind, told) = cut_word(rest);
-        kind == b"drop".as_slice() || self.has_number(number) && self.has_kind(kind) && self.has_pid(told) && self.has_function(kind, told)
+        kind == b"drop".as_slice()
+            || self.has_number(number)
+                && self.has_kind(kind)
+                && self.has_pid(told)
+                && self.has_function(kind, told)
     }
 
     fn has_number(&self, number: u64) -> bool
