@@ -4,7 +4,7 @@ _dbgrec() {
     local word=${COMP_WORDS[COMP_CWORD]} before=${COMP_WORDS[COMP_CWORD - 1]} offered=
     local commands="import list export info wipe stream record sim"
     local readers="--kind --suffix --count" new="--size --time --after-failure"
-    local chosen="--pretty --from --to --only --pid --mfa"
+    local chosen="--pretty --json --from --to --only --pid --mfa"
     local kinds="call return exception send send_lost receive other opaque drop" kind told=
 
     # bash parts `--kind=wrap` at the sign

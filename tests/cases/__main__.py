@@ -23,6 +23,7 @@ import images
 import importing
 import info
 import installing
+import json_listing
 import keeping
 import libraries
 import listing
@@ -39,7 +40,7 @@ import wording
 from cases import Skipped
 from program import Program
 
-GROUPS = (rows, scripts, listing, pretty, choosing, recording, importing, info, foreign, absent, keeping, telling, crashes, images, machine, faults, locking, live, wording, installing, memory, libraries)
+GROUPS = (rows, scripts, listing, pretty, choosing, json_listing, recording, importing, info, foreign, absent, keeping, telling, crashes, images, machine, faults, locking, live, wording, installing, memory, libraries)
 
 
 def words():

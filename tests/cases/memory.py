@@ -124,6 +124,8 @@ def a_listing_that_is_refused_memory_is_a_beginning(program):
         for command in ("list", "export"):
             kept.reads(command, "t")
         kept.reads("list", "--from", "1", "--only", "call,receive", "t")
+        kept.reads("list", "--json", "t")
+        kept.reads("list", "--json", "--from", "1", "t")
 
 
 @case
@@ -141,6 +143,7 @@ def a_stream_that_is_refused_memory_is_listed_to_there(program):
     kept.reads("stream", stdin=b"".join([*ENTRIES[:6], message(LONG)]))
     kept.reads("stream", stdin=b"".join(ENTRIES[:4]) + message(LONG)[:-1])
     kept.reads("stream", "--mfa", "lists:seq/2", "--to", "3", stdin=b"".join([*ENTRIES[:6], message(LONG)]))
+    kept.reads("stream", "-p", "--json", stdin=b"".join([*ENTRIES[:6], message(LONG)]))
 
 
 @case

@@ -15,7 +15,7 @@ OF_FILES = {"--kind", "--suffix", "--count"}
 
 OF_NEW_FILES = OF_FILES | {"--size", "--time"}
 
-OF_LISTINGS = {"--pretty", "--from", "--to", "--only", "--pid", "--mfa"}
+OF_LISTINGS = {"--pretty", "--json", "--from", "--to", "--only", "--pid", "--mfa"}
 
 COMMANDS = {
     "import": OF_NEW_FILES | {"--flush", "--keep-open", "--after-failure"},

@@ -31,7 +31,7 @@ counted-apart (Some xs) (Some ys) us vs e =
     (ap Some more.0, more.1)
 
 -- what was counted is known again
-after-apart : (parts others : List (Option (List ℕ))) (us vs : List ℕ) → length parts ≡ length others → after_counted parts us ≡ after_counted others vs → (parts ≡ others) × (us ≡ vs)
+pub after-apart : (parts others : List (Option (List ℕ))) (us vs : List ℕ) → length parts ≡ length others → after_counted parts us ≡ after_counted others vs → (parts ≡ others) × (us ≡ vs)
 after-apart [] [] us vs same e = (refl, e)
 after-apart [] (y ∷ ys) us vs same e = absurd (omega arith)
 after-apart (x ∷ xs) [] us vs same e = absurd (omega arith)

@@ -124,7 +124,7 @@ impl Choice {
 }
 
 /// Whether a kind tells of a function.
-fn is_of_call(kind: &[u8]) -> bool
+pub fn is_of_call(kind: &[u8]) -> bool
     ensures { result ≡ is_of_call kind.now }
 {
     kind == b"call".as_slice() || kind == b"return".as_slice() || kind == b"exception".as_slice()

@@ -10,5 +10,10 @@ mod sieve;
 mod signs;
 mod words;
 
-pub use choice::Choice;
+pub use arguments::Scan;
+pub use choice::{Choice, is_of_call};
+pub use counts::arity_told;
+pub use given::Given;
+pub use members::{after, after_word_of_call, members_of};
 pub use sieve::Sieve;
+pub use words::{cut_word, index_of, number_told};

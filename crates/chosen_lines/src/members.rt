@@ -6,7 +6,7 @@ ghost use Rattle.chosen_lines.specs.Members.{after, members_of, after_member, af
 use crate::words::cut_at;
 
 /// What stands after these bytes in a text that begins with them.
-fn after<'a>(bytes: &[u8], text: &'a [u8]) -> Option<&'a [u8]>
+pub fn after<'a>(bytes: &[u8], text: &'a [u8]) -> Option<&'a [u8]>
     ensures { option_copied result ≡ after bytes.now text.now }
 {
     text.strip_prefix(bytes)
@@ -59,8 +59,8 @@ fn after_word_of_end(members: &[u8]) -> Option<&[u8]>
     }
 }
 
-/// The same after the word for a call too.
-fn after_word_of_call(members: &[u8]) -> Option<&[u8]>
+/// The members of the tuple that stands after the word for a call, a return or an exception.
+pub fn after_word_of_call(members: &[u8]) -> Option<&[u8]>
     ensures { option_copied result ≡ after_word_of_call members.now }
 {
     match after(b",call,{", members) {

@@ -220,10 +220,11 @@ fn mfa<'a>(alloc: Global) -> Arg<'a> {
     )
 }
 
-/// A listing, and the options that choose its lines.
+/// A listing, and the options that say how it is shown and which of its lines.
 fn with_choice<'a>(alloc: Global, command: Command<'a>) -> Result<Command<'a>, AllocError> {
     command
         .arg(pretty(alloc))?
+        .arg(flag(alloc, "json", "As JSON objects, one for each line"))?
         .arg(from(alloc))?
         .arg(to(alloc))?
         .arg(only(alloc))?
@@ -457,6 +458,7 @@ fn request_in<'a>(alloc: Global, matches: &ArgMatches<'a>) -> Result<Request<'a>
     Ok(match trace_request_in(name, matches)? {
         Some(request) => Request::OfTrace {
             request,
+            is_json: name == "list" && matches.get_flag("json"),
             choice: if name == "list" {
                 choice_in(alloc, matches)?
             } else {
@@ -465,6 +467,7 @@ fn request_in<'a>(alloc: Global, matches: &ArgMatches<'a>) -> Result<Request<'a>
         },
         None if name == "stream" => Request::Stream {
             is_pretty: matches.get_flag("pretty"),
+            is_json: matches.get_flag("json"),
             choice: choice_in(alloc, matches)?,
         },
         None => Request::Sim,

@@ -69,12 +69,16 @@ pub enum Request<'a> {
     Stream {
         /// Every term as a person at a node's shell would see it.
         is_pretty: bool,
+        /// Each line as a JSON object.
+        is_json: bool,
         /// The lines that are shown, where not all are.
         choice: Option<Choice>,
     },
     /// What is done with the files of a trace.
     OfTrace {
         request: TraceRequest<'a>,
+        /// Each line of a listing as a JSON object.
+        is_json: bool,
         /// The lines of a listing that are shown, where not all are.
         choice: Option<Choice>,
     },

@@ -13,7 +13,7 @@ use std::io::{Read, Write};
 use trace_reader::{Host, Watched};
 
 /// How a listing ended, or that a line of it had no memory.
-fn told_of(done: Result<(), Complaint>, is_refused: bool) -> Result<(), Complaint>
+pub fn told_of(done: Result<(), Complaint>, is_refused: bool) -> Result<(), Complaint>
     ensures { IsToldOf is_refused done result }
 {
     match done {

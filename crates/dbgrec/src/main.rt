@@ -5,12 +5,14 @@ mod choosing;
 mod console;
 mod outlet;
 mod simulation;
+mod telling;
 
 use choosing::{choose_of_stream, choose_of_trace};
 use chosen_lines::{Choice, Sieve};
 use clap::error::ErrorKind as MisuseKind;
 use command_line::{Misuse, Request, TraceRequest, asked_for};
 use console::Console;
+use json_lines::Objects;
 use outlet::Outlet;
 use recorder::{Complaint, Files, files_for, serve_stream, serve_trace};
 use script_port::SimFault;
@@ -18,6 +20,7 @@ use simulation::serve_sim;
 use std::io::{ErrorKind, IsTerminal};
 use std::process::ExitCode;
 use std::{env, io};
+use telling::{tell_chosen_of_stream, tell_chosen_of_trace, tell_of_stream, tell_of_trace};
 use trace_reader::Watched;
 
 /// Standard error beside standard output: where the output itself goes to a terminal, no other line is shown there.
@@ -67,17 +70,56 @@ fn serve_chosen(
     done
 }
 
-/// Does with a trace what is asked. Of a listing the lines that are chosen are shown.
+/// Does with a trace what is asked, and writes an object for each line of what comes of it.
+fn serve_objects(
+    rt: &HostRuntime,
+    request: TraceRequest<'_>,
+    files: &mut Files<'_>,
+    console: &mut Console,
+    output: &mut Outlet,
+) -> Result<(), Complaint> {
+    let mut objects = Objects::new(rt.alloc(), output);
+    let mut watched = Watched::new(&mut objects, console);
+    let done = tell_of_trace(rt, request, files, rt.stdin(), &mut watched);
+    drop(watched);
+    drop(objects);
+    done
+}
+
+/// Does with a trace what is asked, and writes an object for each line that is chosen of what comes of it.
+fn serve_chosen_objects(
+    rt: &HostRuntime,
+    choice: Choice,
+    request: TraceRequest<'_>,
+    files: &mut Files<'_>,
+    console: &mut Console,
+    output: &mut Outlet,
+) -> Result<(), Complaint> {
+    let objects = Objects::new(rt.alloc(), output);
+    let mut sieve = Sieve::new(rt.alloc(), choice, objects);
+    let mut watched = Watched::new(&mut sieve, console);
+    let done = tell_chosen_of_trace(rt, request, files, rt.stdin(), &mut watched);
+    drop(watched);
+    drop(sieve);
+    done
+}
+
+/// Does with a trace what is asked. Of a listing the lines that are chosen are shown, as they are or as objects.
 fn serve_files(
     rt: &HostRuntime,
     request: TraceRequest<'_>,
+    is_json: bool,
     choice: Option<Choice>,
     output: &mut Outlet,
 ) -> Result<(), Complaint> {
     let mut files = files_for(rt, &request)?;
     let mut console = console_for(rt, &request);
     let done = match choice {
+        None if is_json => serve_objects(rt, request, &mut files, &mut console, output),
         None => serve_whole(rt, request, &mut files, &mut console, output),
+        Some(choice) if is_json => {
+            serve_chosen_objects(rt, choice, request, &mut files, &mut console, output)
+        }
         Some(choice) => { serve_chosen(rt, choice, request, &mut files, &mut console, output) }
     };
     drop(console);
@@ -98,15 +140,40 @@ fn stream_chosen(
     done
 }
 
-/// Lists an entry stream. The lines that are chosen are shown.
+/// Lists an entry stream, and writes an object for each line.
+fn stream_objects(rt: &HostRuntime, is_pretty: bool, output: &mut Outlet) -> Result<(), Complaint> {
+    let mut objects = Objects::new(rt.alloc(), output);
+    let done = tell_of_stream(rt.alloc(), is_pretty, rt.stdin(), &mut objects);
+    drop(objects);
+    done
+}
+
+/// Lists an entry stream, and writes an object for each line that is chosen.
+fn stream_chosen_objects(
+    rt: &HostRuntime,
+    is_pretty: bool,
+    choice: Choice,
+    output: &mut Outlet,
+) -> Result<(), Complaint> {
+    let objects = Objects::new(rt.alloc(), output);
+    let mut sieve = Sieve::new(rt.alloc(), choice, objects);
+    let done = tell_chosen_of_stream(rt.alloc(), is_pretty, rt.stdin(), &mut sieve);
+    drop(sieve);
+    done
+}
+
+/// Lists an entry stream. The lines that are chosen are shown, as they are or as objects.
 fn list_stream(
     rt: &HostRuntime,
     is_pretty: bool,
+    is_json: bool,
     choice: Option<Choice>,
     output: &mut Outlet,
 ) -> Result<(), Complaint> {
     match choice {
+        None if is_json => stream_objects(rt, is_pretty, output),
         None => serve_stream(rt.alloc(), is_pretty, rt.stdin(), output),
+        Some(choice) if is_json => stream_chosen_objects(rt, is_pretty, choice, output),
         Some(choice) => stream_chosen(rt, is_pretty, choice, output),
     }
 }
@@ -115,8 +182,16 @@ fn list_stream(
 fn serve(rt: &HostRuntime, request: Request<'_>, output: &mut Outlet) -> Result<(), Complaint> {
     match request {
         Request::Sim => serve_sim(rt.alloc(), rt.stdin(), output),
-        Request::Stream { is_pretty, choice } => list_stream(rt, is_pretty, choice, output),
-        Request::OfTrace { request, choice } => serve_files(rt, request, choice, output),
+        Request::Stream {
+            is_pretty,
+            is_json,
+            choice,
+        } => list_stream(rt, is_pretty, is_json, choice, output),
+        Request::OfTrace {
+            request,
+            is_json,
+            choice,
+        } => serve_files(rt, request, is_json, choice, output),
     }
 }
 

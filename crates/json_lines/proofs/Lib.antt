@@ -1,0 +1,7 @@
+pub mod Contents
+pub mod Handing
+pub mod Joining
+pub mod Listed
+pub mod Measuring
+pub mod Numbering
+pub mod Printing

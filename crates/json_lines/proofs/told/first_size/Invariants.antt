@@ -1,0 +1,11 @@
+use Rattle.std.proofs.Common.{◌≡◌, ◌+◌, ◌≤◌, drop}
+use Rattle.chosen_lines.specs.Arguments.{unread}
+use Rattle.json_lines.specs.Told.{size_after}
+use Rattle.json_lines.proofs.told.first_size.Given as goal
+
+abbrev pub invariant-loop-index : goal.invariant-loop-index
+invariant-loop-index l = record {
+  size : size_after unread l.members ≡ l.index + size_after l.scan (drop l.index l.members);
+  depth : l.scan.depth ≤ l.index;
+  commas : l.scan.commas ≡ 0;
+}

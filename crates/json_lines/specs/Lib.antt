@@ -1,0 +1,6 @@
+pub mod Held
+pub mod Listed
+pub mod Members
+pub mod Objects
+pub mod Seen
+pub mod Told
