@@ -4,6 +4,8 @@ _dbgrec() {
     local word=${COMP_WORDS[COMP_CWORD]} before=${COMP_WORDS[COMP_CWORD - 1]} offered=
     local commands="import list export info wipe stream record sim"
     local readers="--kind --suffix --count" new="--size --time --after-failure"
+    local chosen="--pretty --from --to --only --pid --mfa"
+    local kinds="call return exception send send_lost receive other opaque drop" kind told=
 
     # bash parts `--kind=wrap` at the sign
     if [[ $word == = ]]; then
@@ -15,7 +17,11 @@ _dbgrec() {
     case $before in
     --kind) offered="file wrap" ;;
     --flush) offered="always paused never" ;;
-    --suffix | --count | --size | --time) return ;;
+    --only)
+        [[ $word == *,* ]] && told=${word%,*},
+        for kind in $kinds; do offered+="$told$kind "; done
+        ;;
+    --suffix | --count | --size | --time | --from | --to | --pid | --mfa) return ;;
     *)
         if ((COMP_CWORD == 1)); then
             offered="$commands --help --version"
@@ -23,11 +29,11 @@ _dbgrec() {
             case ${COMP_WORDS[1]} in
             import) offered="$readers $new --flush --keep-open --help" ;;
             record) offered="$readers $new --help" ;;
-            list) offered="$readers --pretty --help" ;;
+            list) offered="$readers $chosen --help" ;;
             export) offered="$readers --help" ;;
             info) offered="$readers --json --help" ;;
             wipe) offered="$readers --force --help" ;;
-            stream) offered="--pretty --help" ;;
+            stream) offered="$chosen --help" ;;
             *) offered="--help" ;;
             esac
         fi

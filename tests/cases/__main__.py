@@ -15,6 +15,7 @@ import tempfile
 import traceback
 
 import absent
+import choosing
 import crashes
 import faults
 import foreign
@@ -38,7 +39,7 @@ import wording
 from cases import Skipped
 from program import Program
 
-GROUPS = (rows, scripts, listing, pretty, recording, importing, info, foreign, absent, keeping, telling, crashes, images, machine, faults, locking, live, wording, installing, memory, libraries)
+GROUPS = (rows, scripts, listing, pretty, choosing, recording, importing, info, foreign, absent, keeping, telling, crashes, images, machine, faults, locking, live, wording, installing, memory, libraries)
 
 
 def words():

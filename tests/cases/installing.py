@@ -19,7 +19,11 @@ FILES = {
     "usr/share/man/man1/dbgrec.1.gz": 0o644,
 }
 
-VALUES = {"--kind": ["file", "wrap"], "--flush": ["always", "never", "paused"]}
+VALUES = {
+    "--kind": ["file", "wrap"],
+    "--flush": ["always", "never", "paused"],
+    "--only": ["call", "drop", "exception", "opaque", "other", "receive", "return", "send", "send_lost"],
+}
 
 # what a completion of these words would put in the place of the last one
 COMPLETING = """
@@ -128,6 +132,7 @@ def the_completion_offers_what_the_help_names(program):
             same(offered(program, command, "trace", option, "=", ""), VALUES[option])
             same(offered(program, command, "trace", option, "="), VALUES[option])
     same(offered(program, "list", "--count", ""), [])
+    same(offered(program, "list", "--only", "call,re"), ["call,receive", "call,return"])
 
 
 @case

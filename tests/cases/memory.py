@@ -123,6 +123,7 @@ def a_listing_that_is_refused_memory_is_a_beginning(program):
         kept.program.good("import", "t", *kind, stdin=b"".join(ENTRIES))
         for command in ("list", "export"):
             kept.reads(command, "t")
+        kept.reads("list", "--from", "1", "--only", "call,receive", "t")
 
 
 @case
@@ -139,6 +140,7 @@ def a_stream_that_is_refused_memory_is_listed_to_there(program):
     kept = Kept(program)
     kept.reads("stream", stdin=b"".join([*ENTRIES[:6], message(LONG)]))
     kept.reads("stream", stdin=b"".join(ENTRIES[:4]) + message(LONG)[:-1])
+    kept.reads("stream", "--mfa", "lists:seq/2", "--to", "3", stdin=b"".join([*ENTRIES[:6], message(LONG)]))
 
 
 @case

@@ -15,14 +15,16 @@ OF_FILES = {"--kind", "--suffix", "--count"}
 
 OF_NEW_FILES = OF_FILES | {"--size", "--time"}
 
+OF_LISTINGS = {"--pretty", "--from", "--to", "--only", "--pid", "--mfa"}
+
 COMMANDS = {
     "import": OF_NEW_FILES | {"--flush", "--keep-open", "--after-failure"},
     "record": OF_NEW_FILES | {"--after-failure"},
-    "list": OF_FILES | {"--pretty"},
+    "list": OF_FILES | OF_LISTINGS,
     "export": OF_FILES,
     "info": OF_FILES | {"--json"},
     "wipe": OF_FILES | {"--force"},
-    "stream": {"--pretty"},
+    "stream": OF_LISTINGS,
     "sim": set(),
 }
 

@@ -1,6 +1,6 @@
-//! Tests of ports and of the desks over them, through what each crate offers to others. They stand here, in a crate at the
-//! top, since a crate with tests is proved twice. `acceptance_terms` and `acceptance_files` have the tests of what lies
-//! below.
+//! Tests of the desks over ports, through what each crate offers to others. They stand here, in a crate at the top, since a
+//! crate with tests is proved twice. `acceptance_terms`, `acceptance_files`, `acceptance_listings` and `acceptance_ports`
+//! have the tests of what lies below.
 #![tactic(auto)]
 
 #[cfg(test)]
@@ -14,10 +14,6 @@ mod settling_tests;
 #[cfg(test)]
 mod threads_tests;
 #[cfg(test)]
-mod trace_port_tests;
-#[cfg(test)]
 mod tracees_tests;
 #[cfg(test)]
 mod two_ports_tests;
-#[cfg(test)]
-mod wrap_port_tests;

@@ -1,13 +1,9 @@
-//! Tests of stores, of segments, of recovery and of the client that lists what it finds, through what each crate offers to
-//! others. They stand on no port and on no desk: a function's check costs by what its crate loads.
+//! Tests of stores, of segments and of recovery, through what each crate offers to others. They stand on no term, no port and
+//! no desk: a function's check costs by what its crate loads.
 #![tactic(auto)]
 
 #[cfg(test)]
 mod folder_store_tests;
-#[cfg(test)]
-mod line_tests;
-#[cfg(test)]
-mod live_listing_tests;
 #[cfg(test)]
 mod mem_store_tests;
 #[cfg(test)]
@@ -22,7 +18,5 @@ mod segment_pieces_tests;
 mod segment_reading_tests;
 #[cfg(test)]
 mod segment_tests;
-#[cfg(test)]
-mod trace_client_tests;
 #[cfg(test)]
 mod wiping_tests;

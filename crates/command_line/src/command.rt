@@ -1,9 +1,15 @@
 // The words of a command line, and what they ask for.
+ghost use Rattle.std.specs.Prelude.{◌≡◌, IfOk, string_bytes};
+ghost use Rattle.std.specs.Option.{option_map, option_copied};
 
+use crate::function::{Function, function_in};
+use crate::kind::{Listing, kind_named};
+use crate::process::is_process;
 use crate::request::{
     Asked, Ending, Flushing, Misuse, Request, Rules, Shape, TraceRequest, Wanted,
 };
 use crate::size::bytes_in;
+use chosen_lines::Choice;
 use clap::{Arg, ArgAction, ArgMatches, Command, value_parser};
 use std::alloc::{AllocError, Global};
 use std::convert::AsStr;
@@ -167,14 +173,72 @@ fn pretty<'a>(alloc: Global) -> Arg<'a> {
     .short('p')
 }
 
+fn from<'a>(alloc: Global) -> Arg<'a> {
+    option(
+        alloc,
+        "from",
+        "N",
+        "Shows no entry before the one of this number",
+    )
+    .value_parser(value_parser!(u64))
+}
+
+fn to<'a>(alloc: Global) -> Arg<'a> {
+    option(
+        alloc,
+        "to",
+        "N",
+        "Shows no entry after the one of this number",
+    )
+    .value_parser(value_parser!(u64))
+}
+
+fn only<'a>(alloc: Global) -> Arg<'a> {
+    option(
+        alloc,
+        "only",
+        "KIND[,KIND..]",
+        "Shows the entries of these kinds",
+    )
+}
+
+fn pid<'a>(alloc: Global) -> Arg<'a> {
+    option(
+        alloc,
+        "pid",
+        "PID",
+        "Shows what this process did, of the text that a listing has for it, with or without < and >",
+    )
+}
+
+fn mfa<'a>(alloc: Global) -> Arg<'a> {
+    option(
+        alloc,
+        "mfa",
+        "M[:F[/A]]",
+        "Shows calls of these functions, and what they return or raise",
+    )
+}
+
+/// A listing, and the options that choose its lines.
+fn with_choice<'a>(alloc: Global, command: Command<'a>) -> Result<Command<'a>, AllocError> {
+    command
+        .arg(pretty(alloc))?
+        .arg(from(alloc))?
+        .arg(to(alloc))?
+        .arg(only(alloc))?
+        .arg(pid(alloc))?
+        .arg(mfa(alloc))
+}
+
 fn list<'a>(alloc: Global) -> Result<Command<'a>, AllocError> {
-    of_files(
+    let command = of_files(
         alloc,
         "list",
         "Lists a stored trace on standard output",
-        "Example: dbgrec list -p trace",
-    )?
-    .arg(pretty(alloc))
+        "With --from, --to, --only, --pid or --mfa it shows the entries of which all of these hold, each with its number, and all drop records.\n\nExample: dbgrec list -p trace",
+    )?;
+    with_choice(alloc, command)
 }
 
 fn export<'a>(alloc: Global) -> Result<Command<'a>, AllocError> {
@@ -207,12 +271,12 @@ fn wipe<'a>(alloc: Global) -> Result<Command<'a>, AllocError> {
 }
 
 fn stream<'a>(alloc: Global) -> Result<Command<'a>, AllocError> {
-    Command::new(alloc, "stream")
+    let command = Command::new(alloc, "stream")
         .about(
             "Lists an entry stream from standard input on standard output, each line as it comes",
         )
-        .after_help("Example: nc HOST 4711 | dbgrec stream -p")
-        .arg(pretty(alloc))
+        .after_help("Example: nc HOST 4711 | dbgrec stream -p");
+    with_choice(alloc, command)
 }
 
 fn sim<'a>(alloc: Global) -> Command<'a> {
@@ -289,6 +353,74 @@ fn rules_in(matches: &ArgMatches<'_>) -> Rules {
     Rules { flushing, ending }
 }
 
+/// The kinds that are shown, if each word is one that a listing of this style may have.
+fn kinds_in<'a>(text: &'a str, is_pretty: bool) -> Result<&'a str, Misuse<'a>>
+    ensures { IfOk result (λ kinds. kinds.now ≡ text.entry.now) }
+{
+    for word in text.split(',') {
+        match kind_named(word) {
+            None => return Err(Misuse::Kind(word)),
+            Some(Listing::Pretty) if !is_pretty => return Err(Misuse::PrettyKind(word)),
+            Some(_) => {}
+        }
+    }
+    Ok(text)
+}
+
+/// The functions that are shown, where not all are.
+fn function_asked<'a>(matches: &ArgMatches<'a>) -> Result<Option<Function<'a>>, Misuse<'a>> {
+    match matches.get_str("mfa") {
+        None => Ok(None),
+        Some(text) => match function_in(text) {
+            None => Err(Misuse::Function(text)),
+            found => Ok(found),
+        },
+    }
+}
+
+/// The text of the process that is shown, where not all are.
+fn process_asked<'a>(matches: &ArgMatches<'a>) -> Result<Option<&'a str>, Misuse<'a>> {
+    match matches.get_str("pid") {
+        Some(text) if !is_process(text) => Err(Misuse::Process(text)),
+        found => Ok(found),
+    }
+}
+
+/// A text that is kept.
+fn kept(alloc: Global, text: Option<&str>) -> Result<Option<String>, AllocError>
+    ensures { IfOk result (λ kept. option_map string_bytes kept ≡ option_copied text.entry) }
+{
+    match text {
+        Some(text) => Ok(Some(String::from_str(alloc, text)?)),
+        None => Ok(None),
+    }
+}
+
+/// The words of the kinds that are shown, where not all are.
+fn kinds_asked<'a>(matches: &ArgMatches<'a>) -> Result<Option<&'a str>, Misuse<'a>> {
+    match matches.get_str("only") {
+        None => Ok(None),
+        Some(text) => Ok(Some(kinds_in(text, matches.get_flag("pretty"))?)),
+    }
+}
+
+/// Which lines of a listing are shown; None stands for all.
+fn choice_in<'a>(alloc: Global, matches: &ArgMatches<'a>) -> Result<Option<Choice>, Misuse<'a>> {
+    let function = function_asked(matches)?;
+    let kinds = kinds_asked(matches)?;
+    let process = process_asked(matches)?;
+    let choice = Choice {
+        from: matches.get_one::<u64>("from"),
+        to: matches.get_one::<u64>("to"),
+        kinds: kept(alloc, kinds)?,
+        pid: kept(alloc, process)?,
+        module: kept(alloc, function.map(|function| function.module))?,
+        name: kept(alloc, function.and_then(|function| function.name))?,
+        arity: function.and_then(|function| function.arity),
+    };
+    Ok(if choice.is_all() { None } else { Some(choice) })
+}
+
 /// What a subcommand of this name asks of a stored trace, if it is one for that.
 fn trace_request_in<'a>(
     name: &str,
@@ -318,14 +450,22 @@ fn trace_request_in<'a>(
 }
 
 /// What the words that were found ask for.
-fn request_in<'a>(matches: &ArgMatches<'a>) -> Result<Request<'a>, Misuse<'a>> {
+fn request_in<'a>(alloc: Global, matches: &ArgMatches<'a>) -> Result<Request<'a>, Misuse<'a>> {
     let Some((name, matches)) = matches.subcommand() else {
         return Ok(Request::Sim);
     };
     Ok(match trace_request_in(name, matches)? {
-        Some(asked) => Request::OfTrace(asked),
+        Some(request) => Request::OfTrace {
+            request,
+            choice: if name == "list" {
+                choice_in(alloc, matches)?
+            } else {
+                None
+            },
+        },
         None if name == "stream" => Request::Stream {
             is_pretty: matches.get_flag("pretty"),
+            choice: choice_in(alloc, matches)?,
         },
         None => Request::Sim,
     })
@@ -334,5 +474,5 @@ fn request_in<'a>(matches: &ArgMatches<'a>) -> Result<Request<'a>, Misuse<'a>> {
 /// What the words ask for, of which the first is the program's name.
 pub fn asked_for<'a, S: AsStr>(alloc: Global, words: &'a [S]) -> Result<Request<'a>, Misuse<'a>> {
     let matches = dbgrec(alloc)?.try_get_matches_from(words)?;
-    request_in(&matches)
+    request_in(alloc, &matches)
 }

@@ -2,6 +2,9 @@
 #![tactic(auto)]
 
 mod command;
+mod function;
+mod kind;
+mod process;
 mod request;
 mod size;
 

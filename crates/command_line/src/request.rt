@@ -1,5 +1,6 @@
 // What a command line asks for.
 
+use chosen_lines::Choice;
 use clap::Error;
 use std::alloc::AllocError;
 
@@ -60,7 +61,7 @@ pub struct Rules {
 }
 
 /// What a command line asks for.
-#[derive(Clone, Copy, Debug, PartialEq, Eq)]
+#[derive(Debug, Drop)]
 pub enum Request<'a> {
     /// Run a script over a store in memory.
     Sim,
@@ -68,9 +69,15 @@ pub enum Request<'a> {
     Stream {
         /// Every term as a person at a node's shell would see it.
         is_pretty: bool,
+        /// The lines that are shown, where not all are.
+        choice: Option<Choice>,
     },
     /// What is done with the files of a trace.
-    OfTrace(TraceRequest<'a>),
+    OfTrace {
+        request: TraceRequest<'a>,
+        /// The lines of a listing that are shown, where not all are.
+        choice: Option<Choice>,
+    },
 }
 
 /// What a command line asks of a stored trace.
@@ -112,6 +119,14 @@ pub enum Misuse<'a> {
     Form(Error),
     /// The value of `--size`.
     Size(&'a str),
+    /// A word of `--only` that is no kind.
+    Kind(&'a str),
+    /// A word of `--only` that is a kind with `--pretty` alone.
+    PrettyKind(&'a str),
+    /// The value of `--pid`.
+    Process(&'a str),
+    /// The value of `--mfa`.
+    Function(&'a str),
 }
 
 impl From<Error> for Misuse<'_> {

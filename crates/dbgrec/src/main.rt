@@ -1,15 +1,18 @@
 //! Records traces as `dbg` of Erlang does, and lists what a crash has left of them.
 #![tactic(auto)]
 
+mod choosing;
 mod console;
 mod outlet;
 mod simulation;
 
+use choosing::{choose_of_stream, choose_of_trace};
+use chosen_lines::{Choice, Sieve};
 use clap::error::ErrorKind as MisuseKind;
 use command_line::{Misuse, Request, TraceRequest, asked_for};
 use console::Console;
 use outlet::Outlet;
-use recorder::{Complaint, files_for, serve_stream, serve_trace};
+use recorder::{Complaint, Files, files_for, serve_stream, serve_trace};
 use script_port::SimFault;
 use simulation::serve_sim;
 use std::io::{ErrorKind, IsTerminal};
@@ -33,28 +36,87 @@ fn console_for(rt: &HostRuntime, request: &TraceRequest<'_>) -> Console {
     }
 }
 
-/// Does with a trace what is asked.
+/// Does with a trace what is asked, and writes all that comes of it.
+fn serve_whole(
+    rt: &HostRuntime,
+    request: TraceRequest<'_>,
+    files: &mut Files<'_>,
+    console: &mut Console,
+    output: &mut Outlet,
+) -> Result<(), Complaint> {
+    let mut watched = Watched::new(output, console);
+    let done = serve_trace(rt, request, files, rt.stdin(), &mut watched);
+    drop(watched);
+    done
+}
+
+/// Does with a trace what is asked, and writes the lines that are chosen of what comes of it.
+fn serve_chosen(
+    rt: &HostRuntime,
+    choice: Choice,
+    request: TraceRequest<'_>,
+    files: &mut Files<'_>,
+    console: &mut Console,
+    output: &mut Outlet,
+) -> Result<(), Complaint> {
+    let mut sieve = Sieve::new(rt.alloc(), choice, output);
+    let mut watched = Watched::new(&mut sieve, console);
+    let done = choose_of_trace(rt, request, files, rt.stdin(), &mut watched);
+    drop(watched);
+    drop(sieve);
+    done
+}
+
+/// Does with a trace what is asked. Of a listing the lines that are chosen are shown.
 fn serve_files(
     rt: &HostRuntime,
     request: TraceRequest<'_>,
+    choice: Option<Choice>,
     output: &mut Outlet,
 ) -> Result<(), Complaint> {
     let mut files = files_for(rt, &request)?;
     let mut console = console_for(rt, &request);
-    let mut watched = Watched::new(output, &mut console);
-    let done = serve_trace(rt, request, &mut files, rt.stdin(), &mut watched);
-    drop(watched);
+    let done = match choice {
+        None => serve_whole(rt, request, &mut files, &mut console, output),
+        Some(choice) => { serve_chosen(rt, choice, request, &mut files, &mut console, output) }
+    };
     drop(console);
     drop(files);
     done
+}
+
+/// Lists an entry stream, and writes the lines that are chosen.
+fn stream_chosen(
+    rt: &HostRuntime,
+    is_pretty: bool,
+    choice: Choice,
+    output: &mut Outlet,
+) -> Result<(), Complaint> {
+    let mut sieve = Sieve::new(rt.alloc(), choice, output);
+    let done = choose_of_stream(rt.alloc(), is_pretty, rt.stdin(), &mut sieve);
+    drop(sieve);
+    done
+}
+
+/// Lists an entry stream. The lines that are chosen are shown.
+fn list_stream(
+    rt: &HostRuntime,
+    is_pretty: bool,
+    choice: Option<Choice>,
+    output: &mut Outlet,
+) -> Result<(), Complaint> {
+    match choice {
+        None => serve_stream(rt.alloc(), is_pretty, rt.stdin(), output),
+        Some(choice) => stream_chosen(rt, is_pretty, choice, output),
+    }
 }
 
 /// Does what is asked for.
 fn serve(rt: &HostRuntime, request: Request<'_>, output: &mut Outlet) -> Result<(), Complaint> {
     match request {
         Request::Sim => serve_sim(rt.alloc(), rt.stdin(), output),
-        Request::Stream { is_pretty } => { serve_stream(rt.alloc(), is_pretty, rt.stdin(), output) }
-        Request::OfTrace(request) => serve_files(rt, request, output),
+        Request::Stream { is_pretty, choice } => list_stream(rt, is_pretty, choice, output),
+        Request::OfTrace { request, choice } => serve_files(rt, request, choice, output),
     }
 }
 
@@ -81,6 +143,41 @@ fn fail_to_write(rt: &HostRuntime, complaint: &Complaint, reason: Option<io::Err
     code
 }
 
+fn not_of_size(rt: &HostRuntime, text: &str) -> ExitCode {
+    let _ = eprintln!(rt;
+        "error: invalid value '{text}' for '--size <BYTES>': a number below 4294967296, with K, M or G after it or nothing\n\nFor more information, try '--help'."
+    );
+    ExitCode::from(2)
+}
+
+fn no_kind(rt: &HostRuntime, word: &str) -> ExitCode {
+    let _ = eprintln!(rt;
+        "error: invalid value '{word}' for '--only <KIND[,KIND..]>': call, return, exception, send, send_lost, receive, other, opaque or drop, several with commas between them; with --pretty also OTP's other words, as spawn and exit\n\nFor more information, try '--help'."
+    );
+    ExitCode::from(2)
+}
+
+fn pretty_kind(rt: &HostRuntime, word: &str) -> ExitCode {
+    let _ = eprintln!(rt;
+        "error: '--only {word}' needs '--pretty': without it such a message is other or opaque\n\nFor more information, try '--help'."
+    );
+    ExitCode::from(2)
+}
+
+fn no_process(rt: &HostRuntime, text: &str) -> ExitCode {
+    let _ = eprintln!(rt;
+        "error: invalid value '{text}' for '--pid <PID>': a process as a listing shows it, as <app@host.80.0.0> or <'app@my-host'.80.0.0>, or a port, as #Port<app@host.4.0>\n\nFor more information, try '--help'."
+    );
+    ExitCode::from(2)
+}
+
+fn no_function(rt: &HostRuntime, text: &str) -> ExitCode {
+    let _ = eprintln!(rt;
+        "error: invalid value '{text}' for '--mfa <M[:F[/A]]>': a module, as lists, a function, as lists:seq, or one of so many arguments, as lists:seq/2\n\nFor more information, try '--help'."
+    );
+    ExitCode::from(2)
+}
+
 /// Tells what is wrong with the command line, or shows the help that it asks for.
 fn correct(rt: &HostRuntime, misuse: Misuse<'_>) -> ExitCode {
     match misuse {
@@ -91,12 +188,11 @@ fn correct(rt: &HostRuntime, misuse: Misuse<'_>) -> ExitCode {
             let _ = error.print(rt);
             ExitCode::from(if error.use_stderr() { 2 } else { 0 })
         }
-        Misuse::Size(text) => {
-            let _ = eprintln!(rt;
-                "error: invalid value '{text}' for '--size <BYTES>': a number below 4294967296, with K, M or G after it or nothing\n\nFor more information, try '--help'."
-            );
-            ExitCode::from(2)
-        }
+        Misuse::Size(text) => not_of_size(rt, text),
+        Misuse::Kind(word) => no_kind(rt, word),
+        Misuse::PrettyKind(word) => pretty_kind(rt, word),
+        Misuse::Process(text) => no_process(rt, text),
+        Misuse::Function(text) => no_function(rt, text),
     }
 }
 

@@ -4,7 +4,8 @@ use Rattle.trace_reader.specs.declared.fault.ReadFault.{ReadFault}
 use Rattle.trace_reader.specs.declared.fault.ReadFault.TheVariants as reads
 use Rattle.recorder.specs.Commands.{IsToldOf}
 use Rattle.recorder.specs.Complaints.{status_told}
-use Rattle.script_port.specs.Faults.{status_of, read_fault}
+use Rattle.recorder.specs.Faults.{read_fault}
+use Rattle.script_port.specs.Faults.{status_of}
 use Rattle.recorder.specs.declared.complaint.Complaint.{Complaint}
 use Rattle.script_port.specs.declared.fault.SimFault.{SimFault}
 

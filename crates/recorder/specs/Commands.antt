@@ -1,9 +1,10 @@
 -- What a command does with the files of a trace.
-use Rattle.std.specs.Prelude.{◌≡◌, ◌⊎◌, ℕ, Bool, true, false, Option, None, List, [], Result, Ok, Err, OnOk, IfErr}
+use Rattle.std.specs.Prelude.{◌≡◌, ◌⊎◌, ℕ, Bool, true, false, Option, None, List, [], Result, Ok, Err, IsSome, OnOk, IfErr}
 use Rattle.std.specs.Io.KnownBytes.{Appends, Keeps}
 use Rattle.trace_store.specs.Disk.{Image}
 use Rattle.trace_store.specs.Moments.{LeavesOnly}
-use Rattle.stores.specs.FolderStore.{honest_of, reads_of, images_of, moments_of, clock_of}
+use Rattle.stores.specs.Events.{World}
+use Rattle.stores.specs.FolderStore.{past_of, honest_of, reads_of, images_of, moments_of, clock_of}
 use Rattle.stores.specs.declared.folder_store.FolderStore.{FolderStore}
 use Rattle.stores.specs.contracts.folder_store.FolderStoreStore.TheImpl as folder
 use Rattle.segment.specs.Specification.{Spec}
@@ -29,12 +30,13 @@ use Rattle.command_line.specs.declared.request.Rules.{Rules}
 use Rattle.command_line.specs.declared.request.TraceRequest.{TraceRequest}
 use Rattle.command_line.specs.declared.request.TraceRequest.TheVariants as requests
 use Rattle.recorder.specs.Complaints.{status_told}
-use Rattle.script_port.specs.Faults.{status_of, run_fault, read_fault, wipe_fault}
-use Rattle.recorder.specs.Files.{OnlyLooks, WasRecorded, WasFed}
+use Rattle.script_port.specs.Faults.{status_of, run_fault}
+use Rattle.recorder.specs.Faults.{read_fault, wipe_fault}
+use Rattle.recorder.specs.Files.{OnlyLooks, LooksOver, WasRecorded, WasFed}
 use Rattle.recorder.specs.Incoming.{Outside, outside}
 use Rattle.script_port.specs.PortOpenings.{first_told, FitsStore, GoesOnOrBegins}
 use Rattle.recorder.specs.Openings.{wanted, KeepsTrace, IsWhyNotOpened}
-use Rattle.recorder.specs.Places.{turn_of}
+use Rattle.trace_places.specs.Places.{file_count, turn_of}
 use Rattle.script_port.specs.Texts.{line_of}
 use Rattle.script_port.specs.declared.answer.Answer.TheVariants.{Done}
 use Rattle.recorder.specs.declared.complaint.Complaint.{Complaint}
@@ -134,10 +136,19 @@ Changes _ = Unit {0}
 
 -- what is done with a trace for what the command line asks, by what is seen of the stream that comes in, what is observed until the end, and the bytes that are written
 abbrev pub Serves : TraceRequest → Files → Files → Outside → Observations → Option (List ℕ) → Option (List ℕ) → Result Unit Complaint → Type 0
-Serves (requests.List asked is_pretty) old new saw observed was now result = (honest_of new.store → IsRead (ListsStore (style_of is_pretty)) (as_lines (style_of is_pretty)) (reads_of old.store) was now result) × OnlyLooks old.store new.store
-Serves (requests.Export asked) old new saw observed was now result = (honest_of new.store → IsRead ExportsStore as_bytes (reads_of old.store) was now result) × OnlyLooks old.store new.store
-Serves (requests.Info asked is_json) old new saw observed was now result = (honest_of new.store → OnOk result (IsStanding standings.Ours (reads_of old.store))) × IfErr result (λ complaint. status_told complaint ≡ 1) × OnlyLooks old.store new.store
+Serves (requests.List asked is_pretty) old new saw observed was now result = LooksOver old.store new.store (IsRead (ListsStore (style_of is_pretty)) (as_lines (style_of is_pretty)) (reads_of old.store) was now result)
+Serves (requests.Export asked) old new saw observed was now result = LooksOver old.store new.store (IsRead ExportsStore as_bytes (reads_of old.store) was now result)
+Serves (requests.Info asked is_json) old new saw observed was now result = LooksOver old.store new.store (OnOk result (IsStanding standings.Ours (reads_of old.store))) × IfErr result (λ complaint. status_told complaint ≡ 1)
 Serves (requests.Wipe asked is_forced) old new saw observed was now result = (honest_of new.store → Clears (clearing_of is_forced) old.store new.store was now result)
     × (honest_of new.store → IsNotToWipe (clearing_of is_forced) (reads_of old.store) → OnlyLooks old.store new.store) × (honest_of new.store → LeavesOnly clock_of moments_of old.store new.store (IsClearing (images_of old.store)))
 Serves (requests.Record asked) old new saw observed was now result = Records (wanted old.place.kind (turn_of asked)) old.store new.store saw.remaining was now result
 Serves (requests.Import asked rules) old new saw observed was now result = Feeds (wanted old.place.kind (turn_of asked)) rules old.store new.store saw observed was now result
+
+-- no device call was made yet on the files of a trace, whatever the world that they are part of
+abbrev pub IsUntouched : World → Files → Type 0
+IsUntouched world files = past_of files.store ≡ record { world = world; count = file_count files.place.kind; events = [] }
+
+-- and their lock was taken
+pub record IsLocked (world : World) (files : Files) : Type 0 where
+  pub past : IsUntouched world files
+  pub locked : IsSome files.locked

@@ -1,6 +1,7 @@
 -- What is done with the real files of a trace.
 use Rattle.std.specs.Prelude.{◌≡◌, ℕ, true, Option, Some, None, List, Result, Ok, Err, OnOk}
 use Rattle.std.specs.Io.KnownBytes.{Appends}
+use Rattle.trace_reader.specs.DeviceReads.{DeviceReads}
 use Rattle.segment.specs.Pieces.{OnlyReads}
 use Rattle.stores.specs.FolderStore.{honest_of, reads_of, images_of, moments_of, clock_of}
 use Rattle.stores.specs.declared.folder_store.FolderStore.{FolderStore}
@@ -29,6 +30,15 @@ use Rattle.script_port.specs.declared.reply.Origin.{Origin}
 -- the files were read at most
 abbrev pub OnlyLooks : FolderStore → FolderStore → Type 0
 OnlyLooks old new = OnlyReads honest_of clock_of reads_of images_of moments_of old new
+
+-- and this was told of them, where they are honest
+pub record LooksOver (old new : FolderStore) (Told : Type 0) : Type 0 where
+  pub only_reads : OnlyLooks old new
+  pub told : honest_of new → Told
+
+-- the same of a call that answers this, with the failures that its fault tells of and at most so many device calls
+abbrev pub FolderReads : {T E : Type 0} → (ℕ → ℕ → E → Type 0) → FolderStore → FolderStore → Result T E → Type 0 → Type 0
+FolderReads Tells old new result Most = DeviceReads folder.ghosts Tells old new result Most
 
 -- the first lines of a script, each for a desk, were run at the desk of a port over this opening, which then was dropped
 abbrev pub RanAtDesk : AnyOpening → Origin → FolderStore → FolderStore → Stretch → Result (Option Leave) SimFault → (List ℕ → Type 0) → Type 0

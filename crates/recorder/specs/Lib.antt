@@ -1,4 +1,4 @@
-pub mod Places
+pub mod Faults
 pub mod Openings
 pub mod Incoming
 pub mod Parts

@@ -4,11 +4,11 @@ ghost use Rattle.recorder.specs.Complaints.{status_told};
 ghost use Rattle.recorder.specs.declared.complaint.Complaint.TheVariants as complaints;
 ghost use Rattle.script_port.specs.declared.fault.SimFault.TheVariants as faults;
 
-use crate::shown::Shown;
 use recovery::RecoverFault;
 use script_port::{Refusal, SimFault};
 use std::alloc::AllocError;
 use std::{fmt, io};
+use trace_info::Shown;
 use trace_port::{PortFault, ResumeFault};
 
 /// What a person can do next, or has to know.

@@ -1,18 +1,19 @@
 // A trace is told in numbers.
 ghost use Rattle.std.specs.Prelude.{◌≡◌, OnOk, IfErr};
-ghost use Rattle.stores.specs.FolderStore.{honest_of, reads_of};
+ghost use Rattle.stores.specs.FolderStore.{reads_of};
 ghost use Rattle.trace_files.specs.Standing.{IsStanding};
 ghost use Rattle.trace_files.specs.declared.standing.Standing.TheVariants as standings;
 ghost use Rattle.recorder.specs.Complaints.{status_told};
 ghost use Rattle.script_port.specs.Faults.{status_of};
-ghost use Rattle.recorder.specs.Files.{OnlyLooks};
+ghost use Rattle.recorder.specs.Files.{OnlyLooks, LooksOver};
 
 use crate::complaint::Complaint;
+use crate::fault::fault_of_reading;
 use crate::files::{Doing, Files};
-use crate::info::Info;
 use script_port::SimFault;
 use std::alloc::{AllocError, Global};
 use std::io::{self, Write};
+use trace_info::Info;
 use trace_reader::{FileFound, Host, ReadFault, Watched};
 
 /// How often a trace that isn't whole is read again at most, while another process writes it.
@@ -31,8 +32,7 @@ fn gathered(files: &Files<'_>, found: Vec<FileFound>) -> Result<Info, AllocError
 
 /// Reads a trace once.
 fn look_once(files: &mut Files<'_>) -> Result<Info, ReadFault>
-    ensures there { honest_of files.new.store → OnOk result (IsStanding standings.Ours (reads_of files.old.store)) }
-    ensures only_reads { OnlyLooks files.old.store files.new.store }
+    ensures there { LooksOver files.old.store files.new.store (OnOk result (IsStanding standings.Ours (reads_of files.old.store))) }
 {
     let found = files.sum_up()?;
     match gathered(files, found) {
@@ -43,8 +43,7 @@ fn look_once(files: &mut Files<'_>) -> Result<Info, ReadFault>
 
 /// Reads a trace, and where it isn't whole while another process writes it again, five times in all.
 fn look_over(files: &mut Files<'_>) -> Result<Info, ReadFault>
-    ensures there { honest_of files.new.store → OnOk result (IsStanding standings.Ours (reads_of files.old.store)) }
-    ensures only_reads { OnlyLooks files.old.store files.new.store }
+    ensures there { LooksOver files.old.store files.new.store (OnOk result (IsStanding standings.Ours (reads_of files.old.store))) }
 {
     let mut made = 0;
     'readings: loop {
@@ -54,6 +53,15 @@ fn look_over(files: &mut Files<'_>) -> Result<Info, ReadFault>
         }
         drop(info);
         made += 1;
+    }
+}
+
+/// What was done when a trace was found not to be whole.
+fn doing_of(info: &Info) -> Doing {
+    if info.is_written {
+        Doing::ReadingAgain
+    } else {
+        Doing::Counting(info.before_damage)
     }
 }
 
@@ -83,8 +91,7 @@ fn write_json<W: Write>(
     alloc: Global,
     out: &mut W,
 ) -> Result<io::Result<()>, AllocError> {
-    let object = info.as_json(alloc)?;
-    let text = object.to_string(alloc)?;
+    let text = info.to_json(alloc)?;
     Ok(writeln!(out, "{text}"))
 }
 
@@ -102,7 +109,7 @@ fn told(files: &mut Files<'_>, fault: ReadFault, doing: Doing) -> Complaint
     ensures status { status_told result ≡ 1 }
     ensures only_reads { OnlyLooks files.old.store files.new.store }
 {
-    files.explained(SimFault::from(fault), doing)
+    files.explained(fault_of_reading(fault), doing)
 }
 
 /// Tells what a trace holds, in numbers; where it isn't whole, what could be read of it.
@@ -111,9 +118,8 @@ pub fn info<W: Write, H: Host>(
     is_json: bool,
     watched: &mut Watched<'_, W, H>,
 ) -> Result<(), Complaint>
-    ensures there { honest_of files.new.store → OnOk result (IsStanding standings.Ours (reads_of files.old.store)) }
+    ensures there { LooksOver files.old.store files.new.store (OnOk result (IsStanding standings.Ours (reads_of files.old.store))) }
     ensures status { IfErr result (λ complaint. status_told complaint ≡ 1) }
-    ensures only_reads { OnlyLooks files.old.store files.new.store }
 {
     let info = match look_over(files) {
         Ok(info) => info,
@@ -124,6 +130,6 @@ pub fn info<W: Write, H: Host>(
     }
     match info.fault() {
         None => Ok(()),
-        Some(cause) => Err(told(files, ReadFault::Refused(cause), info.doing())),
+        Some(cause) => Err(told(files, ReadFault::Refused(cause), doing_of(&info))),
     }
 }

@@ -3,21 +3,16 @@
 
 mod commands;
 mod complaint;
+mod fault;
 mod files;
 mod import;
 mod incoming;
-mod info;
-mod info_json;
-mod info_text;
 mod informing;
 mod live;
 mod locked;
-mod lookup;
 mod notices;
 mod opening;
-mod place;
 mod record;
-mod shown;
 mod sites;
 mod source;
 
@@ -26,7 +21,6 @@ pub use complaint::{Advice, Complaint};
 pub use files::Files;
 pub use import::{Plan, import_file, import_wrap};
 pub use opening::open_store;
-pub use place::{Kind, Place, Turn};
 pub use record::{record_file, record_wrap};
 pub use sites::files_for;
 pub use source::{Source, Stream};

@@ -1,11 +1,10 @@
 // What a command says of its options on standard error.
 
-use crate::lookup::Found;
-use crate::place::Kind;
-use crate::shown::Shown;
 use command_line::{Asked, Wanted};
 use script_port::Origin;
 use segment::{Kind as Turns, SegHeader};
+use trace_info::Shown;
+use trace_places::{Found, Kind};
 
 /// Names the options that mean nothing to a trace of one file.
 pub fn tell_idle_on_file(rt: &HostRuntime, asked: &Asked<'_>) {

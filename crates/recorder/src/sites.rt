@@ -1,22 +1,19 @@
 // The files of the trace that a command line asks for.
-ghost use Rattle.std.specs.Prelude.{◌≡◌, [], IfOk, IsSome};
+ghost use Rattle.std.specs.Prelude.{IfOk, IsSome};
 ghost use Rattle.stores.specs.Events.{World};
-ghost use Rattle.stores.specs.FolderStore.{past_of};
-ghost use Rattle.recorder.specs.Commands.{Changes};
-ghost use Rattle.recorder.specs.Places.{file_count};
+ghost use Rattle.recorder.specs.Commands.{Changes, IsUntouched, IsLocked};
 
 use crate::complaint::{Complaint, FAILED_DISK};
 use crate::files::Files;
-use crate::lookup::{Found, find};
 use crate::notices::{tell_idle, tell_idle_on_file};
-use crate::place::Place;
 use command_line::{Asked, TraceRequest, Wanted};
+use trace_places::{Found, Place, find};
 
 /// The files of the trace that is asked for: locked, where they are to be changed. Standard error says what is worth
 /// knowing of it.
 pub fn files_for<'a>(rt: &HostRuntime, request: &TraceRequest<'a>) -> Result<Files<'a>, Complaint>
     ghost world: { World }
-    ensures past { IfOk result (λ files. past_of files.store ≡ record { world = world; count = file_count files.place.kind; events = [] }) }
+    ensures past { IfOk result (IsUntouched world) }
     ensures locked { Changes request.now → IfOk result (λ files. IsSome files.locked) }
 {
     match request {
@@ -58,7 +55,7 @@ fn found_to_read(rt: &HostRuntime, asked: Asked<'_>) -> Result<Found, Complaint>
 /// A trace to be read. Where a sync of it failed, standard error says so.
 fn files_to_read<'a>(rt: &HostRuntime, asked: Asked<'a>) -> Result<Files<'a>, Complaint>
     ghost world: { World }
-    ensures past { IfOk result (λ files. past_of files.store ≡ record { world = world; count = file_count files.place.kind; events = [] }) }
+    ensures past { IfOk result (IsUntouched world) }
 {
     let found = found_to_read(rt, asked)?;
     let files = Files::at(*rt, asked, found)?;
@@ -71,8 +68,7 @@ fn files_to_read<'a>(rt: &HostRuntime, asked: Asked<'a>) -> Result<Files<'a>, Co
 /// A trace to be cleared.
 fn files_to_wipe<'a>(rt: &HostRuntime, asked: Asked<'a>) -> Result<Files<'a>, Complaint>
     ghost world: { World }
-    ensures past { IfOk result (λ files. past_of files.store ≡ record { world = world; count = file_count files.place.kind; events = [] }) }
-    ensures locked { IfOk result (λ files. IsSome files.locked) }
+    ensures locked { IfOk result (IsLocked world) }
 {
     let found = found_to_read(rt, asked)?;
     Files::locked_at(*rt, asked, found)
@@ -81,8 +77,7 @@ fn files_to_wipe<'a>(rt: &HostRuntime, asked: Asked<'a>) -> Result<Files<'a>, Co
 /// A trace to be written. It is refused where a sync failed before, unless the command line says otherwise.
 fn files_to_write<'a>(rt: &HostRuntime, wanted: &Wanted<'a>) -> Result<Files<'a>, Complaint>
     ghost world: { World }
-    ensures past { IfOk result (λ files. past_of files.store ≡ record { world = world; count = file_count files.place.kind; events = [] }) }
-    ensures locked { IfOk result (λ files. IsSome files.locked) }
+    ensures locked { IfOk result (IsLocked world) }
 {
     let asked = wanted.asked;
     let found = find(*rt, asked)?;

@@ -13,10 +13,6 @@ use Rattle.trace_client.specs.declared.fault.StreamFault.{StreamFault}
 use Rattle.trace_client.specs.declared.fault.StreamFault.TheVariants as stream
 use Rattle.trace_script.specs.declared.fault.ScriptFault.{ScriptFault}
 use Rattle.trace_script.specs.declared.fault.ScriptFault.TheVariants as scripts
-use Rattle.trace_reader.specs.declared.fault.ReadFault.{ReadFault}
-use Rattle.trace_reader.specs.declared.fault.ReadFault.TheVariants as reads
-use Rattle.trace_reader.specs.declared.fault.WipeFault.{WipeFault}
-use Rattle.trace_reader.specs.declared.fault.WipeFault.TheVariants as wipes
 use Rattle.script_port.specs.declared.fault.SimFault.{SimFault}
 use Rattle.script_port.specs.declared.fault.SimFault.TheVariants as faults
 
@@ -56,20 +52,6 @@ script_fault (scripts.BadCommand line) = faults.BadCommand line
 script_fault scripts.Read = faults.Read
 script_fault scripts.TooLong = faults.Read
 script_fault scripts.NoMemory = faults.NoMemory
-
--- a trace that isn't read, or not to its end
-abbrev pub read_fault : ReadFault → SimFault
-read_fault (reads.Refused cause) = faults.Refused (refusals.Recover cause)
-read_fault (reads.Foreign file is_stream) = faults.Foreign file is_stream
-read_fault reads.Absent = faults.Absent
-read_fault reads.Write = faults.Write
-read_fault reads.NoMemory = faults.NoMemory
-
--- a trace that isn't cleared
-abbrev pub wipe_fault : WipeFault → SimFault
-wipe_fault (wipes.Foreign file is_stream) = faults.Foreign file is_stream
-wipe_fault wipes.Absent = faults.Absent
-wipe_fault wipes.Device = faults.Refused refusals.Device
 
 -- the exit status of a run that it ended: 2 for a line that isn't a command
 abbrev pub status_of : SimFault → ℕ

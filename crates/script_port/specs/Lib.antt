@@ -6,4 +6,5 @@ pub mod DeskLines
 pub mod Asked
 pub mod Read
 pub mod Held
+pub mod LinesRun
 pub mod PortOpenings

@@ -4,6 +4,7 @@ use Rattle.trace_message.specs.declared.event.Stamp.{Stamp}
 use Rattle.trace_port.specs.declared.port.TracePort.{Ghosts as PortGhosts}
 use Rattle.tracees.specs.Books.{no_totals}
 use Rattle.tracees.specs.Desks.{Place, Seat}
+use Rattle.tracees.specs.Loans.{KeepsLoans}
 use Rattle.tracees.specs.States.{place_of, seat_of}
 use Rattle.tracees.specs.declared.book.PlainBook.{PlainBook}
 use Rattle.tracees.specs.declared.book.PlainAccount.{PlainAccount}
@@ -60,3 +61,7 @@ seat_seen traced = seat_of plain.ghosts traced
 -- a desk in memory with its tracees
 abbrev pub side_seen : {P : Type 0} (port : PortGhosts P) → Desk P PlainBook PlainAccount port plain.ghosts → Attached → DeskSide P
 side_seen port desk attached = record { desk = desk_seen port desk; moment = attached.moment; seats = map seat_seen attached.traced.items }
+
+-- this was done at a desk in memory, and the loans stay as they were
+abbrev pub KeepsDesk : {P : Type 0} (port : PortGhosts P) → Desk P PlainBook PlainAccount port plain.ghosts → Desk P PlainBook PlainAccount port plain.ghosts → Type 0 → Type 0
+KeepsDesk port old new Did = KeepsLoans port plain.ghosts old new Did

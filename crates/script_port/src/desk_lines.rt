@@ -3,11 +3,10 @@ ghost use Rattle.std.specs.Prelude.{◌≡◌, ◌≤◌, true, false};
 ghost use Rattle.std.specs.Io.KnownBytes.{Appends};
 ghost use Rattle.tracees.specs.Effects.{Effect, no_effect};
 ghost use Rattle.trace_script.specs.Lines.{IsWithinLimits, IsNumbered, IsOfFiles};
-ghost use Rattle.trace_script.specs.Reading.{progress};
-ghost use Rattle.script_port.specs.Sides.{AtDesk, first_side, desk_seen, seat_seen, side_seen};
+ghost use Rattle.script_port.specs.Sides.{AtDesk, first_side, desk_seen, seat_seen, side_seen, KeepsDesk};
 ghost use Rattle.script_port.specs.DeskLines.{IsAskedFor, IsAskedAtDesk};
 ghost use Rattle.script_port.specs.Asked.{IsAsked};
-ghost use Rattle.script_port.specs.Read.{stretch};
+ghost use Rattle.script_port.specs.LinesRun.{RunsLines};
 ghost use Rattle.script_port.specs.Held.{Ran, IsAtDesk};
 
 use crate::answer::Answer;
@@ -32,14 +31,8 @@ pub fn run_desk<P: TracePort, R: BufRead, W: Write>(
     script: &mut Script<'_, R>,
     answers: &mut Answers<'_, W>,
 ) -> Result<Option<Leave>, SimFault>
-    ensures name { desk.new.port.ghost_name ≡ desk.old.port.ghost_name }
-    ensures same { P.lender desk.new.port.now ≡ P.lender desk.old.port.now }
-    ensures writer { answers.new.writer.ghost_name ≡ answers.old.writer.ghost_name }
-    ensures of_desk { script.new.is_of_desk ≡ script.old.is_of_desk }
-    ensures reader { script.new.reader.ghost_name ≡ script.old.reader.ghost_name }
-    ensures run { let over = stretch script.old.is_of_desk (progress script.old.number (R.remaining script.old.reader.now)) (progress script.new.number (R.remaining script.new.reader.now)) in
-        Ran P.told (AtDesk (first_side (desk_seen P.TracePort desk.old))) files over result (IsAtDesk (desk_seen P.TracePort desk.new))
-        (λ text. Appends (W.contents answers.old.writer.now) (W.contents answers.new.writer.now) text) }
+    ensures run { RunsLines R.Read W.Write script.old script.new answers.old answers.new (λ over was now. KeepsDesk P.TracePort desk.old desk.new (Ran P.told (AtDesk (first_side (desk_seen P.TracePort desk.old)))
+        files over result (IsAtDesk (desk_seen P.TracePort desk.new)) (λ text. Appends was now text))) }
 {
     let mut attached = Attached::new(alloc);
     for _line in 0..u64::MAX {
@@ -77,9 +70,7 @@ fn ask_owned<P: TracePort>(
     line: Line,
 ) -> Reply
     requires { IsWithinLimits line }
-    ensures name { desk.new.port.ghost_name ≡ desk.old.port.ghost_name }
-    ensures same { P.lender desk.new.port.now ≡ P.lender desk.old.port.now }
-    ensures step { (did : Effect) × IsAsked P.told (AtDesk (side_seen P.TracePort desk.old attached.old)) (AtDesk (side_seen P.TracePort desk.new attached.new)) line result did }
+    ensures step { KeepsDesk P.TracePort desk.old desk.new ((did : Effect) × IsAsked P.told (AtDesk (side_seen P.TracePort desk.old attached.old)) (AtDesk (side_seen P.TracePort desk.new attached.new)) line result did) }
 {
     let reply = ask(alloc, desk, attached, &line);
     drop(line);
@@ -94,9 +85,7 @@ fn ask<P: TracePort>(
     line: &Line,
 ) -> Reply
     requires { IsWithinLimits line.now }
-    ensures name { desk.new.port.ghost_name ≡ desk.old.port.ghost_name }
-    ensures same { P.lender desk.new.port.now ≡ P.lender desk.old.port.now }
-    ensures step { (did : Effect) × IsAsked P.told (AtDesk (side_seen P.TracePort desk.old attached.old)) (AtDesk (side_seen P.TracePort desk.new attached.new)) line.now result did }
+    ensures step { KeepsDesk P.TracePort desk.old desk.new ((did : Effect) × IsAsked P.told (AtDesk (side_seen P.TracePort desk.old attached.old)) (AtDesk (side_seen P.TracePort desk.new attached.new)) line.now result did) }
 {
     match line {
         Line::Flush => Reply::Told(Answer::of_flush(desk.flush())),
@@ -124,9 +113,7 @@ fn ask_desk<P: TracePort>(
     line: &DeskLine,
 ) -> Answer
     requires { IsNumbered line.now }
-    ensures name { desk.new.port.ghost_name ≡ desk.old.port.ghost_name }
-    ensures same { P.lender desk.new.port.now ≡ P.lender desk.old.port.now }
-    ensures step { (did : Effect) × IsAskedAtDesk P.told (side_seen P.TracePort desk.old attached.old) (side_seen P.TracePort desk.new attached.new) line.now result did }
+    ensures step { KeepsDesk P.TracePort desk.old desk.new ((did : Effect) × IsAskedAtDesk P.told (side_seen P.TracePort desk.old attached.old) (side_seen P.TracePort desk.new attached.new) line.now result did) }
 {
     match line {
         DeskLine::Stamp { mega, sec, micro } => {
@@ -172,10 +159,9 @@ fn attach<P: TracePort>(
     flags: Flags,
 ) -> Answer
     requires { number ≤ 999 }
-    ensures name { desk.new.port.ghost_name ≡ desk.old.port.ghost_name }
     ensures port { desk.new.port.now ≡ desk.old.port.now }
-    ensures step { IsAskedAtDesk P.told (side_seen P.TracePort desk.old attached.old) (side_seen P.TracePort desk.new attached.new)
-        (DeskLine.Tracee number capacity drop_limit flags) result no_effect }
+    ensures step { KeepsDesk P.TracePort desk.old desk.new (IsAskedAtDesk P.told (side_seen P.TracePort desk.old attached.old) (side_seen P.TracePort desk.new attached.new)
+        (DeskLine.Tracee number capacity drop_limit flags) result no_effect) }
 {
     if attached.place(number).is_some() {
         return Answer::OutOfOrder;
@@ -202,9 +188,7 @@ fn ask_tracee<P: TracePort>(
     moment: Stamp,
     line: &TraceeLine,
 ) -> Answer
-    ensures name { desk.new.port.ghost_name ≡ desk.old.port.ghost_name }
-    ensures same { P.lender desk.new.port.now ≡ P.lender desk.old.port.now }
-    ensures step { (did : Effect) × IsAskedFor P.told (desk_seen P.TracePort desk.old) moment (seat_seen traced.old) (desk_seen P.TracePort desk.new) (seat_seen traced.new) line.now result did }
+    ensures step { KeepsDesk P.TracePort desk.old desk.new ((did : Effect) × IsAskedFor P.told (desk_seen P.TracePort desk.old) moment (seat_seen traced.old) (desk_seen P.TracePort desk.new) (seat_seen traced.new) line.now result did) }
 {
     match line {
         TraceeLine::Emit(event) => Answer::of_emit(traced.emit(alloc, event, moment)),

@@ -1,6 +1,6 @@
 // What ends a run before its end.
 ghost use Rattle.std.specs.Prelude.{◌≡◌};
-ghost use Rattle.script_port.specs.Faults.{status_of, fault_of_list, run_fault, script_fault, read_fault, wipe_fault};
+ghost use Rattle.script_port.specs.Faults.{status_of, fault_of_list, run_fault, script_fault};
 ghost use Rattle.script_port.specs.declared.fault.SimFault.TheVariants as faults;
 ghost use Rattle.script_port.specs.declared.refusal.Refusal.TheVariants as refusals;
 
@@ -12,7 +12,6 @@ use stores::FileFault;
 use thiserror::Error;
 use trace_client::{ListFault, StreamFault};
 use trace_port::PortFault;
-use trace_reader::{ReadFault, WipeFault};
 use trace_script::ScriptFault;
 
 /// What ends a run before its end. It displays what is told on standard error.
@@ -176,32 +175,6 @@ impl From<ScriptFault> for SimFault {
             ScriptFault::BadCommand { line } => SimFault::BadCommand { line },
             ScriptFault::Read | ScriptFault::TooLong => SimFault::Read,
             ScriptFault::NoMemory => SimFault::NoMemory,
-        }
-    }
-}
-
-impl From<ReadFault> for SimFault {
-    ghost from_gives = { λ from fault. fault ≡ read_fault from };
-
-    fn from(fault: ReadFault) -> SimFault {
-        match fault {
-            ReadFault::Refused(cause) => SimFault::Refused(Refusal::Recover(cause)),
-            ReadFault::Foreign { file, is_stream } => SimFault::Foreign { file, is_stream },
-            ReadFault::Absent => SimFault::Absent,
-            ReadFault::Write => SimFault::Write,
-            ReadFault::NoMemory => SimFault::NoMemory,
-        }
-    }
-}
-
-impl From<WipeFault> for SimFault {
-    ghost from_gives = { λ from fault. fault ≡ wipe_fault from };
-
-    fn from(fault: WipeFault) -> SimFault {
-        match fault {
-            WipeFault::Foreign { file, is_stream } => SimFault::Foreign { file, is_stream },
-            WipeFault::Absent => SimFault::Absent,
-            WipeFault::Device => SimFault::Refused(Refusal::Device),
         }
     }
 }

@@ -56,7 +56,6 @@ fn contents_of<S: Store>(alloc: Global, store: &mut S) -> Result<Vec<Vec<u8>>, R
 pub fn bytes_of<S: Store>(alloc: Global, store: &mut S, file: u32) -> Result<Vec<u8>, Refusal>
     requires { file < length (S.reads store.old) }
     ensures only_reads { OnlyReads S.honest S.clock_of S.reads S.images S.moments store.old store.new }
-    ensures same { length (S.reads store.new) ≡ length (S.reads store.old) }
     ensures read { S.honest store.new → IfOk result (λ bytes. bytes.items ≡ file_of (S.reads store.old) file) }
 {
     let length = store.len(file)?;

@@ -3,10 +3,9 @@ ghost use Rattle.std.specs.Prelude.{◌≡◌, ◌≢◌, ◌<◌, ◌≤◌, �
 ghost use Rattle.std.specs.Io.KnownBytes.{Appends};
 ghost use Rattle.stores.specs.MemStore.{reads_of};
 ghost use Rattle.trace_script.specs.Lines.{IsWithinLimits, IsOfFiles};
-ghost use Rattle.trace_script.specs.Reading.{progress};
 ghost use Rattle.segment.specs.Specification.{Spec, File};
 ghost use Rattle.wrap_port.specs.WrapSpecs.{wrap_seen};
-ghost use Rattle.script_port.specs.Read.{stretch};
+ghost use Rattle.script_port.specs.LinesRun.{Answering, RunsLines};
 ghost use Rattle.simulator.specs.Simulated.{ended_so, ComesOf, Crashes, Does, DoesAlone, Runs, IsRunWhole, Simulates, IsOver, IsItsFault, IsRun, first_of as first_told};
 ghost use Rattle.script_port.specs.Texts.{line_of};
 ghost use Rattle.trace_port.specs.declared.create.CreateFault.TheVariants as creating;
@@ -85,11 +84,7 @@ pub fn run_lines<R: BufRead, W: Write>(
     script: &mut Script<'_, R>,
     answers: &mut Answers<'_, W>,
 ) -> Result<(), SimFault>
-    ensures name { answers.new.writer.ghost_name ≡ answers.old.writer.ghost_name }
-    ensures of_desk { script.new.is_of_desk ≡ script.old.is_of_desk }
-    ensures reader { script.new.reader.ghost_name ≡ script.old.reader.ghost_name }
-    ensures simulates { let over = stretch script.old.is_of_desk (progress script.old.number (R.remaining script.old.reader.now)) (progress script.new.number (R.remaining script.new.reader.now)) in
-        Simulates store.old store.new over (W.contents answers.old.writer.now) (W.contents answers.new.writer.now) result }
+    ensures simulates { RunsLines R.Read W.Write script.old script.new answers.old answers.new (λ over was now. Simulates store.old store.new over was now result) }
 {
     for _line in 0..u64::MAX {
         let Some(line) = script.next_line()? else {
@@ -114,11 +109,7 @@ fn run_whole<R: BufRead, W: Write>(
 ) -> Result<(), SimFault>
     requires sound { IsWithinLimits line }
     requires file { IsOfFiles (length (reads_of store.old)) line }
-    ensures name { answers.new.writer.ghost_name ≡ answers.old.writer.ghost_name }
-    ensures of_desk { script.new.is_of_desk ≡ script.old.is_of_desk }
-    ensures reader { script.new.reader.ghost_name ≡ script.old.reader.ghost_name }
-    ensures run { let over = stretch script.old.is_of_desk (progress script.old.number (R.remaining script.old.reader.now)) (progress script.new.number (R.remaining script.new.reader.now)) in
-        IsRunWhole line store.old store.new over result (W.contents answers.old.writer.now) (W.contents answers.new.writer.now) }
+    ensures run { RunsLines R.Read W.Write script.old script.new answers.old answers.new (λ over was now. IsRunWhole line store.old store.new over result was now) }
 {
     let left = run_line(alloc, &mut *store, &line, script, &mut *answers);
     drop(line);
@@ -135,11 +126,7 @@ fn run_line<R: BufRead, W: Write>(
 ) -> Result<Option<Leave>, Stop>
     requires sound { IsWithinLimits line.now }
     requires file { IsOfFiles (length (reads_of store.old)) line.now }
-    ensures name { answers.new.writer.ghost_name ≡ answers.old.writer.ghost_name }
-    ensures of_desk { script.new.is_of_desk ≡ script.old.is_of_desk }
-    ensures reader { script.new.reader.ghost_name ≡ script.old.reader.ghost_name }
-    ensures runs { let over = stretch script.old.is_of_desk (progress script.old.number (R.remaining script.old.reader.now)) (progress script.new.number (R.remaining script.new.reader.now)) in
-        Runs line.now store.old store.new over result (λ text. Appends (W.contents answers.old.writer.now) (W.contents answers.new.writer.now) text) }
+    ensures runs { RunsLines R.Read W.Write script.old script.new answers.old answers.new (λ over was now. Runs line.now store.old store.new over result (λ text. Appends was now text)) }
 {
     match line {
         Line::CreateFile(limit) => create_file(alloc, store, *limit, script, answers),
@@ -177,8 +164,7 @@ fn run_alone<W: Write>(
 ) -> Result<Option<Leave>, Stop>
     requires sound { IsWithinLimits line.now }
     requires file { IsOfFiles (length (reads_of store.old)) line.now }
-    ensures name { answers.new.writer.ghost_name ≡ answers.old.writer.ghost_name }
-    ensures does { DoesAlone line.now store.old store.new result (λ text. Appends (W.contents answers.old.writer.now) (W.contents answers.new.writer.now) text) }
+    ensures does { Answering W.Write answers.old answers.new (λ was now. DoesAlone line.now store.old store.new result (λ text. Appends was now text)) }
 {
     match run_store_line(alloc, store, line, &mut *answers) {
         Ok(()) => Ok(None),
@@ -204,11 +190,7 @@ fn create_file<R: BufRead, W: Write>(
     script: &mut Script<'_, R>,
     answers: &mut Answers<'_, W>,
 ) -> Result<Option<Leave>, Stop>
-    ensures name { answers.new.writer.ghost_name ≡ answers.old.writer.ghost_name }
-    ensures of_desk { script.new.is_of_desk ≡ script.old.is_of_desk }
-    ensures reader { script.new.reader.ghost_name ≡ script.old.reader.ghost_name }
-    ensures comes { let over = stretch script.old.is_of_desk (progress script.old.number (R.remaining script.old.reader.now)) (progress script.new.number (R.remaining script.new.reader.now)) in
-        ComesOf Created File store.old store.new over result (λ text. Appends (W.contents answers.old.writer.now) (W.contents answers.new.writer.now) text) }
+    ensures comes { RunsLines R.Read W.Write script.old script.new answers.old answers.new (λ over was now. ComesOf Created File store.old store.new over result (λ text. Appends was now text)) }
 {
     match begin_create(alloc, &mut *store, limit) {
         Ok(opening) => {
@@ -234,11 +216,7 @@ fn resume_file<R: BufRead, W: Write>(
     script: &mut Script<'_, R>,
     answers: &mut Answers<'_, W>,
 ) -> Result<Option<Leave>, Stop>
-    ensures name { answers.new.writer.ghost_name ≡ answers.old.writer.ghost_name }
-    ensures of_desk { script.new.is_of_desk ≡ script.old.is_of_desk }
-    ensures reader { script.new.reader.ghost_name ≡ script.old.reader.ghost_name }
-    ensures comes { let over = stretch script.old.is_of_desk (progress script.old.number (R.remaining script.old.reader.now)) (progress script.new.number (R.remaining script.new.reader.now)) in
-        ComesOf Resumed File store.old store.new over result (λ text. Appends (W.contents answers.old.writer.now) (W.contents answers.new.writer.now) text) }
+    ensures comes { RunsLines R.Read W.Write script.old script.new answers.old answers.new (λ over was now. ComesOf Resumed File store.old store.new over result (λ text. Appends was now text)) }
 {
     match begin_resume(alloc, &mut *store, limit) {
         Ok(opening) => {
@@ -263,11 +241,7 @@ fn resume_wrap<R: BufRead, W: Write>(
     script: &mut Script<'_, R>,
     answers: &mut Answers<'_, W>,
 ) -> Result<Option<Leave>, Stop>
-    ensures name { answers.new.writer.ghost_name ≡ answers.old.writer.ghost_name }
-    ensures of_desk { script.new.is_of_desk ≡ script.old.is_of_desk }
-    ensures reader { script.new.reader.ghost_name ≡ script.old.reader.ghost_name }
-    ensures comes { let over = stretch script.old.is_of_desk (progress script.old.number (R.remaining script.old.reader.now)) (progress script.new.number (R.remaining script.new.reader.now)) in
-        (spec : Spec) → ComesOf Resumed spec store.old store.new over result (λ text. Appends (W.contents answers.old.writer.now) (W.contents answers.new.writer.now) text) }
+    ensures comes { RunsLines R.Read W.Write script.old script.new answers.old answers.new (λ over was now. (spec : Spec) → ComesOf Resumed spec store.old store.new over result (λ text. Appends was now text)) }
 {
     match wrap_port::begin_resume(alloc, &mut *store) {
         Ok(opening) => {
@@ -293,11 +267,7 @@ fn create_wrap<R: BufRead, W: Write>(
     script: &mut Script<'_, R>,
     answers: &mut Answers<'_, W>,
 ) -> Result<Option<Leave>, Stop>
-    ensures name { answers.new.writer.ghost_name ≡ answers.old.writer.ghost_name }
-    ensures of_desk { script.new.is_of_desk ≡ script.old.is_of_desk }
-    ensures reader { script.new.reader.ghost_name ≡ script.old.reader.ghost_name }
-    ensures comes { let over = stretch script.old.is_of_desk (progress script.old.number (R.remaining script.old.reader.now)) (progress script.new.number (R.remaining script.new.reader.now)) in
-        ComesOf Created (wrap_seen spec) store.old store.new over result (λ text. Appends (W.contents answers.old.writer.now) (W.contents answers.new.writer.now) text) }
+    ensures comes { RunsLines R.Read W.Write script.old script.new answers.old answers.new (λ over was now. ComesOf Created (wrap_seen spec) store.old store.new over result (λ text. Appends was now text)) }
 {
     match wrap_port::begin_create(alloc, &mut *store, spec) {
         Ok(opening) => {
@@ -324,8 +294,7 @@ fn run_store_line<W: Write>(
 ) -> Result<(), SimFault>
     requires sound { IsWithinLimits line.now }
     requires file { IsOfFiles (length (reads_of store.old)) line.now }
-    ensures name { answers.new.writer.ghost_name ≡ answers.old.writer.ghost_name }
-    ensures does { OnOk result ((text : List ℕ) × Does store.old store.new line.now text × Appends (W.contents answers.old.writer.now) (W.contents answers.new.writer.now) text) }
+    ensures does { Answering W.Write answers.old answers.new (λ was now. OnOk result ((text : List ℕ) × Does store.old store.new line.now text × Appends was now text)) }
 {
     match line {
         Line::Store(files) => answers.tell(set_store(alloc, store, *files)),
@@ -400,8 +369,7 @@ fn finish<W: Write>(
     left: Result<Option<Leave>, Stop>,
     answers: &mut Answers<'_, W>,
 ) -> Result<(), SimFault>
-    ensures name { answers.new.writer.ghost_name ≡ answers.old.writer.ghost_name }
-    ensures over { OnOk result ((text : List ℕ) × IsOver left store.old store.new text × Appends (W.contents answers.old.writer.now) (W.contents answers.new.writer.now) text) }
+    ensures over { Answering W.Write answers.old answers.new (λ was now. OnOk result ((text : List ℕ) × IsOver left store.old store.new text × Appends was now text)) }
     ensures fault { IfErr result (IsItsFault left) }
 {
     match left {
@@ -430,8 +398,7 @@ fn crash<W: Write>(
     unsynced: Unsynced,
     answers: &mut Answers<'_, W>,
 ) -> Result<(), SimFault>
-    ensures name { answers.new.writer.ghost_name ≡ answers.old.writer.ghost_name }
-    ensures crashes { OnOk result ((text : List ℕ) × Crashes unsynced store.old store.new text × Appends (W.contents answers.old.writer.now) (W.contents answers.new.writer.now) text) }
+    ensures crashes { Answering W.Write answers.old answers.new (λ was now. OnOk result ((text : List ℕ) × Crashes unsynced store.old store.new text × Appends was now text)) }
     ensures fault { IfErr result (λ fault. fault ≡ faults.Write) }
 {
     answers.tell(crashed(store, unsynced))

@@ -7,6 +7,7 @@ pub mod Emits
 pub mod Hands
 pub mod Jobs
 pub mod Lent
+pub mod Loans
 pub mod Meanings
 pub mod Moments
 pub mod Moving

@@ -3,6 +3,7 @@
 ghost use Rattle.std.specs.Prelude.{◌≡◌, IfOk, OnErr, List, map};
 ghost use Rattle.tracees.specs.Moments.{AreGrown, AreCarried, AreReceiptsKept, EachMoment};
 ghost use Rattle.tracees.specs.Desks.{Seat};
+ghost use Rattle.tracees.specs.Loans.{KeepAllLoans};
 ghost use Rattle.tracees.specs.States.{places_with, state_of};
 ghost use Rattle.tracees.specs.Steps.{AreNumbered, IsStep, Run};
 ghost use Rattle.tracees.specs.declared.step.Step.TheVariants as steps;
@@ -25,9 +26,7 @@ fn hand_over<P: TracePort, K: Bookkeeping>(
     limit: u32,
 ) -> Reply
     requires { AreNumbered (state_of P.TracePort K.Bookkeeping desks.old traced.old) }
-    ensures step { IsStep P.told (state_of P.TracePort K.Bookkeeping desks.old traced.old) (state_of P.TracePort K.Bookkeeping desks.new traced.new) (steps.HandOver tracee limit) result }
-    ensures loans { map (λ d. d.port.ghost_name) desks.new ≡ map (λ d. d.port.ghost_name) desks.old }
-    ensures lenders { map (λ d. P.lender d.port.now) desks.new ≡ map (λ d. P.lender d.port.now) desks.old }
+    ensures step { KeepAllLoans P.TracePort K.Bookkeeping desks.old desks.new (IsStep P.told (state_of P.TracePort K.Bookkeeping desks.old traced.old) (state_of P.TracePort K.Bookkeeping desks.new traced.new) (steps.HandOver tracee limit) result) }
 {
     let place = tracee as usize;
     if place >= traced.len() {
@@ -48,9 +47,7 @@ fn flush_for<P: TracePort, K: Bookkeeping>(
     tracee: u32,
 ) -> Reply
     requires { AreNumbered (state_of P.TracePort K.Bookkeeping desks.old traced.old) }
-    ensures step { IsStep P.told (state_of P.TracePort K.Bookkeeping desks.old traced.old) (state_of P.TracePort K.Bookkeeping desks.new traced.new) (steps.FlushFor tracee) result }
-    ensures loans { map (λ d. d.port.ghost_name) desks.new ≡ map (λ d. d.port.ghost_name) desks.old }
-    ensures lenders { map (λ d. P.lender d.port.now) desks.new ≡ map (λ d. P.lender d.port.now) desks.old }
+    ensures step { KeepAllLoans P.TracePort K.Bookkeeping desks.old desks.new (IsStep P.told (state_of P.TracePort K.Bookkeeping desks.old traced.old) (state_of P.TracePort K.Bookkeeping desks.new traced.new) (steps.FlushFor tracee) result) }
 {
     let place = tracee as usize;
     if place >= traced.len() {
@@ -65,9 +62,7 @@ fn flush_for<P: TracePort, K: Bookkeeping>(
 
 /// A flush of a desk.
 fn flush<P: TracePort, K: Bookkeeping>(desks: &mut [Desk<'_, P, K>], desk: u32) -> Reply
-    ensures step { (tracees : List Seat) → IsStep P.told (places_with P.TracePort K.Bookkeeping desks.old tracees) (places_with P.TracePort K.Bookkeeping desks.new tracees) (steps.Flush desk) result }
-    ensures loans { map (λ d. d.port.ghost_name) desks.new ≡ map (λ d. d.port.ghost_name) desks.old }
-    ensures lenders { map (λ d. P.lender d.port.now) desks.new ≡ map (λ d. P.lender d.port.now) desks.old }
+    ensures step { KeepAllLoans P.TracePort K.Bookkeeping desks.old desks.new ((tracees : List Seat) → IsStep P.told (places_with P.TracePort K.Bookkeeping desks.old tracees) (places_with P.TracePort K.Bookkeeping desks.new tracees) (steps.Flush desk) result) }
 {
     let place = desk as usize;
     if place >= desks.len() {
@@ -78,9 +73,7 @@ fn flush<P: TracePort, K: Bookkeeping>(desks: &mut [Desk<'_, P, K>], desk: u32) 
 
 /// The end of a desk's trace.
 fn seal<P: TracePort, K: Bookkeeping>(desks: &mut [Desk<'_, P, K>], desk: u32) -> Reply
-    ensures step { (tracees : List Seat) → IsStep P.told (places_with P.TracePort K.Bookkeeping desks.old tracees) (places_with P.TracePort K.Bookkeeping desks.new tracees) (steps.Seal desk) result }
-    ensures loans { map (λ d. d.port.ghost_name) desks.new ≡ map (λ d. d.port.ghost_name) desks.old }
-    ensures lenders { map (λ d. P.lender d.port.now) desks.new ≡ map (λ d. P.lender d.port.now) desks.old }
+    ensures step { KeepAllLoans P.TracePort K.Bookkeeping desks.old desks.new ((tracees : List Seat) → IsStep P.told (places_with P.TracePort K.Bookkeeping desks.old tracees) (places_with P.TracePort K.Bookkeeping desks.new tracees) (steps.Seal desk) result) }
 {
     let place = desk as usize;
     if place >= desks.len() {
@@ -91,9 +84,7 @@ fn seal<P: TracePort, K: Bookkeeping>(desks: &mut [Desk<'_, P, K>], desk: u32) -
 
 /// A desk's port is told the time.
 fn tick<P: TracePort, K: Bookkeeping>(desks: &mut [Desk<'_, P, K>], desk: u32, now: u64) -> Reply
-    ensures step { (tracees : List Seat) → IsStep P.told (places_with P.TracePort K.Bookkeeping desks.old tracees) (places_with P.TracePort K.Bookkeeping desks.new tracees) (steps.Tick desk now) result }
-    ensures loans { map (λ d. d.port.ghost_name) desks.new ≡ map (λ d. d.port.ghost_name) desks.old }
-    ensures lenders { map (λ d. P.lender d.port.now) desks.new ≡ map (λ d. P.lender d.port.now) desks.old }
+    ensures step { KeepAllLoans P.TracePort K.Bookkeeping desks.old desks.new ((tracees : List Seat) → IsStep P.told (places_with P.TracePort K.Bookkeeping desks.old tracees) (places_with P.TracePort K.Bookkeeping desks.new tracees) (steps.Tick desk now) result) }
 {
     let place = desk as usize;
     if place >= desks.len() {
@@ -110,9 +101,7 @@ fn act<P: TracePort, K: Bookkeeping>(
     step: &Step,
 ) -> Reply
     requires { AreNumbered (state_of P.TracePort K.Bookkeeping desks.old traced.old) }
-    ensures step { IsStep P.told (state_of P.TracePort K.Bookkeeping desks.old traced.old) (state_of P.TracePort K.Bookkeeping desks.new traced.new) step.now result }
-    ensures loans { map (λ d. d.port.ghost_name) desks.new ≡ map (λ d. d.port.ghost_name) desks.old }
-    ensures lenders { map (λ d. P.lender d.port.now) desks.new ≡ map (λ d. P.lender d.port.now) desks.old }
+    ensures step { KeepAllLoans P.TracePort K.Bookkeeping desks.old desks.new (IsStep P.told (state_of P.TracePort K.Bookkeeping desks.old traced.old) (state_of P.TracePort K.Bookkeeping desks.new traced.new) step.now result) }
 {
     match step {
         Step::Emit {

@@ -13,6 +13,7 @@ ghost use Rattle.trace_port.specs.FilePort.{file_told};
 ghost use Rattle.tracees.specs.Books.{no_totals};
 ghost use Rattle.tracees.specs.Hands.{moved_by, items_moved};
 ghost use Rattle.tracees.specs.Lent.{HandsOne, RecordsOne};
+ghost use Rattle.tracees.specs.Loans.{KeepsLoan};
 ghost use Rattle.tracees.specs.Meanings.{KeepsMeaning};
 
 use crate::book::{Bookkeeping, PlainBook};
@@ -36,8 +37,7 @@ pub fn hand_one<P: TracePort, K: Bookkeeping>(
     requires attached { K.attached_of book ≡ 0 }
     requires number { IsTrue K.shared → number ≡ K.desk }
     requires fits { IsTrue K.shared → KeepsMeaning (P.told port.old) }
-    ensures same { P.lender port.new ≡ P.lender port.old }
-    ensures hands { HandsOne P.told number port.old port.new limit tracee result.0 result.1 }
+    ensures hands { KeepsLoan P.TracePort port.old port.new (HandsOne P.told number port.old port.new limit tracee result.0 result.1) }
 {
     let mut desk = Desk::new(number, port, book);
     let mut traced = desk.attach(tracee);

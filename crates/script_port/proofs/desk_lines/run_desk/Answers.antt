@@ -15,6 +15,7 @@ loop-line-init g c =
     record {
       name = refl;
       same = refl;
+      first = refl;
       writer = refl;
       of_desk = refl;
       reader = refl;
@@ -22,57 +23,130 @@ loop-line-init g c =
           c.new-attached.ensures.moment (ap (map seat_seen) c.new-attached.ensures.none);
     }
 
-pub returns-in_err-line-clause-run : goal.returns-in_err-line-clause-run
-returns-in_err-line-clause-run g c =
-    let told = g.P.TracePort.told in
-    let first = AtDesk (first_side (desk_seen g.P.TracePort c.args.desk.now)) in
-    let was = progress c.loop-line.script.number (g.R.Read.remaining c.loop-line.script.reader.now) in
-    let is = progress c.next_line.new.self.number (g.R.Read.remaining c.next_line.new.self.reader.now) in
-    let p = err_from_is_err_and c.from_residual.result c.from_residual.ensures.1 in
-    rw (p.1, p.2) (failed_through told first (AtDesk (side_seen g.P.TracePort c.loop-line.desk c.loop-line.attached)) (IsAtDesk (desk_seen g.P.TracePort c.loop-line.desk)) _ _ _ _ c.args.script.now.is_of_desk _ _ _ _ c.loop-line.invariant.run refl
-    (IsBrokenOff.no_line c.in_err-line.field-0.0 (subst (λ (d : Bool). HasStopped d was is c.in_err-line.field-0.0) c.loop-line.invariant.of_desk c.in_err-line.ensures.next)))
+pub returns-in_err-line : goal.returns-in_err-line
+returns-in_err-line g c =
+    record {
+      run = let told = g.P.TracePort.told in
+          let first = AtDesk (first_side (desk_seen g.P.TracePort c.args.desk.now)) in
+          let was = progress c.loop-line.script.number (g.R.Read.remaining c.loop-line.script.reader.now) in
+          let is = progress c.next_line.new.self.number (g.R.Read.remaining c.next_line.new.self.reader.now) in
+          let p = err_from_is_err_and c.from_residual.result c.from_residual.ensures.1 in
+          record {
+            name = c.loop-line.invariant.writer;
+            of_desk = c.next_line.ensures.same ∙ c.loop-line.invariant.of_desk;
+            reader = c.next_line.ensures.name ∙ c.loop-line.invariant.reader;
+            did = record {
+              name = c.loop-line.invariant.name;
+              same = c.loop-line.invariant.same;
+              first = c.loop-line.invariant.first;
+              did = rw (p.1, p.2) (failed_through told first (AtDesk (side_seen g.P.TracePort c.loop-line.desk c.loop-line.attached)) (IsAtDesk (desk_seen g.P.TracePort c.loop-line.desk)) _ _ _ _ c.args.script.now.is_of_desk _ _ _ _ c.loop-line.invariant.run refl
+                  (IsBrokenOff.no_line c.in_err-line.field-0.0 (subst (λ (d : Bool). HasStopped d was is c.in_err-line.field-0.0) c.loop-line.invariant.of_desk c.in_err-line.ensures.next)));
+            };
+          };
+    }
 
-pub returns-in_default-clause-run : goal.returns-in_default-clause-run
-returns-in_default-clause-run g c =
-    ran_through g.P.TracePort.told (AtDesk (first_side (desk_seen g.P.TracePort c.args.desk.now))) (AtDesk (side_seen g.P.TracePort c.loop-line.desk c.loop-line.attached)) (IsAtDesk (desk_seen g.P.TracePort c.loop-line.desk)) _ _ c.args.script.now.is_of_desk _ _ _ _ c.loop-line.invariant.run refl
-    (no_more c.loop-line.script.is_of_desk _ _ _ (search rules) c.in_ok-line.ensures.next)
+pub returns-in_default : goal.returns-in_default
+returns-in_default g c =
+    record {
+      run = record {
+            name = c.loop-line.invariant.writer;
+            of_desk = c.next_line.ensures.same ∙ c.loop-line.invariant.of_desk;
+            reader = c.next_line.ensures.name ∙ c.loop-line.invariant.reader;
+            did = record {
+              name = c.loop-line.invariant.name;
+              same = c.loop-line.invariant.same;
+              first = c.loop-line.invariant.first;
+              did = ran_through g.P.TracePort.told (AtDesk (first_side (desk_seen g.P.TracePort c.args.desk.now))) (AtDesk (side_seen g.P.TracePort c.loop-line.desk c.loop-line.attached)) (IsAtDesk (desk_seen g.P.TracePort c.loop-line.desk)) _ _ c.args.script.now.is_of_desk _ _ _ _ c.loop-line.invariant.run refl
+                  (no_more c.loop-line.script.is_of_desk _ _ _ (search rules) c.in_ok-line.ensures.next);
+            };
+          };
+    }
 
-pub returns-then-is_beyond-clause-run : goal.returns-then-is_beyond-clause-run
-returns-then-is_beyond-clause-run g c =
-    let next = next_line c.args.script.now.is_of_desk c.loop-line.script.is_of_desk _ _ _ _ c.loop-line.invariant.of_desk c.in-Some.is c.in_ok-line.ensures.next in
-    rw (c.from.ensures, c.bad_command.ensures) (failed_through g.P.TracePort.told (AtDesk (first_side (desk_seen g.P.TracePort c.args.desk.now))) (AtDesk (side_seen g.P.TracePort c.loop-line.desk c.loop-line.attached)) (IsAtDesk (desk_seen g.P.TracePort c.loop-line.desk)) _ _ _ _ c.args.script.now.is_of_desk _ _ _ _ c.loop-line.invariant.run refl
-    (IsBrokenOff.no_file _ next (c.is_beyond.ensures.beyond c.if-is_beyond.true)))
+pub returns-then-is_beyond : goal.returns-then-is_beyond
+returns-then-is_beyond g c =
+    record {
+      run = let next = next_line c.args.script.now.is_of_desk c.loop-line.script.is_of_desk _ _ _ _ c.loop-line.invariant.of_desk c.in-Some.is c.in_ok-line.ensures.next in
+          record {
+            name = c.loop-line.invariant.writer;
+            of_desk = c.next_line.ensures.same ∙ c.loop-line.invariant.of_desk;
+            reader = c.next_line.ensures.name ∙ c.loop-line.invariant.reader;
+            did = record {
+              name = c.loop-line.invariant.name;
+              same = c.loop-line.invariant.same;
+              first = c.loop-line.invariant.first;
+              did = rw (c.from.ensures, c.bad_command.ensures) (failed_through g.P.TracePort.told (AtDesk (first_side (desk_seen g.P.TracePort c.args.desk.now))) (AtDesk (side_seen g.P.TracePort c.loop-line.desk c.loop-line.attached)) (IsAtDesk (desk_seen g.P.TracePort c.loop-line.desk)) _ _ _ _ c.args.script.now.is_of_desk _ _ _ _ c.loop-line.invariant.run refl
+                  (IsBrokenOff.no_file _ next (c.is_beyond.ensures.beyond c.if-is_beyond.true)));
+            };
+          };
+    }
 
-pub returns-in_err-tell-in-Told-clause-run : goal.returns-in_err-tell-in-Told-clause-run
-returns-in_err-tell-in-Told-clause-run g c =
-    let next = next_line c.args.script.now.is_of_desk c.loop-line.script.is_of_desk _ _ _ _ c.loop-line.invariant.of_desk c.in-Some.is c.in_ok-line.ensures.next in
-    let there = c.is_beyond.ensures.within c.if-is_beyond.false in
-    let p = err_from_is_err_and c.from_residual-in_err-tell-in-Told.result c.from_residual-in_err-tell-in-Told.ensures.1 in
-    rw (p.1, p.2, c.in_err-tell-in-Told.ensures.fault) (failed_behind g.P.TracePort.told (AtDesk (first_side (desk_seen g.P.TracePort c.args.desk.now))) (AtDesk (side_seen g.P.TracePort c.loop-line.desk c.loop-line.attached)) (AtDesk (side_seen g.P.TracePort c.ask_owned.new.desk c.ask_owned.new.attached)) (IsAtDesk (desk_seen g.P.TracePort c.ask_owned.new.desk)) _
-    _ c.ask_owned.result c.in-Told.answer _ _ c.args.script.now.is_of_desk _ _ _ _ c.loop-line.invariant.run c.ask_owned.ensures.step c.in-Told.is refl next there faults.Write (IsBrokenOff.not_written refl))
+pub returns-in_err-tell-in-Told : goal.returns-in_err-tell-in-Told
+returns-in_err-tell-in-Told g c =
+    record {
+      run = let next = next_line c.args.script.now.is_of_desk c.loop-line.script.is_of_desk _ _ _ _ c.loop-line.invariant.of_desk c.in-Some.is c.in_ok-line.ensures.next in
+          let there = c.is_beyond.ensures.within c.if-is_beyond.false in
+          let p = err_from_is_err_and c.from_residual-in_err-tell-in-Told.result c.from_residual-in_err-tell-in-Told.ensures.1 in
+          record {
+            name = c.in_err-tell-in-Told.ensures.name ∙ c.loop-line.invariant.writer;
+            of_desk = c.next_line.ensures.same ∙ c.loop-line.invariant.of_desk;
+            reader = c.next_line.ensures.name ∙ c.loop-line.invariant.reader;
+            did = record {
+              name = c.ask_owned.ensures.step.name ∙ c.loop-line.invariant.name;
+              same = c.ask_owned.ensures.step.same ∙ c.loop-line.invariant.same;
+              first = c.ask_owned.ensures.step.first ∙ c.loop-line.invariant.first;
+              did = rw (p.1, p.2, c.in_err-tell-in-Told.ensures.fault) (failed_behind g.P.TracePort.told (AtDesk (first_side (desk_seen g.P.TracePort c.args.desk.now))) (AtDesk (side_seen g.P.TracePort c.loop-line.desk c.loop-line.attached)) (AtDesk (side_seen g.P.TracePort c.ask_owned.new.desk c.ask_owned.new.attached)) (IsAtDesk (desk_seen g.P.TracePort c.ask_owned.new.desk)) _
+                  _ c.ask_owned.result c.in-Told.answer _ _ c.args.script.now.is_of_desk _ _ _ _ c.loop-line.invariant.run c.ask_owned.ensures.step.did c.in-Told.is refl next there faults.Write (IsBrokenOff.not_written refl));
+            };
+          };
+    }
 
-pub returns-in-Left-clause-run : goal.returns-in-Left-clause-run
-returns-in-Left-clause-run g c =
-    let next = next_line c.args.script.now.is_of_desk c.loop-line.script.is_of_desk _ _ _ _ c.loop-line.invariant.of_desk c.in-Some.is c.in_ok-line.ensures.next in
-    let there = c.is_beyond.ensures.within c.if-is_beyond.false in
-    left_through g.P.TracePort.told (AtDesk (first_side (desk_seen g.P.TracePort c.args.desk.now))) (AtDesk (side_seen g.P.TracePort c.loop-line.desk c.loop-line.attached)) (AtDesk (side_seen g.P.TracePort c.ask_owned.new.desk c.ask_owned.new.attached)) (IsAtDesk (desk_seen g.P.TracePort c.ask_owned.new.desk))
-    _ c.ask_owned.result c.in-Left.leave _ _ c.args.script.now.is_of_desk _ _ _ _ c.loop-line.invariant.run c.ask_owned.ensures.step c.in-Left.is refl next there
+pub returns-in-Left : goal.returns-in-Left
+returns-in-Left g c =
+    record {
+      run = let next = next_line c.args.script.now.is_of_desk c.loop-line.script.is_of_desk _ _ _ _ c.loop-line.invariant.of_desk c.in-Some.is c.in_ok-line.ensures.next in
+          let there = c.is_beyond.ensures.within c.if-is_beyond.false in
+          record {
+            name = c.loop-line.invariant.writer;
+            of_desk = c.next_line.ensures.same ∙ c.loop-line.invariant.of_desk;
+            reader = c.next_line.ensures.name ∙ c.loop-line.invariant.reader;
+            did = record {
+              name = c.ask_owned.ensures.step.name ∙ c.loop-line.invariant.name;
+              same = c.ask_owned.ensures.step.same ∙ c.loop-line.invariant.same;
+              first = c.ask_owned.ensures.step.first ∙ c.loop-line.invariant.first;
+              did = left_through g.P.TracePort.told (AtDesk (first_side (desk_seen g.P.TracePort c.args.desk.now))) (AtDesk (side_seen g.P.TracePort c.loop-line.desk c.loop-line.attached)) (AtDesk (side_seen g.P.TracePort c.ask_owned.new.desk c.ask_owned.new.attached)) (IsAtDesk (desk_seen g.P.TracePort c.ask_owned.new.desk))
+                  _ c.ask_owned.result c.in-Left.leave _ _ c.args.script.now.is_of_desk _ _ _ _ c.loop-line.invariant.run c.ask_owned.ensures.step.did c.in-Left.is refl next there;
+            };
+          };
+    }
 
 pub loop-line-preserved : goal.loop-line-preserved
 loop-line-preserved g c =
     let next = next_line c.args.script.now.is_of_desk c.loop-line.script.is_of_desk _ _ _ _ c.loop-line.invariant.of_desk c.in-Some.is c.in_ok-line.ensures.next in
     let there = c.is_beyond.ensures.within c.if-is_beyond.false in
     record {
-      name = c.ask_owned.ensures.name ∙ c.loop-line.invariant.name;
-      same = c.ask_owned.ensures.same ∙ c.loop-line.invariant.same;
+      name = c.ask_owned.ensures.step.name ∙ c.loop-line.invariant.name;
+      same = c.ask_owned.ensures.step.same ∙ c.loop-line.invariant.same;
+      first = c.ask_owned.ensures.step.first ∙ c.loop-line.invariant.first;
       writer = c.in_ok-tell-in-Told.ensures.name ∙ c.loop-line.invariant.writer;
       of_desk = c.next_line.ensures.same ∙ c.loop-line.invariant.of_desk;
       reader = c.next_line.ensures.name ∙ c.loop-line.invariant.reader;
       run = reads_on g.P.TracePort.told (AtDesk (first_side (desk_seen g.P.TracePort c.args.desk.now))) (AtDesk (side_seen g.P.TracePort c.loop-line.desk c.loop-line.attached)) (AtDesk (side_seen g.P.TracePort c.ask_owned.new.desk c.ask_owned.new.attached))
-          _ c.ask_owned.result c.in-Told.answer _ _ _ c.args.script.now.is_of_desk _ _ _ _ c.loop-line.invariant.run c.ask_owned.ensures.step c.in-Told.is next there c.in_ok-tell-in-Told.ensures.text;
+          _ c.ask_owned.result c.in-Told.answer _ _ _ c.args.script.now.is_of_desk _ _ _ _ c.loop-line.invariant.run c.ask_owned.ensures.step.did c.in-Told.is next there c.in_ok-tell-in-Told.ensures.text;
     }
 
-pub returns-clause-run : goal.returns-clause-run
-returns-clause-run g c =
-    failed_through g.P.TracePort.told (AtDesk (first_side (desk_seen g.P.TracePort c.args.desk.now))) (AtDesk (side_seen g.P.TracePort c.loop-line.desk c.loop-line.attached)) (IsAtDesk (desk_seen g.P.TracePort c.loop-line.desk)) _ _ _ _ c.args.script.now.is_of_desk _ _ _ _
-    c.loop-line.invariant.run refl (IsBrokenOff.no_line scripts.Read (none_read c.args.script.now.is_of_desk _))
+pub returns : goal.returns
+returns g c =
+    record {
+      run = record {
+            name = c.loop-line.invariant.writer;
+            of_desk = c.loop-line.invariant.of_desk;
+            reader = c.loop-line.invariant.reader;
+            did = record {
+              name = c.loop-line.invariant.name;
+              same = c.loop-line.invariant.same;
+              first = c.loop-line.invariant.first;
+              did = failed_through g.P.TracePort.told (AtDesk (first_side (desk_seen g.P.TracePort c.args.desk.now))) (AtDesk (side_seen g.P.TracePort c.loop-line.desk c.loop-line.attached)) (IsAtDesk (desk_seen g.P.TracePort c.loop-line.desk)) _ _ _ _ c.args.script.now.is_of_desk _ _ _ _
+                  c.loop-line.invariant.run refl (IsBrokenOff.no_line scripts.Read (none_read c.args.script.now.is_of_desk _));
+            };
+          };
+    }

@@ -8,6 +8,7 @@ abbrev pub invariant-loop-line : goal.invariant-loop-line
 invariant-loop-line g l = record {
   name : l.desk.port.ghost_name ≡ l.fn.desk.port.ghost_name;
   same : g.P.TracePort.lender l.desk.port.now ≡ g.P.TracePort.lender l.fn.desk.port.now;
+  first : l.desk.first ≡ l.fn.desk.first;
   writer : l.answers.writer.ghost_name ≡ l.fn.answers.writer.ghost_name;
   of_desk : l.script.is_of_desk ≡ l.fn.script.is_of_desk;
   reader : l.script.reader.ghost_name ≡ l.fn.script.reader.ghost_name;

@@ -7,13 +7,20 @@ use Rattle.script_port.specs.declared.reply.Origin.TheVariants.{Created}
 use Rattle.simulator.proofs.Simulating.{was_run}
 use Rattle.simulator.proofs.sim.create_wrap.Goals as goal
 
-pub returns-in-Ok-clause-comes : goal.returns-in-Ok-clause-comes
-returns-in-Ok-clause-comes g c =
-    let e = c.in-Ok.ensures in
-    rw c.ended.ensures (was_run Created _ c.args.store.now c.hold_wrap-left.new.store _ c.hold_wrap-left.result _ (record {
-      mid = c.begin_create.new.store;
-      opening = openings.Wrap c.in-Ok.opening;
-      opens = begins (is_blank (e.blank tt)) (ap wrap_seen e.spec) (e.fits tt);
-      moments = (c.begin_create.ensures.any_moment tt, c.begin_create.ensures.not_blank_stays tt);
-      ran = c.hold_wrap-left.ensures.held;
-    }))
+pub returns-in-Ok : goal.returns-in-Ok
+returns-in-Ok g c =
+    record {
+      comes = let e = c.in-Ok.ensures in
+          record {
+            name = c.hold_wrap-left.ensures.held.name;
+            of_desk = c.hold_wrap-left.ensures.held.of_desk;
+            reader = c.hold_wrap-left.ensures.held.reader;
+            did = rw c.ended.ensures (was_run Created _ c.args.store.now c.hold_wrap-left.new.store _ c.hold_wrap-left.result _ (record {
+                  mid = c.begin_create.new.store;
+                  opening = openings.Wrap c.in-Ok.opening;
+                  opens = begins (is_blank (e.blank tt)) (ap wrap_seen e.spec) (e.fits tt);
+                  moments = (c.begin_create.ensures.any_moment tt, c.begin_create.ensures.not_blank_stays tt);
+                  ran = c.hold_wrap-left.ensures.held.did;
+                }));
+          };
+    }

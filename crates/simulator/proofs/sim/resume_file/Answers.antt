@@ -7,17 +7,32 @@ use Rattle.script_port.specs.declared.reply.Origin.TheVariants.{Resumed}
 use Rattle.simulator.proofs.Simulating.{was_run, only_kept}
 use Rattle.simulator.proofs.sim.resume_file.Goals as goal
 
-pub returns-in-Ok-clause-comes : goal.returns-in-Ok-clause-comes
-returns-in-Ok-clause-comes g c =
-    let e = c.in-Ok.ensures in
-    let found = e.fits tt in
-    rw c.ended.ensures (was_run Resumed File c.args.store.now c.hold_file-left.new.store _ c.hold_file-left.result _ (record {
-      mid = c.begin_resume.new.store;
-      opening = openings.File c.in-Ok.opening;
-      opens = goes_on found.0 found.1 found.2;
-      moments = only_kept File c.args.store.now c.begin_resume.new.store c.begin_resume.ensures.kept;
-      ran = c.hold_file-left.ensures.held;
-    }))
+pub returns-in-Ok : goal.returns-in-Ok
+returns-in-Ok g c =
+    record {
+      comes = let e = c.in-Ok.ensures in
+          let found = e.fits tt in
+          record {
+            name = c.hold_file-left.ensures.held.name;
+            of_desk = c.hold_file-left.ensures.held.of_desk;
+            reader = c.hold_file-left.ensures.held.reader;
+            did = rw c.ended.ensures (was_run Resumed File c.args.store.now c.hold_file-left.new.store _ c.hold_file-left.result _ (record {
+                  mid = c.begin_resume.new.store;
+                  opening = openings.File c.in-Ok.opening;
+                  opens = goes_on found.0 found.1 found.2;
+                  moments = only_kept File c.args.store.now c.begin_resume.new.store c.begin_resume.ensures.kept;
+                  ran = c.hold_file-left.ensures.held.did;
+                }));
+          };
+    }
 
-pub returns-in-Err-clause-comes : goal.returns-in-Err-clause-comes
-returns-in-Err-clause-comes g c = (only_kept File c.args.store.now c.begin_resume.new.store c.begin_resume.ensures.kept, refl, Appends-nil _)
+pub returns-in-Err : goal.returns-in-Err
+returns-in-Err g c =
+    record {
+      comes = record {
+            name = refl;
+            of_desk = refl;
+            reader = refl;
+            did = (only_kept File c.args.store.now c.begin_resume.new.store c.begin_resume.ensures.kept, refl, Appends-nil _);
+          };
+    }

@@ -17,13 +17,13 @@ loop-step-preserved g c =
     let first = state_of g.P.TracePort g.K.Bookkeeping c.args.desks.now c.args.traced.now in
     let now = state_of g.P.TracePort g.K.Bookkeeping c.loop-step.desks c.loop-step.traced in
     let after = state_of g.P.TracePort g.K.Bookkeeping c.act-reply.new.desks c.act-reply.new.traced in
-    let one = subst (λ (x : Step). IsStep told now after x c.act-reply.result) c.step-item.is c.act-reply.ensures.step in
+    let one = subst (λ (x : Step). IsStep told now after x c.act-reply.result) c.step-item.is c.act-reply.ensures.step.did in
     record {
       so_far = runs_more told first now after c.args.steps.now c.loop-step.step-index c.step-item.result c.loop-step.replies.items c.push_reserved.new.self.items c.act-reply.result
           c.loop-step-test.true so_far.so_far one c.push_reserved.ensures.items;
-      numbered = step_numbered told now after _ c.act-reply.result c.act-reply.ensures.step so_far.numbered;
-      loans = c.act-reply.ensures.loans ∙ so_far.loans;
-      lenders = c.act-reply.ensures.lenders ∙ so_far.lenders;
+      numbered = step_numbered told now after _ c.act-reply.result c.act-reply.ensures.step.did so_far.numbered;
+      loans = c.act-reply.ensures.step.loans ∙ so_far.loans;
+      lenders = c.act-reply.ensures.step.lenders ∙ so_far.lenders;
       count = search (rules, common_steps);
       room = search (rules, common_steps);
     }

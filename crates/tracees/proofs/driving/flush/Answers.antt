@@ -4,16 +4,20 @@ use Rattle.tracees.proofs.Places.{map_stays}
 use Rattle.tracees.proofs.Acting.{no_desk, flush_there}
 use Rattle.tracees.proofs.driving.flush.Goals as goal
 
-pub returns-then-place-desks-clause-step : goal.returns-then-place-desks-clause-step
-returns-then-place-desks-clause-step g c = λ tracees. flush_unknown (no_desk g.P.TracePort g.K.Bookkeeping c.args.desks.now tracees c.args.desk (omega (arith, c.if-place-desks.true))) refl
+pub returns-then-place-desks : goal.returns-then-place-desks
+returns-then-place-desks g c =
+    record {
+      step = record { loans = refl; lenders = refl; did = λ tracees. flush_unknown (no_desk g.P.TracePort g.K.Bookkeeping c.args.desks.now tracees c.args.desk (omega (arith, c.if-place-desks.true))) refl };
+    }
 
-pub returns-clause-step : goal.returns-clause-step
-returns-clause-step g c = λ tracees.
-    flush_there g.P.TracePort g.K.Bookkeeping c.args.desks.now tracees c.args.desk c.index-desks-place.result c.flush.new.self c.flush.result c.from.result (omega (arith, c.if-place-desks.false))
-    c.flush.ensures.flushes c.flush.ensures.book c.from.ensures
-
-pub returns-clause-loans : goal.returns-clause-loans
-returns-clause-loans g c = map_stays (λ d. d.port.ghost_name) c.args.desks.now c.args.desk c.index-desks-place.result c.flush.new.self (omega (arith, c.if-place-desks.false)) c.flush.ensures.name
-
-pub returns-clause-lenders : goal.returns-clause-lenders
-returns-clause-lenders g c = map_stays (λ d. g.P.TracePort.lender d.port.now) c.args.desks.now c.args.desk c.index-desks-place.result c.flush.new.self (omega (arith, c.if-place-desks.false)) c.flush.ensures.same
+pub returns : goal.returns
+returns g c =
+    record {
+      step = record {
+        loans = map_stays (λ d. d.port.ghost_name) c.args.desks.now c.args.desk c.index-desks-place.result c.flush.new.self (omega (arith, c.if-place-desks.false)) c.flush.ensures.flushes.name;
+        lenders = map_stays (λ d. g.P.TracePort.lender d.port.now) c.args.desks.now c.args.desk c.index-desks-place.result c.flush.new.self (omega (arith, c.if-place-desks.false)) c.flush.ensures.flushes.same;
+        did = λ tracees.
+                flush_there g.P.TracePort g.K.Bookkeeping c.args.desks.now tracees c.args.desk c.index-desks-place.result c.flush.new.self c.flush.result c.from.result (omega (arith, c.if-place-desks.false))
+                c.flush.ensures.flushes.did c.flush.ensures.book c.from.ensures;
+      };
+    }

@@ -4,16 +4,20 @@ use Rattle.tracees.proofs.Places.{map_stays}
 use Rattle.tracees.proofs.Acting.{no_desk, seal_there}
 use Rattle.tracees.proofs.driving.seal.Goals as goal
 
-pub returns-then-place-desks-clause-step : goal.returns-then-place-desks-clause-step
-returns-then-place-desks-clause-step g c = λ tracees. seal_unknown (no_desk g.P.TracePort g.K.Bookkeeping c.args.desks.now tracees c.args.desk (omega (arith, c.if-place-desks.true))) refl
+pub returns-then-place-desks : goal.returns-then-place-desks
+returns-then-place-desks g c =
+    record {
+      step = record { loans = refl; lenders = refl; did = λ tracees. seal_unknown (no_desk g.P.TracePort g.K.Bookkeeping c.args.desks.now tracees c.args.desk (omega (arith, c.if-place-desks.true))) refl };
+    }
 
-pub returns-clause-step : goal.returns-clause-step
-returns-clause-step g c = λ tracees.
-    seal_there g.P.TracePort g.K.Bookkeeping c.args.desks.now tracees c.args.desk c.index-desks-place.result c.seal.new.self c.seal.result c.from.result (omega (arith, c.if-place-desks.false))
-    c.seal.ensures.seals c.seal.ensures.book c.from.ensures
-
-pub returns-clause-loans : goal.returns-clause-loans
-returns-clause-loans g c = map_stays (λ d. d.port.ghost_name) c.args.desks.now c.args.desk c.index-desks-place.result c.seal.new.self (omega (arith, c.if-place-desks.false)) c.seal.ensures.name
-
-pub returns-clause-lenders : goal.returns-clause-lenders
-returns-clause-lenders g c = map_stays (λ d. g.P.TracePort.lender d.port.now) c.args.desks.now c.args.desk c.index-desks-place.result c.seal.new.self (omega (arith, c.if-place-desks.false)) c.seal.ensures.same
+pub returns : goal.returns
+returns g c =
+    record {
+      step = record {
+        loans = map_stays (λ d. d.port.ghost_name) c.args.desks.now c.args.desk c.index-desks-place.result c.seal.new.self (omega (arith, c.if-place-desks.false)) c.seal.ensures.seals.name;
+        lenders = map_stays (λ d. g.P.TracePort.lender d.port.now) c.args.desks.now c.args.desk c.index-desks-place.result c.seal.new.self (omega (arith, c.if-place-desks.false)) c.seal.ensures.seals.same;
+        did = λ tracees.
+                seal_there g.P.TracePort g.K.Bookkeeping c.args.desks.now tracees c.args.desk c.index-desks-place.result c.seal.new.self c.seal.result c.from.result (omega (arith, c.if-place-desks.false))
+                c.seal.ensures.seals.did c.seal.ensures.book c.from.ensures;
+      };
+    }

@@ -24,12 +24,12 @@ returns-clause-hands g c =
       end = c.hand_one-done.new.port;
       as_opened = record { state = over.live; spec = refl; limit = λ file. over.limit; covered = over.covered; total = over.total; drops = over.drops; gate = over.gate; opened = refl; pending = over.pending };
       at_first = subst (λ s. IsIdle (device s) (told port).device) over.now (stays_idle (told port).device);
-      hands = c.hand_one-done.ensures.hands;
+      hands = c.hand_one-done.ensures.hands.did;
       drops = subst (λ s. Ends (told c.hand_one-done.new.port) (device s)) (sym back) c.drop.ensures;
     }
 
 pub returns-clause-rest : goal.returns-clause-rest
-returns-clause-rest g c = one_rest (file_told g.S.Store g.R.Room) 0 c.over-port.result c.hand_one-done.new.port c.args.limit c.args.tracee c.hand_one-done.result.0 c.hand_one-done.result.1 c.hand_one-done.ensures.hands
+returns-clause-rest g c = one_rest (file_told g.S.Store g.R.Room) 0 c.over-port.result c.hand_one-done.new.port c.args.limit c.args.tracee c.hand_one-done.result.0 c.hand_one-done.result.1 c.hand_one-done.ensures.hands.did
 
 pub returns-clause-moments : goal.returns-clause-moments
 returns-clause-moments g c h v0 fits =
@@ -40,7 +40,7 @@ returns-clause-moments g c h v0 fits =
     let port = c.over-port.result in
     let new = c.hand_one-done.new.port in
     let result = c.hand_one-done.result.1 in
-    let one = c.hand_one-done.ensures.hands in
+    let one = c.hand_one-done.ensures.hands.did in
     let grows = one_grows told (λ p honest image left. laws.only_now p.store.now image honest left) 0 port new c.args.limit c.args.tracee c.hand_one-done.result.0 result one in
     let run = ends_after (told port) (told new) (device c.drop.new.self.0) (items_moved result) (has_sealed (told one.between.port).state (told new).state) grows c.drop.ensures (subst g.S.Store.honest back h) v0 [] (total v0) (c.over-port.ensures.fits v0 [] (total v0) fits) in
     subst (λ s. Leaves (device c.args.store.now) (device s) (Sound File v0 (items_moved result) (total v0))) (sym back)
@@ -57,7 +57,7 @@ returns-clause-saved g c h v0 fits =
     let new = c.hand_one-done.new.port in
     let result = c.hand_one-done.result.1 in
     let opened = opened_told g.R.Room c.args.opening in
-    let saved = one_saved told (λ p honest image left. laws.only_now p.store.now image honest left) 0 port new (device c.drop.new.self.0) c.args.limit c.args.tracee c.hand_one-done.result.0 result over.live c.hand_one-done.ensures.hands c.drop.ensures
+    let saved = one_saved told (λ p honest image left. laws.only_now p.store.now image honest left) 0 port new (device c.drop.new.self.0) c.args.limit c.args.tracee c.hand_one-done.result.0 result over.live c.hand_one-done.ensures.hands.did c.drop.ensures
     (subst g.S.Store.honest back h) v0 (total v0) (over.fits v0 [] (total v0) fits) in (
       saved.0,
       subst (λ s. IsSaved (opened (device c.args.store.now)) (device s) v0 (items_moved result) saved.0) (sym back)

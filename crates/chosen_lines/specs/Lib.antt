@@ -1,0 +1,9 @@
+pub mod Arguments
+pub mod Asks
+pub mod Growth
+pub mod Lets
+pub mod Lines
+pub mod Members
+pub mod Sifted
+pub mod Signs
+pub mod Words

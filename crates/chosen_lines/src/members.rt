@@ -1,0 +1,78 @@
+// The members of a trace message, as a listing tells them.
+ghost use Rattle.std.specs.Prelude.{◌≡◌};
+ghost use Rattle.std.specs.Option.{option_copied};
+ghost use Rattle.chosen_lines.specs.Members.{after, members_of, after_member, after_pid, after_atom, after_word_of_end, after_word_of_call, function_of};
+
+use crate::words::cut_at;
+
+/// What stands after these bytes in a text that begins with them.
+fn after<'a>(bytes: &[u8], text: &'a [u8]) -> Option<&'a [u8]>
+    ensures { option_copied result ≡ after bytes.now text.now }
+{
+    text.strip_prefix(bytes)
+}
+
+/// The members of a trace message but for the first.
+pub fn members_of(told: &[u8]) -> Option<&[u8]>
+    ensures { option_copied result ≡ members_of told.now }
+{
+    match after(b"{trace,", told) {
+        Some(members) => Some(members),
+        None => after(b"{trace_ts,", told),
+    }
+}
+
+/// What stands after a first member of this text.
+fn after_member<'a>(text: &[u8], members: &'a [u8]) -> Option<&'a [u8]>
+    ensures { option_copied result ≡ after_member text.now members.now }
+{
+    after(b",", after(text, members)?)
+}
+
+/// What stands after a process of this text, which may lack its angle brackets.
+pub fn after_pid<'a>(pid: &[u8], members: &'a [u8]) -> Option<&'a [u8]>
+    ensures { option_copied result ≡ after_pid pid.now members.now }
+{
+    match after_member(pid, members) {
+        Some(rest) => Some(rest),
+        None => after(b">,", after(pid, after(b"<", members)?)?),
+    }
+}
+
+/// What stands after an atom of this text, which may lack its quotes.
+pub fn after_atom<'a>(atom: &[u8], members: &'a [u8]) -> Option<&'a [u8]>
+    ensures { option_copied result ≡ after_atom atom.now members.now }
+{
+    match after_member(atom, members) {
+        Some(rest) => Some(rest),
+        None => after(b"',", after(atom, after(b"'", members)?)?),
+    }
+}
+
+/// The members of the tuple that stands after the word for a return or an exception.
+fn after_word_of_end(members: &[u8]) -> Option<&[u8]>
+    ensures { option_copied result ≡ after_word_of_end members.now }
+{
+    match after(b",return_from,{", members) {
+        Some(function) => Some(function),
+        None => after(b",exception_from,{", members),
+    }
+}
+
+/// The same after the word for a call too.
+fn after_word_of_call(members: &[u8]) -> Option<&[u8]>
+    ensures { option_copied result ≡ after_word_of_call members.now }
+{
+    match after(b",call,{", members) {
+        Some(function) => Some(function),
+        None => after_word_of_end(members),
+    }
+}
+
+/// The members of the tuple that tells which function was called or returned from.
+pub fn function_of(members: &[u8]) -> Option<&[u8]>
+    ensures { option_copied result ≡ function_of members.now }
+{
+    let (_process, rest) = cut_at(b'>', members);
+    after_word_of_call(rest)
+}

@@ -1,0 +1,293 @@
+"""Cases of the options that choose the lines of a listing. Which lines are to be shown is found in the messages
+themselves, read by the tables; the lines are those of the whole listing."""
+
+import dataclasses
+import random
+import struct
+
+from cases import STREAMS, group
+from entries import drop, kept, message, split
+from program import same
+from terms import AnyReader, OTHER_WORDS, Unread, Writer, kind, short_atom, text
+
+CASES, case = group()
+
+STYLES = ((), ("-p",))
+
+KINDS = "call return exception send send_lost receive other opaque drop".split()
+
+WRAP = ("--kind", "wrap", "--count", "3", "--size", "4000")
+
+ATOM_OF_EVENT = {"call": "call", "return": "return_from", "exception": "exception_from"}
+
+
+@dataclasses.dataclass
+class Told:
+    """What a message tells, as far as it is read: a process, and a function with the number of its arguments."""
+
+    kind: str = "opaque"
+    process: str = ""
+    function: tuple = ()
+
+
+def told_by(entry):
+    """What the message of an entry tells."""
+    try:
+        term = AnyReader(entry[5:]).whole()
+    except Unread:
+        return Told()
+    found = Told(kind(term))
+    sort, parts = term
+    if sort == "tuple" and len(parts) > 2 and parts[0] in (("atom", "trace"), ("atom", "trace_ts")):
+        found.process = text(parts[1])
+        if parts[2] == ("atom", ATOM_OF_EVENT.get(found.kind)):
+            module, name, last = parts[3][1]
+            found.function = (text(module), text(name), last[1] if last[0] == "int" else len(last[1][0]))
+    return found
+
+
+@dataclasses.dataclass
+class Asked:
+    """What is asked for; None where it isn't."""
+
+    first: int = None
+    last: int = None
+    kinds: tuple = None
+    process: str = None
+    function: tuple = None
+
+    def lets(self, number, shown, found):
+        """Whether the line of an entry is shown: its number, the word of its kind, and what its message tells."""
+        if shown == "drop":
+            return True
+        if self.first is not None and number < self.first or self.last is not None and self.last < number:
+            return False
+        if self.kinds is not None and shown not in self.kinds:
+            return False
+        if self.process is not None and found.process != self.process:
+            return False
+        return self.function is None or shown in ATOM_OF_EVENT and found.function[: len(self.function)] == self.function
+
+
+def chosen(listing, entries, asked):
+    """The lines of a whole listing that are asked for."""
+    found = []
+    for line in listing.decode().splitlines(keepends=True):
+        number = line.split(" ")[0]
+        if not number.isdigit():
+            found.append(line)
+            continue
+        shown = line.split(" ")[1].rstrip()
+        told = Told() if shown in ("drop", "opaque") else told_by(entries[int(number)])
+        if asked.lets(int(number), shown, told):
+            found.append(line)
+    return "".join(found).encode()
+
+
+class Listed:
+    """A stream, and the whole listings of it: as it is, stored in a file, and stored in a wrap."""
+
+    def __init__(self, program, stream):
+        self.program = program
+        self.stream = stream
+        program.good("import", "file", stdin=stream)
+        program.good("import", "wrap", *WRAP, stdin=stream)
+        self.whole = {}
+        for style in STYLES:
+            for words, data, entries in self.listings(style):
+                listing = program.run(*words, stdin=data).output
+                self.whole[words] = (listing, entries)
+
+    def listings(self, style):
+        """The words of each listing in a style, what they read, and the entries that are listed."""
+        stored = kept(self.stream)
+        yield ("list", *style, "file"), b"", stored
+        yield ("list", *style, "wrap"), b"", stored
+        if style or stored == split(self.stream):
+            yield ("stream", *style), self.stream, split(self.stream)
+
+    def shows(self, asked, *options, styles=STYLES):
+        """Checks each listing with these options, which ask for that."""
+        lines = 0
+        for style in styles:
+            for words, data, _ in self.listings(style):
+                listing, entries = self.whole[words]
+                expected = chosen(listing, entries, asked)
+                same(self.program.good(*words, *options, stdin=data), expected)
+                lines += expected.count(b"\n")
+        return lines
+
+
+def stream_of(name):
+    return (STREAMS / f"{name}.trc").read_bytes()
+
+
+def functions_in(stream):
+    """The functions that the messages tell of."""
+    return sorted({found.function for entry in split(stream) if entry[0] == 0 and (found := told_by(entry)).function})
+
+
+@case
+def the_numbers_of_the_first_and_the_last_entry_are_chosen(program):
+    stream = stream_of("node")
+    listed = Listed(program, stream)
+    last = len(split(stream)) - 1
+    for first, end in ((0, 0), (0, last), (5, 9), (last, last), (last + 1, 2**64 - 1), (9, 5), (71, 72)):
+        listed.shows(Asked(first=first, last=end), "--from", str(first), "--to", str(end))
+        listed.shows(Asked(first=first), "--from", str(first))
+        listed.shows(Asked(last=end), f"--to={end}")
+
+
+@case
+def each_kind_is_chosen_by_its_word(program):
+    listed = Listed(program, stream_of("node"))
+    for word in KINDS:
+        listed.shows(Asked(kinds=(word,)), "--only", word)
+    for word in OTHER_WORDS:
+        listed.shows(Asked(kinds=(word,)), "--only", word, styles=(("-p",),))
+    listed.shows(Asked(kinds=("send", "receive", "call")), "--only", "send,receive,call")
+    listed.shows(Asked(kinds=("spawn", "exit")), "--only=spawn,exit", styles=(("-p",),))
+
+
+@case
+def each_process_is_chosen_with_or_without_its_brackets(program):
+    for name in ("node", "plain"):
+        stream = stream_of(name)
+        processes = sorted({told_by(entry).process for entry in split(stream)} - {""})
+        here = type(program)(program.path, program.folder / name)
+        here.folder.mkdir()
+        listed = Listed(here, stream)
+        for process in processes[:6]:
+            assert listed.shows(Asked(process=process), "--pid", process) > len(listed.whole)
+            if process.startswith("<"):
+                listed.shows(Asked(process=process), "--pid", process[1:-1])
+        listed.shows(Asked(process="<a@b.1.0.0>"), "--pid", "a@b.1.0.0")
+
+
+@case
+def each_function_is_chosen_by_its_module_name_and_arity(program):
+    for name in ("node", "plain", "stamped", "mono"):
+        stream = stream_of(name)
+        here = type(program)(program.path, program.folder / name)
+        here.folder.mkdir()
+        listed = Listed(here, stream)
+        for module, function, arity in functions_in(stream)[:8]:
+            assert listed.shows(Asked(function=(module,)), "--mfa", module) > len(listed.whole)
+            listed.shows(Asked(function=(module, function)), "--mfa", f"{module}:{function}")
+            for count in (arity, arity + 1):
+                listed.shows(Asked(function=(module, function, count)), "--mfa", f"{module}:{function}/{count}")
+            listed.shows(Asked(function=(module, function, arity)), "--mfa", f"{module.strip(chr(39))}:{function.strip(chr(39))}/{arity}")
+
+
+@case
+def a_port_is_chosen_and_a_name_with_a_stroke(program):
+    head = b"\x83\x68\x05" + short_atom("trace")
+    pid = b"\x58" + short_atom("n@h.example") + struct.pack(">III", 90, 0, 7)
+    port = b"\x59" + short_atom("n@h") + struct.pack(">II", 4, 7)
+    opened = head + port + short_atom("open") + pid + short_atom("driver")
+    names = ("/", "-f/1-fun-0-", "f")
+    calls = [b"\x83\x68\x04" + short_atom("trace") + pid + short_atom("call") + b"\x68\x03" + short_atom("m") + short_atom(name) + b"\x61\x02" for name in names]
+    stream = b"".join(map(message, [opened, *calls, head + pid + short_atom("send") + b"\x6a" + port]))
+    listed = Listed(program, stream)
+    listed.shows(Asked(process="#Port<n@h.4.7>"), "--pid", "#Port<n@h.4.7>", styles=(("-p",),))
+    for words in ("'n@h.example'.90.0.7", "<'n@h.example'.90.0.7>"):
+        listed.shows(Asked(process="<'n@h.example'.90.0.7>"), "--pid", words, styles=(("-p",),))
+    for name in names:
+        for words in (f"m:{name}/2", f"m:'{name}'/2", f"m:'{name}'"):
+            if "'" not in words or name != "f":
+                listed.shows(Asked(function=("m", name if name == "f" else f"'{name}'")), "--mfa", words, styles=(("-p",),))
+
+
+@case
+def several_options_narrow(program):
+    stream = stream_of("node")
+    listed = Listed(program, stream)
+    module, function, arity = functions_in(stream)[0]
+    process = next(found.process for found in map(told_by, split(stream)) if found.function == (module, function, arity))
+    asked = Asked(3, 300, ("call", "return"), process, (module, function))
+    options = ("--from", "3", "--to", "300", "--only", "call,return", "--pid", process, "--mfa", f"{module}:{function}")
+    listed.shows(asked, *options)
+
+
+@case
+def drop_records_are_always_shown(program):
+    entries = split(stream_of("plain"))
+    stream = b"".join(entry + (drop(number + 1) if number % 3 == 0 else b"") for number, entry in enumerate(entries))
+    listed = Listed(program, stream)
+    listed.shows(Asked(first=2**40), "--from", str(2**40))
+    listed.shows(Asked(kinds=("exception",)), "--only", "exception")
+    listed.shows(Asked(process="<a@b.1.0.0>"), "--pid", "<a@b.1.0.0>")
+    listed.shows(Asked(function=("nowhere",)), "--mfa", "nowhere")
+
+
+@case
+def the_line_before_a_wraps_window_and_the_last_line_are_as_before(program):
+    listed = Listed(program, stream_of("node"))
+    lines = program.good("list", "wrap", "--from", str(2**40)).decode().splitlines()
+    assert lines[0].startswith("before entries "), lines
+    same(lines[-1], "end_of_trace")
+    same(listed.whole["list", "wrap"][0].decode().splitlines()[0], lines[0])
+
+
+def call_with(dice, writer, count):
+    """A call of m:f with so many random arguments."""
+    head = b"\x83\x68\x04" + short_atom("trace") + b"\x58" + short_atom("n@h") + bytes(12) + short_atom("call") + b"\x68\x03" + short_atom("m") + short_atom("f")
+    if count == 0:
+        return head + b"\x6a"
+    if dice.random() < 0.3:
+        return head + b"\x6b" + struct.pack(">H", count) + bytes(dice.choice([10, 27, 34, 39, 44, 92, 93, 160, 200, 255]) for _ in range(count))
+    return head + b"\x6c" + struct.pack(">I", count) + writer.members(0, count) + b"\x6a"
+
+
+@case
+def random_arguments_are_counted(program):
+    dice = random.Random(72)
+    writer = Writer(dice)
+    stream = b"".join(message(call_with(dice, writer, dice.randrange(6))) for _ in range(400))
+    listed = Listed(program, stream)
+    for count in range(7):
+        listed.shows(Asked(function=("m", "f", count)), "--mfa", f"m:f/{count}")
+
+
+@case
+def random_messages_are_chosen(program):
+    dice = random.Random(73)
+    writer = Writer(dice)
+    stream = b"".join(message(b"\x83" + writer.message(0)) for _ in range(600))
+    listed = Listed(program, stream)
+    for module, name, arity in functions_in(stream)[:5]:
+        if "'" not in module + name:
+            listed.shows(Asked(function=(module, name, arity)), "--mfa", f"{module}:{name}/{arity}")
+    for word in ("call", "other", "spawn"):
+        listed.shows(Asked(kinds=(word,)), "--only", word, styles=(("-p",),))
+
+
+@case
+def what_is_listed_of_a_broken_stream_is_chosen_too(program):
+    stream = stream_of("plain")
+    whole = program.run("stream", stdin=stream[:-1])
+    outcome = program.run("stream", "--only", "call", stdin=stream[:-1])
+    same((outcome.status, outcome.errors), (whole.status, whole.errors))
+    same(outcome.output, chosen(whole.output, split(stream), Asked(kinds=("call",))))
+
+
+def misused(program, *words, says):
+    """A command line that is refused, and what is said of it."""
+    outcome = program.run(*words, stdin=b"")
+    same((outcome.status, outcome.output), (2, b""))
+    assert says in outcome.errors.decode(), outcome
+
+
+@case
+def what_no_listing_can_show_is_refused(program):
+    for command in (("stream",), ("list", "t")):
+        misused(program, *command, "--only", "calls", says="'calls'")
+        misused(program, *command, "--only", "call,", says="call, return, exception, send")
+        misused(program, *command, "--only", "spawn", says="needs '--pretty'")
+        misused(program, *command, "--from", "x", says="--from")
+        misused(program, *command, "--to=-1", says="--to")
+        for function in ("", ":f", "m:", "m:f/", "m:f/x", "m:/2", "m,n", "m:f/1,m:g/2"):
+            misused(program, *command, "--mfa", function, says="--mfa <M[:F[/A]]>")
+        for process in ("", "<>", "0.80.0", "<0.80.0>", "shell", ".1.0.0", "0.1.0.0", "a@b.1.0.x", "a@my-host.1.0.0", "a@b.1.0.0,a@b.2.0.0"):
+            misused(program, *command, "--pid", process, says="--pid <PID>': a process as a listing shows it")
+    misused(program, "export", "t", "--from", "1", says="--from")
