@@ -470,6 +470,7 @@ fn request_in<'a>(alloc: Global, matches: &ArgMatches<'a>) -> Result<Request<'a>
         return Ok(Request::Follow {
             asked: asked_in(matches),
             is_pretty: matches.get_flag("pretty"),
+            is_json: matches.get_flag("json"),
             choice: choice_in(alloc, matches)?,
         });
     }

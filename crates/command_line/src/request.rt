@@ -79,6 +79,8 @@ pub enum Request<'a> {
         asked: Asked<'a>,
         /// Every term as a person at a node's shell would see it.
         is_pretty: bool,
+        /// As JSON objects, one for each line.
+        is_json: bool,
         /// The lines that are shown, where not all are.
         choice: Option<Choice>,
     },

@@ -128,6 +128,37 @@ fn serve_files(
     done
 }
 
+/// Lists a trace and what is added to it.
+fn follow_whole<R: Wait>(
+    waiter: &R,
+    is_pretty: bool,
+    files: &mut Files<'_>,
+    console: &mut Console,
+    output: &mut Outlet,
+) -> Result<(), Complaint> {
+    let mut watched = Watched::new(output, console);
+    let done = serve_following(waiter, files, is_pretty, &mut watched);
+    drop(watched);
+    done
+}
+
+/// Lists a trace and what is added to it, and writes an object for each line.
+fn follow_objects<R: Wait>(
+    rt: &HostRuntime,
+    waiter: &R,
+    is_pretty: bool,
+    files: &mut Files<'_>,
+    console: &mut Console,
+    output: &mut Outlet,
+) -> Result<(), Complaint> {
+    let mut objects = Objects::new(rt.alloc(), output);
+    let mut watched = Watched::new(&mut objects, console);
+    let done = serve_following(waiter, files, is_pretty, &mut watched);
+    drop(watched);
+    drop(objects);
+    done
+}
+
 /// Lists a trace and what is added to it, and writes the lines that are chosen.
 fn follow_chosen<R: Wait>(
     rt: &HostRuntime,
@@ -146,17 +177,22 @@ fn follow_chosen<R: Wait>(
     done
 }
 
-/// Lists a trace and what is added to it.
-fn follow_whole<R: Wait>(
+/// Lists a trace and what is added to it, and writes an object for each line that is chosen.
+fn follow_chosen_objects<R: Wait>(
+    rt: &HostRuntime,
     waiter: &R,
+    choice: Choice,
     is_pretty: bool,
     files: &mut Files<'_>,
     console: &mut Console,
     output: &mut Outlet,
 ) -> Result<(), Complaint> {
-    let mut watched = Watched::new(output, console);
+    let objects = Objects::new(rt.alloc(), output);
+    let mut sieve = Sieve::new(rt.alloc(), choice, objects);
+    let mut watched = Watched::new(&mut sieve, console);
     let done = serve_following(waiter, files, is_pretty, &mut watched);
     drop(watched);
+    drop(sieve);
     done
 }
 
@@ -166,15 +202,34 @@ fn follow<R: Wait>(
     waiter: &R,
     asked: Asked<'_>,
     is_pretty: bool,
+    is_json: bool,
     choice: Option<Choice>,
     output: &mut Outlet,
 ) -> Result<(), Complaint> {
     let mut files = files_for(rt, &TraceRequest::List { asked, is_pretty })?;
     let mut console = Console::new(*rt, true);
     let done = match choice {
+        None if is_json => {
+            follow_objects(rt, waiter, is_pretty, &mut files, &mut console, output)
+        }
         None => follow_whole(waiter, is_pretty, &mut files, &mut console, output),
+        Some(choice) if is_json => follow_chosen_objects(
+            rt,
+            waiter,
+            choice,
+            is_pretty,
+            &mut files,
+            &mut console,
+            output,
+        ),
         Some(choice) => follow_chosen(
-            rt, waiter, choice, is_pretty, &mut files, &mut console, output,
+            rt,
+            waiter,
+            choice,
+            is_pretty,
+            &mut files,
+            &mut console,
+            output,
         ),
     };
     drop(console);
@@ -244,8 +299,9 @@ fn serve<R: Wait>(
         Request::Follow {
             asked,
             is_pretty,
+            is_json,
             choice,
-        } => follow(rt, waiter, asked, is_pretty, choice, output),
+        } => follow(rt, waiter, asked, is_pretty, is_json, choice, output),
         Request::Sim => serve_sim(rt.alloc(), rt.stdin(), output),
         Request::Stream {
             is_pretty,
@@ -337,12 +393,7 @@ fn correct(rt: &HostRuntime, misuse: Misuse<'_>) -> ExitCode {
 }
 
 /// Does what the words of the command line ask for.
-fn run<R: Wait>(
-    rt: &HostRuntime,
-    waiter: &R,
-    words: &[String],
-    output: &mut Outlet,
-) -> ExitCode {
+fn run<R: Wait>(rt: &HostRuntime, waiter: &R, words: &[String], output: &mut Outlet) -> ExitCode {
     let request = match asked_for(rt.alloc(), words) {
         Ok(request) => request,
         Err(misuse) => return correct(rt, misuse),

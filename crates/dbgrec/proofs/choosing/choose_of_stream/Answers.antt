@@ -8,6 +8,9 @@ returns g c =
     let new = c.serve_stream-done.new.output in
     let had = g.R.Read.remaining c.args.input in
     let done = c.serve_stream-done.result in
-    let promised = c.serve_stream-done.ensures in
-    (done, chooses old.choice new.choice old.given new.given _ _ new.line.items new.sent (ListsStream c.args.is_pretty had done) c.requires.start c.requires.none new.part new.due new.held
-    (lists_stream c.args.is_pretty had _ _ done promised.listed promised.stopped), c.told_of.ensures)
+    let promised = c.serve_stream-done.ensures in (
+      done,
+      chooses old.choice new.choice old.given new.given _ _ new.line.items new.sent (ListsStream c.args.is_pretty had done) c.requires.start c.requires.none new.part new.due new.held
+          (lists_stream c.args.is_pretty had _ _ done promised.listed promised.stopped),
+      c.told_of.ensures,
+    )
