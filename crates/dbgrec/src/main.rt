@@ -9,14 +9,15 @@ mod simulation;
 use choosing::{choose_of_stream, choose_of_trace};
 use chosen_lines::{Choice, Sieve};
 use clap::error::ErrorKind as MisuseKind;
-use command_line::{Misuse, Request, TraceRequest, asked_for};
+use command_line::{Asked, Misuse, Request, TraceRequest, asked_for};
 use console::Console;
 use outlet::Outlet;
-use recorder::{Complaint, Files, files_for, serve_stream, serve_trace};
+use recorder::{Complaint, Files, files_for, serve_following, serve_stream, serve_trace};
 use script_port::SimFault;
 use simulation::serve_sim;
 use std::io::{ErrorKind, IsTerminal};
 use std::process::ExitCode;
+use std::sync::Wait;
 use std::{env, io};
 use trace_reader::Watched;
 
@@ -85,6 +86,60 @@ fn serve_files(
     done
 }
 
+/// Lists a trace and what is added to it, and writes the lines that are chosen.
+fn follow_chosen<R: Wait>(
+    rt: &HostRuntime,
+    waiter: &R,
+    choice: Choice,
+    is_pretty: bool,
+    files: &mut Files<'_>,
+    console: &mut Console,
+    output: &mut Outlet,
+) -> Result<(), Complaint> {
+    let mut sieve = Sieve::new(rt.alloc(), choice, output);
+    let mut watched = Watched::new(&mut sieve, console);
+    let done = serve_following(waiter, files, is_pretty, &mut watched);
+    drop(watched);
+    drop(sieve);
+    done
+}
+
+/// Lists a trace and what is added to it.
+fn follow_whole<R: Wait>(
+    waiter: &R,
+    is_pretty: bool,
+    files: &mut Files<'_>,
+    console: &mut Console,
+    output: &mut Outlet,
+) -> Result<(), Complaint> {
+    let mut watched = Watched::new(output, console);
+    let done = serve_following(waiter, files, is_pretty, &mut watched);
+    drop(watched);
+    done
+}
+
+/// Lists a trace, and goes on with what is added to it. It may wait for that forever.
+fn follow<R: Wait>(
+    rt: &HostRuntime,
+    waiter: &R,
+    asked: Asked<'_>,
+    is_pretty: bool,
+    choice: Option<Choice>,
+    output: &mut Outlet,
+) -> Result<(), Complaint> {
+    let mut files = files_for(rt, &TraceRequest::List { asked, is_pretty })?;
+    let mut console = Console::new(*rt, true);
+    let done = match choice {
+        None => follow_whole(waiter, is_pretty, &mut files, &mut console, output),
+        Some(choice) => follow_chosen(
+            rt, waiter, choice, is_pretty, &mut files, &mut console, output,
+        ),
+    };
+    drop(console);
+    drop(files);
+    done
+}
+
 /// Lists an entry stream, and writes the lines that are chosen.
 fn stream_chosen(
     rt: &HostRuntime,
@@ -112,8 +167,18 @@ fn list_stream(
 }
 
 /// Does what is asked for.
-fn serve(rt: &HostRuntime, request: Request<'_>, output: &mut Outlet) -> Result<(), Complaint> {
+fn serve<R: Wait>(
+    rt: &HostRuntime,
+    waiter: &R,
+    request: Request<'_>,
+    output: &mut Outlet,
+) -> Result<(), Complaint> {
     match request {
+        Request::Follow {
+            asked,
+            is_pretty,
+            choice,
+        } => follow(rt, waiter, asked, is_pretty, choice, output),
         Request::Sim => serve_sim(rt.alloc(), rt.stdin(), output),
         Request::Stream { is_pretty, choice } => list_stream(rt, is_pretty, choice, output),
         Request::OfTrace { request, choice } => serve_files(rt, request, choice, output),
@@ -197,12 +262,17 @@ fn correct(rt: &HostRuntime, misuse: Misuse<'_>) -> ExitCode {
 }
 
 /// Does what the words of the command line ask for.
-fn run(rt: &HostRuntime, words: &[String], output: &mut Outlet) -> ExitCode {
+fn run<R: Wait>(
+    rt: &HostRuntime,
+    waiter: &R,
+    words: &[String],
+    output: &mut Outlet,
+) -> ExitCode {
     let request = match asked_for(rt.alloc(), words) {
         Ok(request) => request,
         Err(misuse) => return correct(rt, misuse),
     };
-    let done = serve(rt, request, output);
+    let done = serve(rt, waiter, request, output);
     let code = match &done {
         Ok(()) => ExitCode::SUCCESS,
         Err(complaint) if complaint.is_of_writer() => {
@@ -219,11 +289,11 @@ fn no_memory(rt: &HostRuntime) -> ExitCode {
 }
 
 /// Does what the words ask for, with standard output.
-fn serve_words(rt: &HostRuntime, words: &[String]) -> ExitCode {
+fn serve_words<R: Wait>(rt: &HostRuntime, waiter: &R, words: &[String]) -> ExitCode {
     let Some(mut output) = Outlet::new(rt).ok() else {
         return no_memory(rt);
     };
-    let code = run(rt, words, &mut output);
+    let code = run(rt, waiter, words, &mut output);
     drop(output);
     code
 }
@@ -232,7 +302,7 @@ fn main(rt: HostRuntime) -> ExitCode {
     let Some(words) = words(&rt).ok() else {
         return no_memory(&rt);
     };
-    let code = serve_words(&rt, words.as_slice());
+    let code = serve_words(&rt, &rt, words.as_slice());
     drop(words);
     code
 }
