@@ -63,9 +63,9 @@ held-passed given after now lets line later_line sent came is let_out due held =
     let at : Appends given.start now (chosen lets (given.bytes ++ 10 ∷ []) ++ []) = subst (Appends given.start now) same held in
     subst (λ g. Appends (start_of g) now (chosen lets (bytes_of g) ++ [])) (sym came) at
   where
-  none_sent : (k : ℕ) (b : Bool) → (0 < k → b ≡ true) → b ≡ false → k ≡ 0
-  none_sent zero b due out = refl
-  none_sent (suc k) b due out = let yes = due (omega arith) in cc
+    none_sent : (k : ℕ) (b : Bool) → (0 < k → b ≡ true) → b ≡ false → k ≡ 0
+    none_sent zero b due out = refl
+    none_sent (suc k) b due out = let yes = due (omega arith) in cc
 
 -- nothing stands after a line feed
 pub part-fed : (given after : Given) (line : List ℕ) → after ≡ with_more given (10 ∷ []) → line ≡ [] → line ≡ rest_after [] after.bytes

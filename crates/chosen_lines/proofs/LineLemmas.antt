@@ -21,7 +21,7 @@ lines_after-append part (x ∷ xs) ys =
     let fed = lines_after-append [] xs ys in
     let grown = lines_after-append (part ++ x ∷ []) xs ys in
     elim (nat_eq x 10) as (λ b. (if b then part ∷ lines_after [] (xs ++ ys) else lines_after (part ++ x ∷ []) (xs ++ ys))
-        ≡ (if b then part ∷ lines_after [] xs else lines_after (part ++ x ∷ []) xs) ++ lines_after (if b then rest_after [] xs else rest_after (part ++ x ∷ []) xs) ys) [
+    ≡ (if b then part ∷ lines_after [] xs else lines_after (part ++ x ∷ []) xs) ++ lines_after (if b then rest_after [] xs else rest_after (part ++ x ∷ []) xs) ys) [
       | true ↦ ap (λ lines. part ∷ lines) fed
       | false ↦ grown
     ]

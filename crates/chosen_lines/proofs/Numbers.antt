@@ -50,9 +50,9 @@ told-great text k great =
     let no : nat_lt (digits_value 10 text) (2 ^ 64) ≡ false = le-ltb (digits_value 10 text) (2 ^ 64) all in
     elim (all_ascii_digits text) as (λ a. (if a && (nat_lt 0 (length text) && nat_lt (digits_value 10 text) (2 ^ 64)) then Some (digits_value 10 text) else None) ≡ None) [
       | true ↦ elim (nat_lt 0 (length text)) as (λ b. (if b && nat_lt (digits_value 10 text) (2 ^ 64) then Some (digits_value 10 text) else None) ≡ None) [
-          | true ↦ ap (λ b. if b then Some (digits_value 10 text) else None) no
-          | false ↦ refl
-        ]
+        | true ↦ ap (λ b. if b then Some (digits_value 10 text) else None) no
+        | false ↦ refl
+      ]
       | false ↦ refl
     ]
 

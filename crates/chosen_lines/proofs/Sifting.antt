@@ -70,8 +70,8 @@ same_sieve asks later start later_start given text grown =
     let numbers : numbers_of later ≡ numbers_of asks = tail_of later_start start (numbers_of later) (numbers_of asks) apart.0 in
     (starts, sym (asks-again later) ∙ ap asks_from numbers ∙ asks-again asks, apart.1)
   where
-  tail_of : (a b : Option (List ℕ)) (xs ys : List (Option (List ℕ))) → a ∷ xs ≡ b ∷ ys → xs ≡ ys
-  tail_of a b xs ys e = cc
+    tail_of : (a b : Option (List ℕ)) (xs ys : List (Option (List ℕ))) → a ∷ xs ≡ b ∷ ys → xs ≡ ys
+    tail_of a b xs ys e = cc
 
 -- so the chosen lines of that text came through it
 pub sifted : (asks later : Asks) (start later_start now : Option (List ℕ)) (given text line : List ℕ) (sent : ℕ) → line ≡ rest_after [] given → (0 < sent → lets_by later line ≡ true) → Appends later_start now (chosen (lets_by later) given ++ take sent line)

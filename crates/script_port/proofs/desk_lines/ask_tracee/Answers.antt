@@ -30,24 +30,24 @@ pub returns-in-Hand : goal.returns-in-Hand
 returns-in-Hand g c =
     record {
       step = record {
-            name = c.hand_over.ensures.hands.name;
-            same = c.hand_over.ensures.hands.same;
-            first = c.hand_over.ensures.hands.first;
-            did = answered_for g.P.TracePort.told (desk_seen g.P.TracePort c.args.desk.now) (desk_seen g.P.TracePort c.hand_over.new.self) c.args.moment (seat_seen c.args.traced.now) (seat_seen c.hand_over.new.traced) c.args.line.now (tracee_lines.Hand c.in-Hand.limit)
-                c.of_hand_over.result (hand_answer c.hand_over.result) (effect (items_moved c.hand_over.result) false) c.in-Hand.is c.of_hand_over.ensures (hands_over c.hand_over.result c.hand_over.ensures.hands.did);
-          };
+        name = c.hand_over.ensures.hands.name;
+        same = c.hand_over.ensures.hands.same;
+        first = c.hand_over.ensures.hands.first;
+        did = answered_for g.P.TracePort.told (desk_seen g.P.TracePort c.args.desk.now) (desk_seen g.P.TracePort c.hand_over.new.self) c.args.moment (seat_seen c.args.traced.now) (seat_seen c.hand_over.new.traced) c.args.line.now (tracee_lines.Hand c.in-Hand.limit)
+            c.of_hand_over.result (hand_answer c.hand_over.result) (effect (items_moved c.hand_over.result) false) c.in-Hand.is c.of_hand_over.ensures (hands_over c.hand_over.result c.hand_over.ensures.hands.did);
+      };
     }
 
 pub returns-in-FlushFor : goal.returns-in-FlushFor
 returns-in-FlushFor g c =
     record {
       step = record {
-            name = c.flush_for.ensures.flushes.name;
-            same = c.flush_for.ensures.flushes.same;
-            first = c.flush_for.ensures.flushes.first;
-            did = answered_for g.P.TracePort.told (desk_seen g.P.TracePort c.args.desk.now) (desk_seen g.P.TracePort c.flush_for.new.self) c.args.moment (seat_seen c.args.traced.now) (seat_seen c.flush_for.new.traced) c.args.line.now tracee_lines.FlushFor
-                c.of_flush_for.result (flush_for_answer c.flush_for.result) (effect (items_moved c.flush_for.result) (has_gone c.flush_for.result)) c.in-FlushFor.is c.of_flush_for.ensures (flushes_for c.flush_for.result c.flush_for.ensures.flushes.did);
-          };
+        name = c.flush_for.ensures.flushes.name;
+        same = c.flush_for.ensures.flushes.same;
+        first = c.flush_for.ensures.flushes.first;
+        did = answered_for g.P.TracePort.told (desk_seen g.P.TracePort c.args.desk.now) (desk_seen g.P.TracePort c.flush_for.new.self) c.args.moment (seat_seen c.args.traced.now) (seat_seen c.flush_for.new.traced) c.args.line.now tracee_lines.FlushFor
+            c.of_flush_for.result (flush_for_answer c.flush_for.result) (effect (items_moved c.flush_for.result) (has_gone c.flush_for.result)) c.in-FlushFor.is c.of_flush_for.ensures (flushes_for c.flush_for.result c.flush_for.ensures.flushes.did);
+      };
     }
 
 pub returns-in-Counts : goal.returns-in-Counts

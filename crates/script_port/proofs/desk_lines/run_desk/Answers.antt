@@ -49,17 +49,17 @@ pub returns-in_default : goal.returns-in_default
 returns-in_default g c =
     record {
       run = record {
-            name = c.loop-line.invariant.writer;
-            of_desk = c.next_line.ensures.same ∙ c.loop-line.invariant.of_desk;
-            reader = c.next_line.ensures.name ∙ c.loop-line.invariant.reader;
-            did = record {
-              name = c.loop-line.invariant.name;
-              same = c.loop-line.invariant.same;
-              first = c.loop-line.invariant.first;
-              did = ran_through g.P.TracePort.told (AtDesk (first_side (desk_seen g.P.TracePort c.args.desk.now))) (AtDesk (side_seen g.P.TracePort c.loop-line.desk c.loop-line.attached)) (IsAtDesk (desk_seen g.P.TracePort c.loop-line.desk)) _ _ c.args.script.now.is_of_desk _ _ _ _ c.loop-line.invariant.run refl
-                  (no_more c.loop-line.script.is_of_desk _ _ _ (search rules) c.in_ok-line.ensures.next);
-            };
-          };
+        name = c.loop-line.invariant.writer;
+        of_desk = c.next_line.ensures.same ∙ c.loop-line.invariant.of_desk;
+        reader = c.next_line.ensures.name ∙ c.loop-line.invariant.reader;
+        did = record {
+          name = c.loop-line.invariant.name;
+          same = c.loop-line.invariant.same;
+          first = c.loop-line.invariant.first;
+          did = ran_through g.P.TracePort.told (AtDesk (first_side (desk_seen g.P.TracePort c.args.desk.now))) (AtDesk (side_seen g.P.TracePort c.loop-line.desk c.loop-line.attached)) (IsAtDesk (desk_seen g.P.TracePort c.loop-line.desk)) _ _ c.args.script.now.is_of_desk _ _ _ _ c.loop-line.invariant.run refl
+              (no_more c.loop-line.script.is_of_desk _ _ _ (search rules) c.in_ok-line.ensures.next);
+        };
+      };
     }
 
 pub returns-then-is_beyond : goal.returns-then-is_beyond
@@ -138,15 +138,15 @@ pub returns : goal.returns
 returns g c =
     record {
       run = record {
-            name = c.loop-line.invariant.writer;
-            of_desk = c.loop-line.invariant.of_desk;
-            reader = c.loop-line.invariant.reader;
-            did = record {
-              name = c.loop-line.invariant.name;
-              same = c.loop-line.invariant.same;
-              first = c.loop-line.invariant.first;
-              did = failed_through g.P.TracePort.told (AtDesk (first_side (desk_seen g.P.TracePort c.args.desk.now))) (AtDesk (side_seen g.P.TracePort c.loop-line.desk c.loop-line.attached)) (IsAtDesk (desk_seen g.P.TracePort c.loop-line.desk)) _ _ _ _ c.args.script.now.is_of_desk _ _ _ _
-                  c.loop-line.invariant.run refl (IsBrokenOff.no_line scripts.Read (none_read c.args.script.now.is_of_desk _));
-            };
-          };
+        name = c.loop-line.invariant.writer;
+        of_desk = c.loop-line.invariant.of_desk;
+        reader = c.loop-line.invariant.reader;
+        did = record {
+          name = c.loop-line.invariant.name;
+          same = c.loop-line.invariant.same;
+          first = c.loop-line.invariant.first;
+          did = failed_through g.P.TracePort.told (AtDesk (first_side (desk_seen g.P.TracePort c.args.desk.now))) (AtDesk (side_seen g.P.TracePort c.loop-line.desk c.loop-line.attached)) (IsAtDesk (desk_seen g.P.TracePort c.loop-line.desk)) _ _ _ _ c.args.script.now.is_of_desk _ _ _ _
+              c.loop-line.invariant.run refl (IsBrokenOff.no_line scripts.Read (none_read c.args.script.now.is_of_desk _));
+        };
+      };
     }

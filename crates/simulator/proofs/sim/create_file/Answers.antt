@@ -15,11 +15,11 @@ returns-in-Ok g c =
             of_desk = c.hold_file-left.ensures.held.of_desk;
             reader = c.hold_file-left.ensures.held.reader;
             did = rw c.ended.ensures (was_run Created _ c.args.store.now c.hold_file-left.new.store _ c.hold_file-left.result _ (record {
-                  mid = c.begin_create.new.store;
-                  opening = openings.File c.in-Ok.opening;
-                  opens = begins (is_blank (e.blank tt)) refl (e.fits tt);
-                  moments = (c.begin_create.ensures.any_moment tt, c.begin_create.ensures.not_blank_stays tt);
-                  ran = c.hold_file-left.ensures.held.did;
-                }));
+              mid = c.begin_create.new.store;
+              opening = openings.File c.in-Ok.opening;
+              opens = begins (is_blank (e.blank tt)) refl (e.fits tt);
+              moments = (c.begin_create.ensures.any_moment tt, c.begin_create.ensures.not_blank_stays tt);
+              ran = c.hold_file-left.ensures.held.did;
+            }));
           };
     }

@@ -17,12 +17,12 @@ returns-in-Ok g c =
             of_desk = c.hold_file-left.ensures.held.of_desk;
             reader = c.hold_file-left.ensures.held.reader;
             did = rw c.ended.ensures (was_run Resumed File c.args.store.now c.hold_file-left.new.store _ c.hold_file-left.result _ (record {
-                  mid = c.begin_resume.new.store;
-                  opening = openings.File c.in-Ok.opening;
-                  opens = goes_on found.0 found.1 found.2;
-                  moments = only_kept File c.args.store.now c.begin_resume.new.store c.begin_resume.ensures.kept;
-                  ran = c.hold_file-left.ensures.held.did;
-                }));
+              mid = c.begin_resume.new.store;
+              opening = openings.File c.in-Ok.opening;
+              opens = goes_on found.0 found.1 found.2;
+              moments = only_kept File c.args.store.now c.begin_resume.new.store c.begin_resume.ensures.kept;
+              ran = c.hold_file-left.ensures.held.did;
+            }));
           };
     }
 
@@ -30,9 +30,9 @@ pub returns-in-Err : goal.returns-in-Err
 returns-in-Err g c =
     record {
       comes = record {
-            name = refl;
-            of_desk = refl;
-            reader = refl;
-            did = (only_kept File c.args.store.now c.begin_resume.new.store c.begin_resume.ensures.kept, refl, Appends-nil _);
-          };
+        name = refl;
+        of_desk = refl;
+        reader = refl;
+        did = (only_kept File c.args.store.now c.begin_resume.new.store c.begin_resume.ensures.kept, refl, Appends-nil _);
+      };
     }

@@ -47,7 +47,7 @@ pub returns-in_default : goal.returns-in_default
 returns-in_default g c =
     record {
       does = record {
-            name = c.tell-in_default.ensures.name;
-            did = answered_so c.tell-in_default.result (line_of answers.OutOfOrder) (λ text. Does c.args.store.now c.args.store.now c.args.line.now text) _ (out_of_order refl) c.tell-in_default.ensures.text;
-          };
+        name = c.tell-in_default.ensures.name;
+        did = answered_so c.tell-in_default.result (line_of answers.OutOfOrder) (λ text. Does c.args.store.now c.args.store.now c.args.line.now text) _ (out_of_order refl) c.tell-in_default.ensures.text;
+      };
     }

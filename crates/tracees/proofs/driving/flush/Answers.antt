@@ -17,7 +17,7 @@ returns g c =
         loans = map_stays (λ d. d.port.ghost_name) c.args.desks.now c.args.desk c.index-desks-place.result c.flush.new.self (omega (arith, c.if-place-desks.false)) c.flush.ensures.flushes.name;
         lenders = map_stays (λ d. g.P.TracePort.lender d.port.now) c.args.desks.now c.args.desk c.index-desks-place.result c.flush.new.self (omega (arith, c.if-place-desks.false)) c.flush.ensures.flushes.same;
         did = λ tracees.
-                flush_there g.P.TracePort g.K.Bookkeeping c.args.desks.now tracees c.args.desk c.index-desks-place.result c.flush.new.self c.flush.result c.from.result (omega (arith, c.if-place-desks.false))
-                c.flush.ensures.flushes.did c.flush.ensures.book c.from.ensures;
+            flush_there g.P.TracePort g.K.Bookkeeping c.args.desks.now tracees c.args.desk c.index-desks-place.result c.flush.new.self c.flush.result c.from.result (omega (arith, c.if-place-desks.false))
+            c.flush.ensures.flushes.did c.flush.ensures.book c.from.ensures;
       };
     }

@@ -17,7 +17,7 @@ returns g c =
         loans = map_stays (λ d. d.port.ghost_name) c.args.desks.now c.args.desk c.index-desks-place.result c.seal.new.self (omega (arith, c.if-place-desks.false)) c.seal.ensures.seals.name;
         lenders = map_stays (λ d. g.P.TracePort.lender d.port.now) c.args.desks.now c.args.desk c.index-desks-place.result c.seal.new.self (omega (arith, c.if-place-desks.false)) c.seal.ensures.seals.same;
         did = λ tracees.
-                seal_there g.P.TracePort g.K.Bookkeeping c.args.desks.now tracees c.args.desk c.index-desks-place.result c.seal.new.self c.seal.result c.from.result (omega (arith, c.if-place-desks.false))
-                c.seal.ensures.seals.did c.seal.ensures.book c.from.ensures;
+            seal_there g.P.TracePort g.K.Bookkeeping c.args.desks.now tracees c.args.desk c.index-desks-place.result c.seal.new.self c.seal.result c.from.result (omega (arith, c.if-place-desks.false))
+            c.seal.ensures.seals.did c.seal.ensures.book c.from.ensures;
       };
     }

@@ -17,7 +17,7 @@ returns g c =
         loans = map_stays (λ d. d.port.ghost_name) c.args.desks.now c.args.desk c.index-desks-place.result c.tick.new.self (omega (arith, c.if-place-desks.false)) c.tick.ensures.ticks.name;
         lenders = map_stays (λ d. g.P.TracePort.lender d.port.now) c.args.desks.now c.args.desk c.index-desks-place.result c.tick.new.self (omega (arith, c.if-place-desks.false)) c.tick.ensures.ticks.same;
         did = λ tracees.
-                tick_there g.P.TracePort g.K.Bookkeeping c.args.desks.now tracees c.args.desk c.args.now c.index-desks-place.result c.tick.new.self c.tick.result c.from.result (omega (arith, c.if-place-desks.false))
-                c.tick.ensures.ticks.did c.tick.ensures.book c.from.ensures;
+            tick_there g.P.TracePort g.K.Bookkeeping c.args.desks.now tracees c.args.desk c.args.now c.index-desks-place.result c.tick.new.self c.tick.result c.from.result (omega (arith, c.if-place-desks.false))
+            c.tick.ensures.ticks.did c.tick.ensures.book c.from.ensures;
       };
     }
