@@ -6,7 +6,7 @@ import subprocess
 
 from cases import group
 from entries import EXAMPLE, drop, example_line, listing, listing_of, message
-from program import PATIENCE, read_some, same
+from program import PATIENCE, read_as_much, same
 from segments import FILE_HEADER, STORED, segment, wrap_header
 
 CASES, case = group()
@@ -106,6 +106,11 @@ def the_fault_of_a_stream_is_told_with_its_place(program):
     program.refused("stream", stdin=bytes.fromhex("000000fffc"), says="dbgrec: refused 6 TooLong at 0")
 
 
+def comes(screen, line):
+    """Checks that this line comes next, and no more."""
+    same(read_as_much(screen, len(line)), line.encode())
+
+
 def lists_as_it_comes(program, screen, end, feed):
     """A stream's lines can be read before more of it is written; each ends so."""
     with subprocess.Popen([program.path, "stream"], stdin=subprocess.PIPE, stdout=end, stderr=end) as lister:
@@ -114,9 +119,9 @@ def lists_as_it_comes(program, screen, end, feed):
             for number in range(3):
                 lister.stdin.write(message(EXAMPLE))
                 lister.stdin.flush()
-                same(read_some(screen), f"{example_line(number)}{feed}".encode())
+                comes(screen, f"{example_line(number)}{feed}")
             lister.stdin.close()
-            same(read_some(screen), f"end_of_trace{feed}".encode())
+            comes(screen, f"end_of_trace{feed}")
             same(lister.wait(PATIENCE), 0)
         finally:
             lister.kill()

@@ -107,6 +107,14 @@ def read_some(descriptor):
     return os.read(descriptor, 65_536)
 
 
+def read_as_much(descriptor, size):
+    """What comes next of a terminal or pipe until it is so many bytes. A terminal may hand over a line in parts."""
+    found = b""
+    while len(found) < size:
+        found += read_some(descriptor)
+    return found
+
+
 def read_to_end(descriptor):
     """All that is left of a terminal that nobody has open any more."""
     parts = []
