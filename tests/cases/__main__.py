@@ -18,6 +18,7 @@ import absent
 import choosing
 import crashes
 import faults
+import following
 import foreign
 import images
 import importing
@@ -40,7 +41,7 @@ import wording
 from cases import Skipped
 from program import Program
 
-GROUPS = (rows, scripts, listing, pretty, choosing, json_listing, recording, importing, info, foreign, absent, keeping, telling, crashes, images, machine, faults, locking, live, wording, installing, memory, libraries)
+GROUPS = (rows, scripts, listing, pretty, choosing, json_listing, recording, importing, info, foreign, absent, keeping, telling, crashes, images, machine, faults, locking, live, following, wording, installing, memory, libraries)
 
 
 def words():

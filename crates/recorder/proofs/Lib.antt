@@ -5,3 +5,4 @@ pub mod Parts
 pub mod Readings
 pub mod Starting
 pub mod Commanding
+pub mod Followed
