@@ -84,14 +84,6 @@ pub enum Request<'a> {
         /// The lines that are shown, where not all are.
         choice: Option<Choice>,
     },
-    /// List a trace, and go on with what is added to it.
-    Follow {
-        asked: Asked<'a>,
-        /// Every term as a person at a node's shell would see it.
-        is_pretty: bool,
-        /// The lines that are shown, where not all are.
-        choice: Option<Choice>,
-    },
     /// What is done with the files of a trace.
     OfTrace {
         request: TraceRequest<'a>,

@@ -1,5 +1,5 @@
 -- A trace that is followed, look by look.
-use Rattle.std.specs.Prelude.{◌≡◌, ℕ, Option, None, List, [], Result, Ok, Err}
+use Rattle.std.specs.Prelude.{◌≡◌, ℕ, Bool, Option, None, List, [], Result, Ok, Err}
 use Rattle.std.specs.Io.KnownBytes.{Appends, Keeps}
 use Rattle.trace_store.specs.Disk.{Image}
 use Rattle.stores.specs.Events.{World, Past}
@@ -17,9 +17,11 @@ use Rattle.trace_follower.specs.declared.place.Look.{Look}
 use Rattle.trace_follower.specs.declared.place.Look.TheVariants as looks
 use Rattle.recorder.specs.Faults.{read_fault}
 use Rattle.recorder.specs.Complaints.{status_told}
-use Rattle.recorder.specs.Commands.{IsToldOf}
+use Rattle.trace_places.specs.Places.{file_count}
+use Rattle.recorder.specs.Commands.{IsToldOf, style_of}
 use Rattle.recorder.specs.Files.{OnlyLooks}
 use Rattle.recorder.specs.declared.complaint.Complaint.{Complaint}
+use Rattle.recorder.specs.declared.files.Files.{Files}
 use Rattle.recorder.specs.declared.following.Seen.{Seen}
 use Rattle.recorder.specs.declared.following.Seen.TheVariants as seen
 
@@ -92,3 +94,7 @@ pub record FollowsTrace (style : Style) (count : ℕ) (was now : Option (List �
   pub followed : HasFollowed count first was mid done
   pub out : Keeps mid now
   pub told : IsToldSo done result
+
+-- the trace of these files was followed, in the style that was asked for
+abbrev pub Follows : Bool → Files → Option (List ℕ) → Option (List ℕ) → Result Unit Complaint → Type 0
+Follows is_pretty files was now result = FollowsTrace (style_of is_pretty) (file_count files.place.kind) was now result
