@@ -1,4 +1,4 @@
-// What a command line asks for.
+//! What a command line asks for.
 
 use chosen_lines::Choice;
 use clap::Error;
@@ -36,9 +36,9 @@ pub struct Wanted<'a> {
 /// When an import flushes.
 #[derive(Clone, Copy, Debug, PartialEq, Eq)]
 pub enum Flushing {
-    /// Behind each entry.
+    /// After each entry.
     Always,
-    /// Behind a read that didn't fill its buffer: the writer pauses.
+    /// After a read that didn't fill its buffer: the writer pauses.
     Paused,
     /// At the end alone.
     Never,
