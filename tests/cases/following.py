@@ -48,6 +48,28 @@ def what_was_there_is_listed_first(program):
 
 
 @case
+def objects_and_chosen_lines_of_what_is_added_come_at_once(program):
+    with program.start("import", "t") as importer:
+        same(importer.line(), "created")
+        with program.start("list", "-f", "--json", "t") as told, program.start("list", "-f", "--from", "1", "t") as chosen, program.start("list", "-f", "--json", "--to", "0", "t") as both:
+            importer.write(message(EXAMPLE))
+            first = told.line()
+            same(both.line(), first)
+            importer.write(message(b"x"))
+            second = told.line()
+            same(chosen.line(), "1 opaque 1")
+            importer.write(drop(3))
+            lost = told.line()
+            same(chosen.line(), "2 drop 3")
+            same(both.line(), lost)
+            same(importer.end().status, 0)
+            lines = f"{first}\n{second}\n{lost}\n"
+            same(lines.encode() + end_of(told).output, program.good("list", "--json", "t"))
+            same(end_of(chosen), Outcome(0, END, b""))
+            same(f"{first}\n{lost}\n".encode() + end_of(both).output, program.good("list", "--json", "--to", "0", "t"))
+
+
+@case
 def a_sealed_trace_is_listed(program):
     entries = message(EXAMPLE) + drop(3) + message(b"x")
     program.good("import", "t", stdin=entries)

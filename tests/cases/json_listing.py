@@ -32,7 +32,8 @@ def told_of_message(kind, text, entry):
     if told.process and tells_process(entry):
         found["pid"] = told.process
     if told.function and kind in ATOM_OF_EVENT:
-        found["mfa"] = "{}:{}/{}".format(*told.function)
+        module, name, arity = told.function
+        found["mfa"] = f"{module}:{name}/{arity}" if arity < 2**64 else f"{module}:{name}"
     return found | {"text": text}
 
 
@@ -121,7 +122,7 @@ def drop_records_are_objects_in_a_wrap_too(program):
 
 @case
 def numbers_are_whole_up_to_the_greatest(program):
-    entry = message(b"x")
+    entry = message(b"x" * 60)
     first, lost = 2**64 - 9, 2**64 - 1
     (program.folder / "t1").write_bytes(segment(wrap_header(1, before=first, lost=lost), entry * 2))
     (program.folder / "t2").write_bytes(segment(wrap_header(2, before=first + 2, lost=lost), entry))

@@ -1,4 +1,4 @@
-// The words of a command line, and what they ask for.
+//! The words of a command line, and what they ask for.
 ghost use Rattle.std.specs.Prelude.{◌≡◌, IfOk, string_bytes};
 ghost use Rattle.std.specs.Option.{option_map, option_copied};
 

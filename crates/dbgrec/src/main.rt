@@ -3,6 +3,7 @@
 
 mod choosing;
 mod console;
+mod following;
 mod outlet;
 mod simulation;
 mod telling;
@@ -12,6 +13,7 @@ use chosen_lines::{Choice, Sieve};
 use clap::error::ErrorKind as MisuseKind;
 use command_line::{Asked, Misuse, Request, TraceRequest, asked_for};
 use console::Console;
+use following::{choose_of_following, tell_chosen_of_following, tell_of_following};
 use json_lines::Objects;
 use outlet::Outlet;
 use recorder::{Complaint, Files, files_for, serve_following, serve_stream, serve_trace};
@@ -153,7 +155,7 @@ fn follow_objects<R: Wait>(
 ) -> Result<(), Complaint> {
     let mut objects = Objects::new(rt.alloc(), output);
     let mut watched = Watched::new(&mut objects, console);
-    let done = serve_following(waiter, files, is_pretty, &mut watched);
+    let done = tell_of_following(waiter, files, is_pretty, &mut watched);
     drop(watched);
     drop(objects);
     done
@@ -171,7 +173,7 @@ fn follow_chosen<R: Wait>(
 ) -> Result<(), Complaint> {
     let mut sieve = Sieve::new(rt.alloc(), choice, output);
     let mut watched = Watched::new(&mut sieve, console);
-    let done = serve_following(waiter, files, is_pretty, &mut watched);
+    let done = choose_of_following(waiter, files, is_pretty, &mut watched);
     drop(watched);
     drop(sieve);
     done
@@ -190,7 +192,7 @@ fn follow_chosen_objects<R: Wait>(
     let objects = Objects::new(rt.alloc(), output);
     let mut sieve = Sieve::new(rt.alloc(), choice, objects);
     let mut watched = Watched::new(&mut sieve, console);
-    let done = serve_following(waiter, files, is_pretty, &mut watched);
+    let done = tell_chosen_of_following(waiter, files, is_pretty, &mut watched);
     drop(watched);
     drop(sieve);
     done

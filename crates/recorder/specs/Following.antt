@@ -1,8 +1,7 @@
 -- A trace that is followed, look by look.
-use Rattle.std.specs.Prelude.{◌≡◌, ℕ, Option, None, List, [], Result, Ok, Err}
+use Rattle.std.specs.Prelude.{◌≡◌, ℕ, Bool, Option, None, List, [], Result, Ok, Err}
 use Rattle.std.specs.Io.KnownBytes.{Appends, Keeps}
-use Rattle.trace_store.specs.Disk.{Image}
-use Rattle.stores.specs.Events.{World, Past}
+use Rattle.stores.specs.Events.{World}
 use Rattle.stores.specs.FolderStore.{past_of, honest_of, reads_of}
 use Rattle.stores.specs.declared.folder_store.FolderStore.{FolderStore}
 use Rattle.trace_text.specs.Lines.{end_text}
@@ -17,9 +16,11 @@ use Rattle.trace_follower.specs.declared.place.Look.{Look}
 use Rattle.trace_follower.specs.declared.place.Look.TheVariants as looks
 use Rattle.recorder.specs.Faults.{read_fault}
 use Rattle.recorder.specs.Complaints.{status_told}
-use Rattle.recorder.specs.Commands.{IsToldOf}
+use Rattle.trace_places.specs.Places.{file_count}
+use Rattle.recorder.specs.Commands.{IsToldOf, style_of}
 use Rattle.recorder.specs.Files.{OnlyLooks}
 use Rattle.recorder.specs.declared.complaint.Complaint.{Complaint}
+use Rattle.recorder.specs.declared.files.Files.{Files}
 use Rattle.recorder.specs.declared.following.Seen.{Seen}
 use Rattle.recorder.specs.declared.following.Seen.TheVariants as seen
 
@@ -37,7 +38,7 @@ IsToldSo (Err fault) (Err complaint) = IsToldOf (read_fault fault) complaint
 
 -- a follower that has told nothing yet
 pub record IsNew (style : Style) (follower : Follower) : Type 0 where
-  pub style : style_in follower ≡ style
+  pub same_style : style_in follower ≡ style
   pub number : number_in follower ≡ 0
   pub place : follower.place ≡ None
 
@@ -65,16 +66,16 @@ IsSeen count old new was now seen.Changed = (number_in new ≡ number_in old) ×
 -- looks one after the other, what each told written out before the next; where the files changed under a look, it told nothing and the next goes on where it began
 pub data Looks (count : ℕ) (first : Follower) (was : Option (List ℕ)) : Follower → Option (List ℕ) → Type 0 where
   none : Looks count first was first was
-  waits : {mid last : Follower} {met told now : Option (List ℕ)} → Looks count first was mid met → IsLook count mid last met told looks.Waits → Keeps told now → Looks count first was last now
-  again : {mid last : Follower} {met told now : Option (List ℕ)} → Looks count first was mid met → IsSeen count mid last met told seen.Changed → Keeps told now
+  waits : (mid last : Follower) (met told now : Option (List ℕ)) → Looks count first was mid met → IsLook count mid last met told looks.Waits → Keeps told now → Looks count first was last now
+  again : (mid last : Follower) (met told now : Option (List ℕ)) → Looks count first was mid met → IsSeen count mid last met told seen.Changed → Keeps told now
       → Looks count first was last now
 
 -- how it ended: the last look came to the seal, and the last line was written; or a look failed, or what was told couldn't be written out
 pub data Ends (count : ℕ) (mid : Follower) (met now : Option (List ℕ)) : Result Unit ReadFault → Type 0 where
-  sealed : {last : Follower} {told : Option (List ℕ)} → IsLook count mid last met told looks.Sealed → Appends told now end_text → Ends count mid met now (Ok tt)
-  no_end : {last : Follower} {told : Option (List ℕ)} (fault : ReadFault) → IsLook count mid last met told looks.Sealed → AppendsPrefix told now end_text → Ends count mid met now (Err fault)
-  not_written_out : {last : Follower} (look : Look) → Looks count mid met last now → Ends count mid met now (Err faults.Write)
-  failed : {last : Follower} (fault : ReadFault) → IsStopped (style_in mid) (number_in mid) (number_in last) met now fault → Ends count mid met now (Err fault)
+  sealed : (last : Follower) (told : Option (List ℕ)) → IsLook count mid last met told looks.Sealed → Appends told now end_text → Ends count mid met now (Ok tt)
+  no_end : (last : Follower) (told : Option (List ℕ)) (fault : ReadFault) → IsLook count mid last met told looks.Sealed → AppendsPrefix told now end_text → Ends count mid met now (Err fault)
+  not_written_out : (last : Follower) → Looks count mid met last now → Ends count mid met now (Err faults.Write)
+  failed : (last : Follower) (fault : ReadFault) → IsStopped (style_in mid) (number_in mid) (number_in last) met now fault → Ends count mid met now (Err fault)
 
 -- looks from a follower on, and how they ended
 pub record HasFollowed (count : ℕ) (first : Follower) (was now : Option (List ℕ)) (result : Result Unit ReadFault) : Type 0 where
@@ -92,3 +93,7 @@ pub record FollowsTrace (style : Style) (count : ℕ) (was now : Option (List �
   pub followed : HasFollowed count first was mid done
   pub out : Keeps mid now
   pub told : IsToldSo done result
+
+-- the trace of these files was followed, in the style that was asked for
+abbrev pub Follows : Bool → Files → Option (List ℕ) → Option (List ℕ) → Result Unit Complaint → Type 0
+Follows is_pretty files was now result = FollowsTrace (style_of is_pretty) (file_count files.place.kind) was now result

@@ -1,8 +1,4 @@
 pub mod Faults
-pub mod Openings
-pub mod Incoming
-pub mod Parts
-pub mod Importing
 pub mod Files
 pub mod Live
 pub mod Complaints
