@@ -37,11 +37,12 @@ import recording
 import rows
 import scripts
 import telling
+import windows
 import wording
 from cases import Skipped
 from program import Program
 
-GROUPS = (rows, scripts, listing, pretty, choosing, json_listing, recording, importing, info, foreign, absent, keeping, telling, crashes, images, machine, faults, locking, live, following, wording, installing, memory, libraries)
+GROUPS = (rows, scripts, listing, pretty, choosing, json_listing, recording, importing, info, foreign, absent, keeping, telling, crashes, images, machine, faults, locking, live, following, windows, wording, installing, memory, libraries)
 
 
 def words():

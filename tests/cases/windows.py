@@ -1,0 +1,60 @@
+"""Cases of `list` and `export` of a wrap that nobody writes: its files are read twice, and no entry is held."""
+
+from cases import group
+from entries import EXAMPLE, example_line, listing, message, split, window
+from program import same
+from segments import segment, wrap_header
+
+CASES, case = group()
+
+# 24 MB of addresses, of which the program needs 6 to list anything
+SMALL = ("bash", "-c", 'ulimit -v 24000; exec "$@"', "bash")
+
+
+@case
+def a_wrap_of_60_megabytes_is_listed_and_exported_in_24(program):
+    sizes = [95, 195, 295]
+    entries = [message(bytes(sizes[number % 3])) for number in range(400_000)]
+    wrap = ("--kind", "wrap", "--size", "8000000", "--count", "8")
+    program.good("import", "t", *wrap, stdin=b"".join(entries))
+    first, kept = window(entries, 8_000_000, 8)
+    assert first > 0 and sum(map(len, kept)) > 60_000_000, (first, len(kept))
+    exported = program.run("export", "t", *wrap[:2], before=SMALL)
+    same((exported.status, exported.errors), (0, b""))
+    assert exported.output == b"".join(kept)
+    listed = program.run("list", "t", *wrap[:2], before=SMALL)
+    same((listed.status, listed.errors), (0, b""))
+    lines = [f"{number} opaque {len(entry) - 5}" for number, entry in enumerate(kept, first)]
+    assert listed.output == listing(first, 0, lines)
+
+
+@case
+def a_wrap_whose_middle_file_is_damaged_is_refused(program):
+    entry = message(EXAMPLE)
+    wrap = ("t", "--kind", "wrap", "--count", "4")
+    for file in range(3):
+        (program.folder / f"t{file}").write_bytes(segment(wrap_header(file, count=4, before=2 * file), entry * 2))
+    lines = [example_line(number) for number in range(6)]
+    same(program.good("list", *wrap), listing(0, 0, lines))
+    same(program.good("export", *wrap), entry * 6)
+    damaged = bytearray((program.folder / "t1").read_bytes())
+    damaged[41] = 2
+    (program.folder / "t1").write_bytes(damaged)
+    for command, done in (("list", "listed"), ("export", "written")):
+        says = f"dbgrec: refused 1 Damaged file 1 at 36\nt1 is damaged there: no entry is {done}"
+        program.refused(command, *wrap, says=says)
+
+
+@case
+def each_wrap_is_listed_as_its_entries_are_kept(program):
+    entries = split(b"".join(message(bytes(1 + number % 40)) for number in range(60)))
+    for count in (1, 2, 3):
+        for size in (0, 50, 99):
+            wrap = ("--kind", "wrap", "--size", str(size), "--count", str(count))
+            for many in (1, 2, 3, 4, 17, 60):
+                name = f"t{count}.{size}.{many}."
+                program.good("import", name, *wrap, stdin=b"".join(entries[:many]))
+                first, kept = window(entries[:many], size, count)
+                lines = [f"{number} opaque {len(entry) - 5}" for number, entry in enumerate(kept, first)]
+                same(program.good("list", name, *wrap[:2]), listing(first, 0, lines))
+                same(program.good("export", name, *wrap[:2]), b"".join(kept))
