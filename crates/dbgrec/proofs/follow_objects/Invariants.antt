@@ -2,4 +2,4 @@ use Rattle.std.proofs.Common.{None}
 use Rattle.dbgrec.proofs.follow_objects.Given as goal
 
 abbrev pub ghost-new : goal.ghost-new
-ghost-new a = None
+ghost-new g a = None
