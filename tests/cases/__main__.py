@@ -17,6 +17,7 @@ import traceback
 import absent
 import choosing
 import crashes
+import emitting
 import faults
 import foreign
 import images
@@ -32,6 +33,7 @@ import locking
 import machine
 import memory
 import pretty
+import readings
 import recording
 import rows
 import scripts
@@ -40,7 +42,7 @@ import wording
 from cases import Skipped
 from program import Program
 
-GROUPS = (rows, scripts, listing, pretty, choosing, json_listing, recording, importing, info, foreign, absent, keeping, telling, crashes, images, machine, faults, locking, live, wording, installing, memory, libraries)
+GROUPS = (rows, scripts, emitting, readings, listing, pretty, choosing, json_listing, recording, importing, info, foreign, absent, keeping, telling, crashes, images, machine, faults, locking, live, wording, installing, memory, libraries)
 
 
 def words():
