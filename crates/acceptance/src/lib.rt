@@ -10,6 +10,10 @@ mod driving_tests;
 #[cfg(test)]
 mod either_tests;
 #[cfg(test)]
+mod ledgers;
+#[cfg(test)]
+mod scenes;
+#[cfg(test)]
 mod settling_tests;
 #[cfg(test)]
 mod threads_tests;

@@ -2,30 +2,15 @@ ghost use Rattle.std.specs.Prelude.{◌≡◌};
 ghost use Rattle.tracees.specs.Books.{no_totals};
 ghost use Rattle.tracees.specs.Meanings.{KeepsMeaning};
 
-use crate::tracees_tests::{GREATEST, MOMENT, atom, tracee};
+use crate::ledgers::{Told, Work, over_a_file};
+use crate::scenes::{emit, tracee};
 use intake::Offer;
 use std::alloc::Global;
-use std::marker::Brand;
 use std::process::Abort;
-use std::sync::ledger::{Blank, Ledger};
 use std::test::*;
 use stores::MemStore;
-use trace_message::Event;
-use trace_port::{FilePort, TracePort};
-use trace_terms::Term;
-use tracees::{
-    Account, Bookkeeping, Desk, LedgerBook, Numbered, PARTS, SettleFault, SharedBook, Totals,
-    Traced, settle,
-};
-
-fn emit<K: Bookkeeping>(rt: &impl Abort, alloc: Global, traced: &mut Traced<K>, offers: &[Offer]) {
-    let message = Term::Atom(atom(rt, alloc, "ok"));
-    let event = Event::Receive { message };
-    for offer in offers {
-        assert_eq!(rt; traced.emit(alloc, &event, MOMENT), Ok(*offer));
-    }
-    drop(event);
-}
+use trace_port::TracePort;
+use tracees::{Account, Bookkeeping, Desk, SettleFault, SharedBook, Totals, Traced, settle};
 
 /// Two messages of a tracee are flushed.
 fn flush_two<P: TracePort, K: Bookkeeping>(
@@ -34,7 +19,7 @@ fn flush_two<P: TracePort, K: Bookkeeping>(
     desk: &mut Desk<'_, P, K>,
     traced: &mut Traced<K>,
 ) {
-    emit(rt, alloc, traced, &[Offer::Kept, Offer::Kept]);
+    emit(rt, alloc, traced, 2, Offer::Kept);
     assert!(rt; desk.flush_for(alloc, traced).is_ok());
 }
 
@@ -45,12 +30,8 @@ fn hand_over_one<P: TracePort, K: Bookkeeping>(
     desk: &mut Desk<'_, P, K>,
     traced: &mut Traced<K>,
 ) {
-    emit(
-        rt,
-        alloc,
-        traced,
-        &[Offer::Kept, Offer::Dropped, Offer::Dropped],
-    );
+    emit(rt, alloc, traced, 1, Offer::Kept);
+    emit(rt, alloc, traced, 2, Offer::Dropped);
     assert!(rt; desk.hand_over(alloc, traced, 2).is_ok());
 }
 
@@ -102,7 +83,7 @@ fn told<'p, P: TracePort, K: SharedBook>(
 
 /// Two tracees at a desk: of one two messages are flushed, of the other one is handed over with two drops. The account
 /// of the first is handed in, and that of the other where all are to be.
-fn settled_by<P: TracePort, K: SharedBook>(
+pub(crate) fn settled_by<P: TracePort, K: SharedBook>(
     rt: &impl Abort,
     alloc: Global,
     port: &mut P,
@@ -111,70 +92,18 @@ fn settled_by<P: TracePort, K: SharedBook>(
 ) -> Result<Totals, usize>
     requires totals { K.totals_of book ≡ no_totals }
     requires attached { K.attached_of book ≡ 0 }
-    requires number { K.desk ≡ 3 }
+    requires number { K.desk ≡ 7 }
     requires fits { KeepsMeaning (P.told port.old) }
 {
-    let mut desk = Desk::new(3, port, book);
-    let mut one = desk.attach(tracee(rt, alloc, 2));
-    let mut other = desk.attach(tracee(rt, alloc, 1));
+    let mut desk = Desk::new(7, port, book);
+    let mut one = desk.attach(tracee(rt, alloc, 7, 80, 2));
+    let mut other = desk.attach(tracee(rt, alloc, 7, 80, 1));
     flush_two(rt, alloc, &mut desk, &mut one);
     hand_over_one(rt, alloc, &mut desk, &mut other);
     let accounts = accounts_of(rt, alloc, one, other, all);
     let (desk, told) = told(rt, desk, accounts);
     drop(desk);
     told
-}
-
-/// The same over a book of ledgers. Only its type is known where the work is done: so its parts, which are many, aren't
-/// looked at there.
-fn settled<
-    F: Ledger + Send,
-    U: Ledger + Send,
-    D: Ledger + Send,
-    N: Ledger + Numbered + Send,
-    P: TracePort,
-    R: Abort,
->(
-    rt: &R,
-    alloc: Global,
-    port: &mut P,
-    all: bool,
-    flushed: Blank,
-    unflushed: Blank,
-    drops: Blank,
-    accounts: Blank,
-) -> Result<Totals, usize>
-    requires flushed { (flushed.name ≡ F.name) × (flushed.parts ≡ F.parts) × (flushed.parts ≡ PARTS) }
-    requires unflushed { (unflushed.name ≡ U.name) × (unflushed.parts ≡ U.parts) × (unflushed.parts ≡ PARTS) }
-    requires drops { (drops.name ≡ D.name) × (drops.parts ≡ D.parts) × (drops.parts ≡ PARTS) }
-    requires accounts { (accounts.name ≡ N.name) × (accounts.parts ≡ N.parts) × (accounts.parts ≡ PARTS) }
-    requires number { N.number ≡ 3 }
-    requires fits { KeepsMeaning (P.told port.old) }
-{
-    let book: LedgerBook<F, U, D, N> = LedgerBook::new(flushed, unflushed, drops, accounts);
-    settled_by(rt, alloc, port, book, all)
-}
-
-fn settled_over_a_file<R: Abort>(
-    rt: &R,
-    alloc: Global,
-    all: bool,
-) -> Result<Result<Totals, usize>, Fail> {
-    let mut store = MemStore::blank(alloc, 1)?;
-    let mut port = FilePort::create(alloc, &mut store, GREATEST)?;
-    let told = settled::<Brand, Brand, Brand, Brand, _, _>(
-        rt,
-        alloc,
-        &mut port,
-        all,
-        Blank::new(PARTS),
-        Blank::new(PARTS),
-        Blank::new(PARTS),
-        Blank::new(PARTS),
-    );
-    drop(port);
-    drop(store);
-    Ok(told)
 }
 
 #[test]
@@ -184,7 +113,11 @@ fn accounts_settle_where_none_is_missing(rt: HostRuntime) -> Result<(), Fail> {
         drops: 2,
         flushed: 2,
     };
-    assert_eq!(rt; settled_over_a_file(&rt, rt.alloc(), true)?, Ok(all));
-    assert_eq!(rt; settled_over_a_file(&rt, rt.alloc(), false)?, Err(1));
+    for (hands_all_in, expected) in [(true, Ok(all)), (false, Err(1))] {
+        let mut store = MemStore::blank(rt.alloc(), 1)?;
+        let told = over_a_file(&rt, rt.alloc(), &mut store, Work::Settle(hands_all_in));
+        drop(store);
+        assert!(rt; matches!(&told?, Told::Settled(found) if *found == expected));
+    }
     Ok(())
 }

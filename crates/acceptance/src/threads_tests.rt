@@ -3,27 +3,22 @@ ghost use Rattle.tracees.specs.Books.{no_totals};
 ghost use Rattle.tracees.specs.Jobs.{IsReady};
 ghost use Rattle.tracees.specs.Meanings.{KeepsMeaning};
 
-use crate::tracees_tests::{GREATEST, MOMENT, RECEIVE, atom};
+use crate::ledgers::{Told, Work, over_a_file, over_a_wrap};
+use crate::scenes::{MOMENT, receipt_of_ok, tracee};
 use entry_codec::Entry;
-use intake::Tracee;
 use recovery::{Recovered, recover};
 use std::alloc::{AllocError, Global};
-use std::marker::Brand;
 use std::process::Abort;
 use std::sync::atomic::{AtomicU64, Ordering};
-use std::sync::ledger::{Blank, Ledger};
 use std::sync::{Mutex, Wait};
 use std::test::*;
 use std::thread::Threads;
 use stores::{MemStore, Pick};
-use trace_message::Event;
-use trace_port::{FilePort, PortFault, PortState, Status, TracePort};
-use trace_terms::{Pid, Term};
+use trace_port::{PortFault, PortState, Status, TracePort};
 use tracees::{
-    Account, Act, ActFault, Bookkeeping, Desk, Gate, HandFault, Job, JobState, LedgerBook,
-    Numbered, PARTS, Receipt, SettleFault, SharedBook, Totals, Traced, audit, run_threads, settle,
+    Account, Act, ActFault, Bookkeeping, Desk, Gate, HandFault, Job, JobState, Receipt,
+    SettleFault, SharedBook, Totals, Traced, audit, run_threads, settle,
 };
-use wrap_port::{WrapPort, WrapSpec};
 
 /// Lets no job do its first act until so many have come to theirs.
 #[derive(Drop)]
@@ -53,17 +48,6 @@ impl Gate for Meeting {
     fn after(&self, _tracee: u32, _act: u32) {}
 }
 
-/// The tracee of this number and, so that their messages differ, of a pid of its own.
-fn tracee(rt: &impl Abort, alloc: Global, number: u32, capacity: u32) -> Tracee {
-    let pid = Pid {
-        node: atom(rt, alloc, "nonode@nohost"),
-        id: number.saturating_add(80),
-        serial: 0,
-        creation: 0,
-    };
-    Tracee::new(alloc, number, pid, RECEIVE, capacity, 1_000).expect(rt, "a tracee")
-}
-
 #[derive(Clone, Copy)]
 pub(crate) enum Do {
     /// So many receipts of the atom `ok`.
@@ -85,8 +69,7 @@ pub(crate) struct Plan {
 
 fn add_emits(rt: &impl Abort, alloc: Global, acts: &mut Vec<Act>, count: u32) {
     for _ in 0..count {
-        let message = Term::Atom(atom(rt, alloc, "ok"));
-        let event = Event::Receive { message };
+        let event = receipt_of_ok(rt, alloc);
         let stamp = MOMENT;
         acts.push(Act::Emit { event, stamp }).expect(rt, "memory");
     }
@@ -108,7 +91,7 @@ fn acts(rt: &impl Abort, alloc: Global, plan: Plan) -> Vec<Act> {
 
 /// What is known at the end: the receipts of all jobs, the sums of their accounts and what the port has done.
 #[derive(Drop)]
-struct End {
+pub(crate) struct End {
     receipts: Vec<Vec<Receipt>>,
     totals: Totals,
     status: Status,
@@ -134,7 +117,7 @@ pub(crate) fn jobs<P: TracePort, K: Bookkeeping>(
     let mut jobs = Vec::new(alloc);
     for number in 0..plan.jobs {
         assert!(rt; desk.attached() != u32::MAX);
-        let traced = desk.attach(tracee(rt, alloc, number, plan.capacity));
+        let traced = desk.attach(tracee(rt, alloc, number, number.saturating_add(80), plan.capacity));
         let job = job(rt, alloc, traced, plan);
         jobs.push(job)?;
     }
@@ -204,7 +187,7 @@ fn run_jobs<'p, P: TracePort, K: SharedBook, G: Gate, R: Threads + Wait + Abort 
 }
 
 /// Runs the jobs of a plan on threads, over one desk, and settles their accounts.
-fn run_by<P: TracePort, K: SharedBook, R: Threads + Wait + Abort + Sync>(
+pub(crate) fn run_by<P: TracePort, K: SharedBook, R: Threads + Wait + Abort + Sync>(
     rt: &R,
     alloc: Global,
     port: &mut P,
@@ -237,58 +220,6 @@ fn run_by<P: TracePort, K: SharedBook, R: Threads + Wait + Abort + Sync>(
     }
 }
 
-/// The same over a book of ledgers. Only its type is known where the jobs are run: so its parts, which are many, aren't
-/// looked at there.
-fn run<
-    F: Ledger + Send,
-    U: Ledger + Send,
-    D: Ledger + Send,
-    N: Ledger + Numbered + Send,
-    P: TracePort,
-    R: Threads + Wait + Abort + Sync,
->(
-    rt: &R,
-    alloc: Global,
-    port: &mut P,
-    plan: Plan,
-    flushed: Blank,
-    unflushed: Blank,
-    drops: Blank,
-    accounts: Blank,
-) -> End
-    requires flushed { (flushed.name ≡ F.name) × (flushed.parts ≡ F.parts) × (flushed.parts ≡ PARTS) }
-    requires unflushed { (unflushed.name ≡ U.name) × (unflushed.parts ≡ U.parts) × (unflushed.parts ≡ PARTS) }
-    requires drops { (drops.name ≡ D.name) × (drops.parts ≡ D.parts) × (drops.parts ≡ PARTS) }
-    requires accounts { (accounts.name ≡ N.name) × (accounts.parts ≡ N.parts) × (accounts.parts ≡ PARTS) }
-    requires number { N.number ≡ 7 }
-    requires fits { KeepsMeaning (P.told port.old) }
-{
-    let book: LedgerBook<F, U, D, N> = LedgerBook::new(flushed, unflushed, drops, accounts);
-    run_by(rt, alloc, port, book, plan)
-}
-
-/// What a plan over a file port comes to.
-fn over_a_file<R: Threads + Wait + Abort + Sync>(
-    rt: &R,
-    alloc: Global,
-    store: &mut MemStore,
-    plan: Plan,
-) -> Result<End, Fail> {
-    let mut port = FilePort::create(alloc, store, GREATEST)?;
-    let end = run::<Brand, Brand, Brand, Brand, _, _>(
-        rt,
-        alloc,
-        &mut port,
-        plan,
-        Blank::new(PARTS),
-        Blank::new(PARTS),
-        Blank::new(PARTS),
-        Blank::new(PARTS),
-    );
-    drop(port);
-    Ok(end)
-}
-
 /// Each job's receipts are held against what is recovered.
 fn assert_audited(rt: &impl Abort, end: &End, found: &Recovered) {
     for receipts in &end.receipts {
@@ -303,7 +234,9 @@ fn recovered_behind<R: Threads + Wait + Abort + Sync>(
     plan: Plan,
 ) -> Result<(End, usize), Fail> {
     let mut store = MemStore::blank(alloc, 1)?;
-    let end = over_a_file(rt, alloc, &mut store, plan)?;
+    let Told::Ran(end) = over_a_file(rt, alloc, &mut store, Work::Run(plan))? else {
+        panic!(rt; "no jobs")
+    };
     let found = recover(alloc, &mut store).expect(rt, "a trace");
     drop(store);
     assert_audited(rt, &end, &found);
@@ -400,27 +333,6 @@ const RUSH: Plan = Plan {
     abandons: true,
 };
 
-fn rush_over_a_wrap<R: Threads + Wait + Abort + Sync>(
-    rt: &R,
-    alloc: Global,
-    store: &mut MemStore,
-) -> Result<End, Fail> {
-    let spec = WrapSpec::standard();
-    let mut port = WrapPort::create(alloc, store, spec)?;
-    let end = run::<Brand, Brand, Brand, Brand, _, _>(
-        rt,
-        alloc,
-        &mut port,
-        RUSH,
-        Blank::new(PARTS),
-        Blank::new(PARTS),
-        Blank::new(PARTS),
-        Blank::new(PARTS),
-    );
-    drop(port);
-    Ok(end)
-}
-
 fn assert_rush_is_told(rt: &impl Abort, end: &End) {
     assert_sums(rt, end.totals, [80_000, 20_000, 80_000]);
     assert_eq!(rt; named(end.receipts.as_slice()), [80_000, 20_000, 80_080]);
@@ -435,7 +347,9 @@ fn assert_rush_is_told(rt: &impl Abort, end: &End) {
 fn four_jobs_agree_with_what_is_recovered(rt: HostRuntime) -> Result<(), Fail> {
     let alloc = rt.alloc();
     let mut store = MemStore::blank(alloc, 9)?;
-    let end = rush_over_a_wrap(&rt, alloc, &mut store)?;
+    let Told::Ran(end) = over_a_wrap(&rt, alloc, &mut store, Work::Run(RUSH))? else {
+        panic!(&rt; "no jobs")
+    };
     assert!(rt; store.crash(Pick::Kept).is_ok());
     let found = recover(alloc, &mut store).expect(&rt, "a trace");
     drop(store);
@@ -449,6 +363,7 @@ fn four_jobs_agree_with_what_is_recovered(rt: HostRuntime) -> Result<(), Fail> {
 }
 
 /// Is shut before the act at this place.
+#[derive(Clone, Copy)]
 pub(crate) struct Until {
     pub(crate) act: u32,
 }
@@ -483,7 +398,7 @@ fn only<K: Bookkeeping>(rt: &impl Abort, mut jobs: Vec<Job<K>>) -> (JobState, us
 }
 
 /// One job over a desk that may be sealed: how far it came, and how many receipts it has.
-fn run_one_by<P: TracePort, K: SharedBook, R: Threads + Wait + Abort + Sync>(
+pub(crate) fn run_one_by<P: TracePort, K: SharedBook, R: Threads + Wait + Abort + Sync>(
     rt: &R,
     alloc: Global,
     port: &mut P,
@@ -512,60 +427,6 @@ fn run_one_by<P: TracePort, K: SharedBook, R: Threads + Wait + Abort + Sync>(
     only(rt, jobs)
 }
 
-/// The same over a book of ledgers.
-fn run_one<
-    F: Ledger + Send,
-    U: Ledger + Send,
-    D: Ledger + Send,
-    N: Ledger + Numbered + Send,
-    P: TracePort,
-    R: Threads + Wait + Abort + Sync,
->(
-    rt: &R,
-    alloc: Global,
-    port: &mut P,
-    gate: &Until,
-    seals: bool,
-    flushed: Blank,
-    unflushed: Blank,
-    drops: Blank,
-    accounts: Blank,
-) -> (JobState, usize)
-    requires flushed { (flushed.name ≡ F.name) × (flushed.parts ≡ F.parts) × (flushed.parts ≡ PARTS) }
-    requires unflushed { (unflushed.name ≡ U.name) × (unflushed.parts ≡ U.parts) × (unflushed.parts ≡ PARTS) }
-    requires drops { (drops.name ≡ D.name) × (drops.parts ≡ D.parts) × (drops.parts ≡ PARTS) }
-    requires accounts { (accounts.name ≡ N.name) × (accounts.parts ≡ N.parts) × (accounts.parts ≡ PARTS) }
-    requires number { N.number ≡ 7 }
-    requires fits { KeepsMeaning (P.told port.old) }
-{
-    let book: LedgerBook<F, U, D, N> = LedgerBook::new(flushed, unflushed, drops, accounts);
-    run_one_by(rt, alloc, port, book, gate, seals)
-}
-
-fn one_over_a_file<R: Threads + Wait + Abort + Sync>(
-    rt: &R,
-    alloc: Global,
-    gate: &Until,
-    seals: bool,
-) -> Result<(JobState, usize), Fail> {
-    let mut store = MemStore::blank(alloc, 1)?;
-    let mut port = FilePort::create(alloc, &mut store, GREATEST)?;
-    let ended = run_one::<Brand, Brand, Brand, Brand, _, _>(
-        rt,
-        alloc,
-        &mut port,
-        gate,
-        seals,
-        Blank::new(PARTS),
-        Blank::new(PARTS),
-        Blank::new(PARTS),
-        Blank::new(PARTS),
-    );
-    drop(port);
-    drop(store);
-    Ok(ended)
-}
-
 /// A job whose hand-over found the port sealed.
 fn assert_refused(rt: &impl Abort, state: &JobState) {
     match state {
@@ -581,14 +442,31 @@ fn assert_refused(rt: &impl Abort, state: &JobState) {
     }
 }
 
+/// How far one job came over a file port, and how many receipts it has.
+fn one_over_a_file<R: Threads + Wait + Abort + Sync>(
+    rt: &R,
+    alloc: Global,
+    act: u32,
+    seals: bool,
+) -> Result<(JobState, usize), Fail> {
+    let mut store = MemStore::blank(alloc, 1)?;
+    let gate = Until { act };
+    let told = over_a_file(rt, alloc, &mut store, Work::RunOne { gate, seals });
+    drop(store);
+    match told? {
+        Told::RanOne(state, receipts) => Ok((state, receipts)),
+        _ => Err("another work".into()),
+    }
+}
+
 #[test]
 fn a_job_ends_where_it_is_shut_or_refused(rt: HostRuntime) -> Result<(), Fail> {
     let alloc = rt.alloc();
-    let (state, receipts) = one_over_a_file(&rt, alloc, &Until { act: 2 }, false)?;
+    let (state, receipts) = one_over_a_file(&rt, alloc, 2, false)?;
     assert!(rt; matches!(&state, JobState::Shut { act: 2 }));
     assert_eq!(rt; receipts, 1);
     drop(state);
-    let (state, receipts) = one_over_a_file(&rt, alloc, &Until { act: 9 }, true)?;
+    let (state, receipts) = one_over_a_file(&rt, alloc, 9, true)?;
     assert_refused(&rt, &state);
     assert_eq!(rt; receipts, 0);
     drop(state);

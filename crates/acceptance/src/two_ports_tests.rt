@@ -1,16 +1,15 @@
 ghost use Rattle.std.specs.Prelude.{◌≡◌};
 
-use crate::tracees_tests::{GREATEST, RECEIVE, atom};
+use crate::scenes::{GREATEST, MOMENT, receipt_of_ok, tracee};
 use entry_codec::Entry;
-use intake::{Offer, Tracee};
+use intake::Offer;
 use recovery::recover;
 use std::alloc::Global;
 use std::process::Abort;
 use std::test::*;
 use stores::MemStore;
-use trace_message::{Event, Stamp};
 use trace_port::{FilePort, TracePort};
-use trace_terms::{NoMemory, Pid, Term};
+use trace_terms::NoMemory;
 use tracees::{
     Bookkeeping, Desk, EitherPort, PlainBook, Receipt, Reply, Step, Traced, audit, drive,
 };
@@ -27,30 +26,12 @@ enum Expected {
     Unknown,
 }
 
-/// A tracee of this number whose receipts are asked for, with room for two messages.
-fn tracee(rt: &impl Abort, alloc: Global, number: u32) -> Tracee {
-    let pid = Pid {
-        node: atom(rt, alloc, "nonode@nohost"),
-        id: number,
-        serial: 0,
-        creation: 0,
-    };
-    Tracee::new(alloc, number, pid, RECEIVE, 2, 100).expect(rt, "a tracee")
-}
-
 /// The tracee at this place receives the atom `ok`.
 fn receives(rt: &impl Abort, alloc: Global, tracee: u32) -> Step {
-    let message = Term::Atom(atom(rt, alloc, "ok"));
-    let stamp = Stamp {
-        mega: 0,
-        sec: 0,
-        micro: 0,
-        mono: 0,
-    };
     Step::Emit {
         tracee,
-        event: Event::Receive { message },
-        stamp,
+        event: receipt_of_ok(rt, alloc),
+        stamp: MOMENT,
     }
 }
 
@@ -65,7 +46,7 @@ fn attach_one<P: TracePort, K: Bookkeeping>(
 {
     assert!(rt; desk.attached() != u32::MAX);
     let number = u32::try_from(traced.len()).expect(rt, "a number");
-    let one = desk.attach(tracee(rt, alloc, number));
+    let one = desk.attach(tracee(rt, alloc, number, number, 2));
     traced.push(one).expect(rt, "memory");
 }
 
@@ -207,11 +188,12 @@ fn steps(rt: &impl Abort, alloc: Global) -> Vec<Step> {
         Step::Flush { desk: 1 },
         Step::Seal { desk: 0 },
         hand_over(3),
+        Step::Flush { desk: 2 },
     ];
     Vec::from_array(alloc, steps).expect(rt, "memory")
 }
 
-const EXPECTED: [Expected; 13] = [
+const EXPECTED: [Expected; 14] = [
     Expected::Offer(Offer::Kept),
     Expected::Offer(Offer::Kept),
     Expected::Offer(Offer::Kept),
@@ -224,6 +206,7 @@ const EXPECTED: [Expected; 13] = [
     Expected::Receipt(1, 2, 1, &[0, 0, 1], 4),
     Expected::Flushed(4),
     Expected::Sealed,
+    Expected::Unknown,
     Expected::Unknown,
 ];
 

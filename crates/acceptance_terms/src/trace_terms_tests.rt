@@ -13,7 +13,7 @@ fn repeated(rt: &impl Abort, alloc: Global, character: char, count: u32) -> Stri
 }
 
 /// The number 7 in a list in a list, so many times.
-pub(crate) fn nested(rt: &impl Abort, alloc: Global, depth: u32) -> Term {
+fn nested(rt: &impl Abort, alloc: Global, depth: u32) -> Term {
     let mut term = Term::Int(7);
     for _ in 0..depth {
         term = Term::List(Vec::from_array(alloc, [term]).expect(rt, "memory"));

@@ -1,7 +1,8 @@
 //! Messages that are made, copied, spelled and taken off, while memory is refused.
 
-use crate::refused_memory_ports::{TRIES, is_refused_for_good};
-use crate::scenes::{MESSAGE, MOMENT, RECEIVE, pid, receipt_of_ok, tracee};
+use crate::scenes::{
+    EXAMPLE, MOMENT, RECEIVE, TRIES, is_refused_for_good, pid, receipt_of_ok, tracee,
+};
 use entry_codec::Entry;
 use ext_format::{EncodeFault, encode};
 use intake::{Offer, Tracee};
@@ -57,7 +58,7 @@ fn spelled(rt: &impl Abort, alloc: Global) -> Option<Vec<u8>> {
 #[test]
 fn a_message_is_spelled_when_there_is_memory(rt: HostRuntime) {
     match spelled(&rt, rt.alloc()) {
-        Some(bytes) => assert!(rt; bytes.as_slice() == &MESSAGE[5..]),
+        Some(bytes) => assert!(rt; bytes.as_slice() == EXAMPLE),
         None => assert!(rt; is_refused_for_good(rt.alloc())),
     }
 }
@@ -65,7 +66,7 @@ fn a_message_is_spelled_when_there_is_memory(rt: HostRuntime) {
 /// A tracee of which two messages wait, and one was dropped.
 fn waiting(rt: &impl Abort, alloc: Global) -> Option<Tracee> {
     let event = receipt_of_ok(alloc)?;
-    let mut tracee = tracee(alloc, 7)?;
+    let mut tracee = tracee(alloc, 2, 100)?;
     for offer in [Offer::Kept, Offer::Kept, Offer::Dropped] {
         let answer = match tracee.emit(alloc, &event, MOMENT) {
             Ok(offer) => Ok(offer),
@@ -93,7 +94,7 @@ fn assert_taken(rt: &impl Abort, entries: &[Entry]) {
     assert_eq!(rt; entries.len(), 3);
     for entry in &entries[..2] {
         match entry {
-            Entry::Message(bytes) => assert!(rt; bytes.as_slice() == &MESSAGE[5..]),
+            Entry::Message(bytes) => assert!(rt; bytes.as_slice() == EXAMPLE),
             Entry::Drop(_) => panic!(rt; "another entry"),
         }
     }

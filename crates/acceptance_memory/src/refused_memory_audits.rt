@@ -1,13 +1,11 @@
-//! Folds over a window, and audits, while memory is refused.
+//! Audits while memory is refused, which need none.
 
-use crate::refused_memory_ports::{TRIES, is_refused_for_good};
+use crate::refused_memory_ports::is_refused_for_good;
 use crate::scenes::{MESSAGE, room};
 use entry_codec::Entry;
 use recovery::Recovered;
 use std::alloc::Global;
-use std::cell::Cell;
 use std::test::*;
-use trace_client::{Item, fold_trace};
 use tracees::{Mismatch, Receipt, audit};
 
 /// An entry of these bytes, which are copied once more where that was refused memory.
@@ -25,41 +23,6 @@ fn window(alloc: Global) -> Option<Recovered> {
     entries.push(message(alloc, b"abc")?).ok()?;
     entries.push(Entry::Drop(2)).ok()?;
     Recovered::new(None, 7, 2, entries, false)
-}
-
-/// The digit of an item.
-fn digit(item: &Item) -> u32 {
-    match item {
-        Item::Seen(_) => 1,
-        Item::Opaque(3) => 2,
-        Item::Drop(2) => 3,
-        Item::Done => 4,
-        _ => 9,
-    }
-}
-
-/// A fold that is refused memory was handed items from the first on, and never the end.
-#[test]
-fn a_window_is_folded_when_there_is_memory(rt: HostRuntime) {
-    let alloc = rt.alloc();
-    let Some(window) = window(alloc) else {
-        assert!(rt; is_refused_for_good(alloc));
-        return;
-    };
-    for _ in 0..TRIES {
-        let handed = Cell::new(0u32);
-        let folded = fold_trace(alloc, &window, 0u32, |item, digits| {
-            let digits = digits.wrapping_mul(10).wrapping_add(digit(item));
-            handed.set(digits);
-            digits
-        });
-        if let Ok(digits) = folded {
-            assert_eq!(rt; digits, 1234);
-            return;
-        }
-        assert!(rt; matches!(handed.get(), 0 | 1 | 12 | 123));
-    }
-    assert!(rt; is_refused_for_good(alloc));
 }
 
 /// A receipt of these entries, the first of this number, of which those up to number 9 are covered.
