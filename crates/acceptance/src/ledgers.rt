@@ -4,6 +4,7 @@ ghost use Rattle.std.specs.Prelude.{◌≡◌};
 ghost use Rattle.tracees.specs.Books.{no_totals};
 ghost use Rattle.tracees.specs.Meanings.{KeepsMeaning};
 
+use crate::refused_memory_threads::finished_by;
 use crate::scenes::GREATEST;
 use crate::settling_tests::settled_by;
 use crate::threads_tests::{End, Plan, Until, run_by, run_one_by};
@@ -12,7 +13,6 @@ use std::marker::Brand;
 use std::process::Abort;
 use std::sync::Wait;
 use std::sync::ledger::{Blank, Ledger};
-use std::test::*;
 use std::thread::Threads;
 use stores::MemStore;
 use trace_port::{FilePort, TracePort};
@@ -27,6 +27,8 @@ pub(crate) enum Work {
     RunOne { gate: Until, seals: bool },
     /// The accounts of two tracees are settled, of which one may be missing.
     Settle(bool),
+    /// Two jobs are run, and may be refused memory.
+    Finish,
 }
 
 /// What came of it.
@@ -37,6 +39,8 @@ pub(crate) enum Told {
     RanOne(JobState, usize),
     /// The sums, or how many accounts came back.
     Settled(Result<Totals, usize>),
+    /// Whether the jobs finished.
+    Finished(bool),
 }
 
 /// Does the work at a desk with this book.
@@ -59,6 +63,7 @@ fn work_by<P: TracePort, K: SharedBook, R: Threads + Wait + Abort + Sync>(
             Told::RanOne(state, receipts)
         }
         Work::Settle(all) => Told::Settled(settled_by(rt, alloc, port, book, all)),
+        Work::Finish => Told::Finished(finished_by(rt, alloc, port, book)),
     }
 }
 
@@ -112,28 +117,32 @@ fn over_a_port<P: TracePort, R: Threads + Wait + Abort + Sync>(
     )
 }
 
-/// Does the work over a new file port.
+/// Does the work over a new file port, and answers its store too.
 pub(crate) fn over_a_file<R: Threads + Wait + Abort + Sync>(
     rt: &R,
     alloc: Global,
-    store: &mut MemStore,
     work: Work,
-) -> Result<Told, Fail> {
-    let mut port = FilePort::create(alloc, store, GREATEST)?;
+) -> Option<(Told, MemStore)> {
+    let mut store = MemStore::blank(alloc, 1).ok()?;
+    let Ok(mut port) = FilePort::create(alloc, &mut store, GREATEST) else {
+        return None;
+    };
     let told = over_a_port(rt, alloc, &mut port, work);
     drop(port);
-    Ok(told)
+    Some((told, store))
 }
 
-/// Does the work over a new wrap port.
+/// The same over a new wrap port.
 pub(crate) fn over_a_wrap<R: Threads + Wait + Abort + Sync>(
     rt: &R,
     alloc: Global,
-    store: &mut MemStore,
     work: Work,
-) -> Result<Told, Fail> {
-    let mut port = WrapPort::create(alloc, store, WrapSpec::standard())?;
+) -> Option<(Told, MemStore)> {
+    let mut store = MemStore::blank(alloc, 9).ok()?;
+    let Ok(mut port) = WrapPort::create(alloc, &mut store, WrapSpec::standard()) else {
+        return None;
+    };
     let told = over_a_port(rt, alloc, &mut port, work);
     drop(port);
-    Ok(told)
+    Some((told, store))
 }

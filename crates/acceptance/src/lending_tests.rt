@@ -13,11 +13,12 @@ fn a_lent_store_comes_back_sealed(rt: HostRuntime) -> Result<(), Fail> {
     let entry = Entry::Message(Vec::from_slice(alloc, EXAMPLE)?);
     assert!(rt; entry.is_lawful());
     let opening = begin_create(alloc, &mut store, GREATEST).expect(&rt, "an opening");
-    assert_eq!(rt; put_one(&mut store, opening, &entry), Ok(0));
+    assert!(rt; matches!(put_one(&mut store, opening, &entry), Ok(0)));
     drop(entry);
     assert!(rt; store.files() != 0);
-    assert_eq!(rt; store.len(0), Ok(102));
-    assert_eq!(rt; left(alloc, &mut store)?, (1, true));
+    assert!(rt; matches!(store.len(0), Ok(102)));
+    let (entries, sealed) = left(alloc, &mut store)?;
+    assert!(rt; entries == 1 && sealed);
     drop(store);
     Ok(())
 }
@@ -26,10 +27,8 @@ fn a_lent_store_comes_back_sealed(rt: HostRuntime) -> Result<(), Fail> {
 fn two_entries_are_put_in_a_row(rt: HostRuntime) -> Result<(), Fail> {
     let mut store = MemStore::blank(rt.alloc(), 1)?;
     let mut port = FilePort::create(rt.alloc(), &mut store, GREATEST)?;
-    assert_eq!(rt;
-        put_both(&mut port, &Entry::Drop(7), &Entry::Drop(7)),
-        (Ok(0), Ok(1))
-    );
+    let answers = put_both(&mut port, &Entry::Drop(7), &Entry::Drop(7));
+    assert!(rt; matches!(answers, (Ok(0), Ok(1))));
     drop(port);
     drop(store);
     Ok(())

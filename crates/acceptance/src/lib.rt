@@ -14,6 +14,8 @@ mod ledgers;
 #[cfg(test)]
 mod lending_tests;
 #[cfg(test)]
+mod refused_memory_threads;
+#[cfg(test)]
 mod scenes;
 #[cfg(test)]
 mod settling_tests;

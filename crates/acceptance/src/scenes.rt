@@ -1,12 +1,15 @@
 //! What the tests of desks begin with.
 
+ghost use Rattle.std.specs.Prelude.{◌≡◌};
+
 use intake::{Offer, Tracee};
 use std::alloc::Global;
 use std::process::Abort;
 use std::test::*;
 use trace_message::{Event, Flags, Stamp};
-use trace_terms::{Atom, Pid, Term};
-use tracees::{Bookkeeping, Traced};
+use trace_terms::{Atom, NoMemory, Pid, Term};
+use trace_port::TracePort;
+use tracees::{Bookkeeping, Desk, Traced};
 
 /// `{trace,<nonode@nohost.80.0.0>,'receive',ok}` in the External Term Format.
 pub(crate) const EXAMPLE: &[u8] =
@@ -30,32 +33,49 @@ const RECEIVE: Flags = Flags {
     monotonic: false,
 };
 
-fn atom(rt: &impl Abort, alloc: Global, text: &str) -> Atom {
-    Atom::new(alloc, text).expect(rt, "an atom")
-}
-
 /// The tracee of a number and of a process, which has room for so many messages.
 pub(crate) fn tracee(
-    rt: &impl Abort,
     alloc: Global,
     number: u32,
     id: u32,
     capacity: u32,
-) -> Tracee {
+) -> Result<Tracee, NoMemory> {
+    let Ok(node) = Atom::new(alloc, "nonode@nohost") else {
+        return Err(NoMemory);
+    };
     let pid = Pid {
-        node: atom(rt, alloc, "nonode@nohost"),
+        node,
         id,
         serial: 0,
         creation: 0,
     };
-    Tracee::new(alloc, number, pid, RECEIVE, capacity, 1_000).expect(rt, "a tracee")
+    Tracee::new(alloc, number, pid, RECEIVE, capacity, 1_000).map_err(|_| NoMemory)
 }
 
 /// A receipt of the atom `ok`.
-pub(crate) fn receipt_of_ok(rt: &impl Abort, alloc: Global) -> Event {
-    Event::Receive {
-        message: Term::Atom(atom(rt, alloc, "ok")),
-    }
+pub(crate) fn receipt_of_ok(alloc: Global) -> Result<Event, NoMemory> {
+    let Ok(ok) = Atom::new(alloc, "ok") else {
+        return Err(NoMemory);
+    };
+    Ok(Event::Receive {
+        message: Term::Atom(ok),
+    })
+}
+
+/// Attaches such a tracee.
+pub(crate) fn attach<P: TracePort, K: Bookkeeping>(
+    rt: &impl Abort,
+    alloc: Global,
+    desk: &mut Desk<'_, P, K>,
+    number: u32,
+    id: u32,
+    capacity: u32,
+) -> Traced<K>
+    ensures { desk.new.number ≡ desk.old.number }
+{
+    assert!(rt; desk.attached() != u32::MAX);
+    let tracee = tracee(alloc, number, id, capacity).expect(rt, "memory");
+    desk.attach(tracee)
 }
 
 /// So many such receipts of a tracee, each answered so.
@@ -66,9 +86,9 @@ pub(crate) fn emit<K: Bookkeeping>(
     count: u32,
     offer: Offer,
 ) {
-    let event = receipt_of_ok(rt, alloc);
+    let event = receipt_of_ok(alloc).expect(rt, "memory");
     for _ in 0..count {
-        assert_eq!(rt; traced.emit(alloc, &event, MOMENT), Ok(offer));
+        assert!(rt; matches!(traced.emit(alloc, &event, MOMENT), Ok(answer) if answer == offer));
     }
     drop(event);
 }

@@ -3,12 +3,13 @@ ghost use Rattle.tracees.specs.Books.{no_totals};
 ghost use Rattle.tracees.specs.Meanings.{KeepsMeaning};
 
 use crate::ledgers::{Told, Work, over_a_file};
-use crate::scenes::{emit, tracee};
+use crate::scenes::{attach, emit};
 use intake::Offer;
 use std::alloc::Global;
 use std::process::Abort;
+use std::sync::Wait;
 use std::test::*;
-use stores::MemStore;
+use std::thread::Threads;
 use trace_port::TracePort;
 use tracees::{Account, Bookkeeping, Desk, SettleFault, SharedBook, Totals, Traced, settle};
 
@@ -61,19 +62,14 @@ fn accounts_of<K: Bookkeeping>(
     accounts
 }
 
-/// A desk with two tracees, and what its accounts come to, or how many of them come back.
-fn told<'p, P: TracePort, K: SharedBook>(
-    rt: &impl Abort,
+/// A desk, and what its accounts come to, or how many of them come back.
+pub(crate) fn told<'p, P: TracePort, K: SharedBook>(
     desk: Desk<'p, P, K>,
     accounts: Vec<Account<K>>,
 ) -> (Desk<'p, P, K>, Result<Totals, usize>) {
     match settle(desk, accounts) {
-        Ok((desk, totals)) => {
-            assert_eq!(rt; desk.attached(), 2);
-            (desk, Ok(totals))
-        }
+        Ok((desk, totals)) => (desk, Ok(totals)),
         Err(SettleFault::Missing { desk, accounts }) => {
-            assert_eq!(rt; desk.status().accepted, 4);
             let count = accounts.len();
             drop(accounts);
             (desk, Err(count))
@@ -96,28 +92,36 @@ pub(crate) fn settled_by<P: TracePort, K: SharedBook>(
     requires fits { KeepsMeaning (P.told port.old) }
 {
     let mut desk = Desk::new(7, port, book);
-    let mut one = desk.attach(tracee(rt, alloc, 7, 80, 2));
-    let mut other = desk.attach(tracee(rt, alloc, 7, 80, 1));
+    let mut one = attach(rt, alloc, &mut desk, 7, 80, 2);
+    let mut other = attach(rt, alloc, &mut desk, 7, 80, 1);
     flush_two(rt, alloc, &mut desk, &mut one);
     hand_over_one(rt, alloc, &mut desk, &mut other);
     let accounts = accounts_of(rt, alloc, one, other, all);
-    let (desk, told) = told(rt, desk, accounts);
+    let (desk, told) = told(desk, accounts);
+    assert!(rt; desk.attached() == 2 && desk.status().accepted == 4);
     drop(desk);
     told
 }
 
+/// The same over a file port.
+fn settled<R: Threads + Wait + Abort + Sync>(
+    rt: &R,
+    alloc: Global,
+    all: bool,
+) -> Option<Result<Totals, usize>> {
+    match over_a_file(rt, alloc, Work::Settle(all)) {
+        Some((Told::Settled(sums), _)) => Some(sums),
+        _ => None,
+    }
+}
+
 #[test]
-fn accounts_settle_where_none_is_missing(rt: HostRuntime) -> Result<(), Fail> {
+fn accounts_settle_where_none_is_missing(rt: HostRuntime) {
     let all = Totals {
         messages: 3,
         drops: 2,
         flushed: 2,
     };
-    for (hands_all_in, expected) in [(true, Ok(all)), (false, Err(1))] {
-        let mut store = MemStore::blank(rt.alloc(), 1)?;
-        let told = over_a_file(&rt, rt.alloc(), &mut store, Work::Settle(hands_all_in));
-        drop(store);
-        assert!(rt; matches!(&told?, Told::Settled(found) if *found == expected));
-    }
-    Ok(())
+    assert!(rt; settled(&rt, rt.alloc(), true) == Some(Ok(all)));
+    assert!(rt; settled(&rt, rt.alloc(), false) == Some(Err(1)));
 }

@@ -1,6 +1,6 @@
 ghost use Rattle.std.specs.Prelude.{◌≡◌};
 
-use crate::scenes::{GREATEST, MOMENT, receipt_of_ok, tracee};
+use crate::scenes::{GREATEST, MOMENT, attach, receipt_of_ok};
 use entry_codec::Entry;
 use intake::Offer;
 use recovery::recover;
@@ -30,7 +30,7 @@ enum Expected {
 fn receives(rt: &impl Abort, alloc: Global, tracee: u32) -> Step {
     Step::Emit {
         tracee,
-        event: receipt_of_ok(rt, alloc),
+        event: receipt_of_ok(alloc).expect(rt, "memory"),
         stamp: MOMENT,
     }
 }
@@ -44,9 +44,8 @@ fn attach_one<P: TracePort, K: Bookkeeping>(
 )
     ensures { desk.new.number ≡ desk.old.number }
 {
-    assert!(rt; desk.attached() != u32::MAX);
     let number = u32::try_from(traced.len()).expect(rt, "a number");
-    let one = desk.attach(tracee(rt, alloc, number, number, 2));
+    let one = attach(rt, alloc, desk, number, number, 2);
     traced.push(one).expect(rt, "memory");
 }
 
@@ -211,9 +210,9 @@ const EXPECTED: [Expected; 14] = [
 ];
 
 fn assert_expected(rt: &impl Abort, replies: &[Reply]) {
-    assert_eq!(rt; replies.len(), EXPECTED.len());
-    for (place, (reply, expected)) in replies.iter().zip(EXPECTED).enumerate() {
-        assert!(rt; is_as_expected(reply, expected), "at {place}: {reply:?}");
+    assert!(rt; replies.len() == EXPECTED.len());
+    for (reply, expected) in replies.iter().zip(EXPECTED) {
+        assert!(rt; is_as_expected(reply, expected));
     }
 }
 
@@ -225,7 +224,7 @@ fn left(
     receipts: &[Receipt],
 ) -> (usize, bool) {
     let window = recover(alloc, store).expect(rt, "a trace");
-    assert_eq!(rt; audit(&window, receipts), Ok(()));
+    assert!(rt; audit(&window, receipts) == Ok(()));
     let left = (window.entries.len(), window.sealed);
     drop(window);
     left
@@ -241,10 +240,7 @@ fn desks_over_ports_of_two_kinds_take_steps_in_order(rt: HostRuntime) {
     drop(steps);
     assert_expected(&rt, &replies);
     let (file_receipts, wrap_receipts) = receipts(&rt, alloc, replies);
-    assert_eq!(rt;
-        left(&rt, alloc, &mut file_store, &file_receipts),
-        (2, true)
-    );
+    assert!(rt; left(&rt, alloc, &mut file_store, &file_receipts) == (2, true));
     let (_, sealed) = left(&rt, alloc, &mut wrap_store, &wrap_receipts);
     assert!(rt; sealed);
     drop(file_receipts);

@@ -53,8 +53,8 @@ fn an_audit_answers_without_memory(rt: HostRuntime) {
         assert!(rt; is_refused_for_good(alloc));
         return;
     };
-    assert_eq!(rt; audit(&window, &receipts[..1]), Ok(()));
-    assert_eq!(rt; audit(&window, &receipts), Err(Mismatch { number: 7 }));
+    assert!(rt; audit(&window, &receipts[..1]) == Ok(()));
+    assert!(rt; audit(&window, &receipts) == Err(Mismatch { number: 7 }));
     drop(receipts);
     drop(window);
 }

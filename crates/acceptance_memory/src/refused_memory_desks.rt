@@ -18,11 +18,11 @@ fn is_kept(rt: &impl Abort, alloc: Global, tracee: &mut Tracee, event: &Event) -
     let before = tracee.counts();
     let answer = tracee.emit(alloc, event, MOMENT);
     if answer.is_err() {
-        assert_eq!(rt; answer, Err(EmitFault::NoMemory));
-        assert_eq!(rt; tracee.counts(), before);
+        assert!(rt; answer == Err(EmitFault::NoMemory));
+        assert!(rt; tracee.counts() == before);
         return false;
     }
-    assert_eq!(rt; answer, Ok(Offer::Kept));
+    assert!(rt; answer == Ok(Offer::Kept));
     true
 }
 
@@ -52,9 +52,9 @@ pub(crate) fn opening(alloc: Global, store: &mut FixedStore) -> Option<Opening<P
 
 /// A receipt of one message, of the tracee 7 at the desk 0.
 fn assert_receipt(rt: &impl Abort, receipt: &Receipt) {
-    assert_eq!(rt; (receipt.desk, receipt.tracee), (0, 7));
-    assert_eq!(rt; (receipt.first, receipt.covered), (0, 0));
-    assert_eq!(rt; receipt.entries.len(), 1);
+    assert!(rt; (receipt.desk, receipt.tracee) == (0, 7));
+    assert!(rt; (receipt.first, receipt.covered) == (0, 0));
+    assert!(rt; receipt.entries.len() == 1);
     match &receipt.entries[0] {
         Entry::Message(bytes) => assert!(rt; bytes.as_slice() == &MESSAGE[5..]),
         Entry::Drop(_) => panic!(rt; "another entry"),
@@ -75,7 +75,7 @@ fn recorded(
     match &answer {
         Ok(receipt) => assert_receipt(rt, receipt),
         Err(HandFault::NoMemory) => {
-            assert_eq!(rt; tracee.counts(), before);
+            assert!(rt; tracee.counts() == before);
             assert!(rt; store.holds(0, &[FILE, SEAL]));
         }
         Err(_) => panic!(rt; "another refusal"),
@@ -98,7 +98,7 @@ fn what_waits_is_recorded_when_there_is_memory(rt: HostRuntime) {
         let (back, is_recorded) = recorded(&rt, alloc, opening, &mut store, tracee);
         tracee = back;
         if is_recorded {
-            assert_eq!(rt; (tracee.counts().handed, tracee.counts().waiting), (1, 1));
+            assert!(rt; (tracee.counts().handed, tracee.counts().waiting) == (1, 1));
             assert!(rt; store.holds(0, &[FILE, ONE_MESSAGE, SEAL]));
             drop(tracee);
             return;
@@ -160,7 +160,7 @@ fn driven<P: TracePort>(
     traced: &mut Traced<PlainBook>,
     step: &Step,
 ) -> Option<Reply> {
-    assert_eq!(rt; desk.number(), 0);
+    assert!(rt; desk.number() == 0);
     let before = (traced.counts(), desk.status());
     let desks = slice::from_mut(desk);
     let answer = drive(alloc, desks, slice::from_mut(traced), slice::from_ref(step));
@@ -172,7 +172,7 @@ fn driven<P: TracePort>(
         None
         | Some(Reply::EmitRefused(EmitFault::NoMemory))
         | Some(Reply::HandRefused(HandFault::NoMemory)) => {
-            assert_eq!(rt; (traced.counts(), desk.status()), before);
+            assert!(rt; (traced.counts(), desk.status()) == before);
             None
         }
         reply => reply,

@@ -66,11 +66,11 @@ fn one_lost() -> Entry
 /// Puts an entry of seven lost messages into a port that has so many entries, flushes it, and puts one of one there.
 fn record<P: TracePort>(rt: &impl Abort, port: &mut P, before: u64) {
     assert!(rt; before < 9);
-    assert_eq!(rt; port.status().accepted, before);
-    assert_eq!(rt; port.accept(&seven_lost()), Ok(before));
-    assert_eq!(rt; port.flush(), Ok(before + 1));
-    assert_eq!(rt; port.accept(&one_lost()), Ok(before + 1));
-    assert_eq!(rt; port.seal(), Ok(()));
+    assert!(rt; port.status().accepted == before);
+    assert!(rt; port.accept(&seven_lost()) == Ok(before));
+    assert!(rt; port.flush() == Ok(before + 1));
+    assert!(rt; port.accept(&one_lost()) == Ok(before + 1));
+    assert!(rt; port.seal() == Ok(()));
 }
 
 fn create_file(rt: &impl Abort, alloc: Global, store: &mut FixedStore) -> Result<(), CreateFault> {
@@ -88,7 +88,7 @@ fn is_created(
     store: &FixedStore,
 ) -> bool {
     if created.is_err() {
-        assert_eq!(rt; created, Err(CreateFault::NoMemory));
+        assert!(rt; created == Err(CreateFault::NoMemory));
         assert!(rt; store == before);
     }
     created.is_ok()
@@ -152,7 +152,7 @@ fn is_resumed(
 ) -> bool {
     if resumed.is_err() {
         let no_memory = ResumeFault::Recover(RecoverFault::NoMemory);
-        assert_eq!(rt; resumed, Err(no_memory));
+        assert!(rt; resumed == Err(no_memory));
         assert!(rt; store.is_like(before));
     }
     resumed.is_ok()

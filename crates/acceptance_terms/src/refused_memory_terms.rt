@@ -41,7 +41,7 @@ fn spelling(rt: &impl Abort, alloc: Global, term: &Term) -> Option<Vec<u8>> {
     for _ in 0..TRIES {
         match encode(alloc, term) {
             Ok(bytes) => return Some(bytes),
-            Err(fault) => assert_eq!(rt; fault, EncodeFault::NoMemory),
+            Err(fault) => assert!(rt; fault == EncodeFault::NoMemory),
         }
     }
     None
@@ -72,7 +72,7 @@ fn waiting(rt: &impl Abort, alloc: Global) -> Option<Tracee> {
             Ok(offer) => Ok(offer),
             Err(_) => tracee.emit(alloc, &event, MOMENT),
         };
-        assert_eq!(rt; answer.ok()?, offer);
+        assert!(rt; answer.ok()? == offer);
     }
     Some(tracee)
 }
@@ -84,14 +84,14 @@ fn taken(rt: &impl Abort, alloc: Global, tracee: &mut Tracee) -> Option<Vec<Entr
         if let Ok(entries) = tracee.take_front(alloc, 9) {
             return Some(entries);
         }
-        assert_eq!(rt; tracee.counts(), before);
+        assert!(rt; tracee.counts() == before);
     }
     None
 }
 
 /// The entries are two messages, and a drop record of one.
 fn assert_taken(rt: &impl Abort, entries: &[Entry]) {
-    assert_eq!(rt; entries.len(), 3);
+    assert!(rt; entries.len() == 3);
     for entry in &entries[..2] {
         match entry {
             Entry::Message(bytes) => assert!(rt; bytes.as_slice() == EXAMPLE),
@@ -111,7 +111,7 @@ fn entries_are_taken_off_when_there_is_memory(rt: HostRuntime) {
     match taken(&rt, alloc, &mut tracee) {
         Some(entries) => {
             assert_taken(&rt, &entries);
-            assert_eq!(rt; (tracee.counts().handed, tracee.counts().lost), (2, 1));
+            assert!(rt; (tracee.counts().handed, tracee.counts().lost) == (2, 1));
         }
         None => assert!(rt; is_refused_for_good(alloc)),
     }
