@@ -9,7 +9,7 @@ from refusing import each_refusal
 
 CASES, case = group()
 
-CRATES = ("acceptance_terms", "acceptance_listings", "acceptance_memory")
+CRATES = ("acceptance_terms", "acceptance_listings", "acceptance", "acceptance_memory")
 
 
 def tests_of(crate):

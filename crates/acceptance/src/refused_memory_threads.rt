@@ -93,6 +93,17 @@ pub(crate) fn finished_by<P: TracePort, K: SharedBook, R: Threads + Wait + Abort
     all
 }
 
+/// Whether the jobs finished over a file port.
+fn is_done<R: Threads + Wait + Abort + Sync>(rt: &R, alloc: Global) -> bool {
+    let Some((told, store)) = over_a_file(rt, alloc, Work::Finish) else {
+        return false;
+    };
+    drop(store);
+    let is_done = matches!(&told, Told::Finished(true));
+    drop(told);
+    is_done
+}
+
 /// Whether memory is refused from now on, also to this.
 fn is_refused_for_good(alloc: Global) -> bool {
     let asked: Result<Vec<u8>, _> = Vec::with_capacity(alloc, 8);
@@ -102,11 +113,9 @@ fn is_refused_for_good(alloc: Global) -> bool {
 #[test]
 fn jobs_finish_when_there_is_memory(rt: HostRuntime) {
     for _ in 0..TRIES {
-        let told = over_a_file(&rt, rt.alloc(), Work::Finish);
-        if matches!(&told, Some((Told::Finished(true), _))) {
+        if is_done(&rt, rt.alloc()) {
             return;
         }
-        drop(told);
     }
     assert!(rt; is_refused_for_good(rt.alloc()));
 }

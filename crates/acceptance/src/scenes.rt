@@ -40,26 +40,24 @@ pub(crate) fn tracee(
     id: u32,
     capacity: u32,
 ) -> Result<Tracee, NoMemory> {
-    let Ok(node) = Atom::new(alloc, "nonode@nohost") else {
-        return Err(NoMemory);
-    };
+    let node = Atom::new(alloc, "nonode@nohost").ok();
     let pid = Pid {
-        node,
+        node: node.ok_or(NoMemory)?,
         id,
         serial: 0,
         creation: 0,
     };
-    Tracee::new(alloc, number, pid, RECEIVE, capacity, 1_000).map_err(|_| NoMemory)
+    match Tracee::new(alloc, number, pid, RECEIVE, capacity, 1_000) {
+        Ok(tracee) => Ok(tracee),
+        Err(_) => Err(NoMemory),
+    }
 }
 
 /// A receipt of the atom `ok`.
 pub(crate) fn receipt_of_ok(alloc: Global) -> Result<Event, NoMemory> {
-    let Ok(ok) = Atom::new(alloc, "ok") else {
-        return Err(NoMemory);
-    };
-    Ok(Event::Receive {
-        message: Term::Atom(ok),
-    })
+    let ok = Atom::new(alloc, "ok").ok().ok_or(NoMemory)?;
+    let message = Term::Atom(ok);
+    Ok(Event::Receive { message })
 }
 
 /// Attaches such a tracee.

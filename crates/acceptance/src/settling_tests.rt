@@ -108,11 +108,13 @@ fn settled<R: Threads + Wait + Abort + Sync>(
     rt: &R,
     alloc: Global,
     all: bool,
-) -> Option<Result<Totals, usize>> {
-    match over_a_file(rt, alloc, Work::Settle(all)) {
-        Some((Told::Settled(sums), _)) => Some(sums),
-        _ => None,
-    }
+) -> Result<Totals, usize> {
+    let (told, store) = over_a_file(rt, alloc, Work::Settle(all)).expect(rt, "a port");
+    drop(store);
+    let Told::Settled(sums) = told else {
+        panic!(rt; "no accounts")
+    };
+    sums
 }
 
 #[test]
@@ -122,6 +124,6 @@ fn accounts_settle_where_none_is_missing(rt: HostRuntime) {
         drops: 2,
         flushed: 2,
     };
-    assert!(rt; settled(&rt, rt.alloc(), true) == Some(Ok(all)));
-    assert!(rt; settled(&rt, rt.alloc(), false) == Some(Err(1)));
+    assert!(rt; settled(&rt, rt.alloc(), true) == Ok(all));
+    assert!(rt; settled(&rt, rt.alloc(), false) == Err(1));
 }

@@ -230,7 +230,8 @@ fn recovered_behind<R: Threads + Wait + Abort + Sync>(
     alloc: Global,
     plan: Plan,
 ) -> (End, usize) {
-    let Some((Told::Ran(end), mut store)) = over_a_file(rt, alloc, Work::Run(plan)) else {
+    let (told, mut store) = over_a_file(rt, alloc, Work::Run(plan)).expect(rt, "a port");
+    let Told::Ran(end) = told else {
         panic!(rt; "no jobs")
     };
     let found = recover(alloc, &mut store).expect(rt, "a trace");
@@ -339,7 +340,8 @@ fn assert_rush_is_told(rt: &impl Abort, end: &End) {
 #[test]
 fn four_jobs_agree_with_what_is_recovered(rt: HostRuntime) {
     let alloc = rt.alloc();
-    let Some((Told::Ran(end), mut store)) = over_a_wrap(&rt, alloc, Work::Run(RUSH)) else {
+    let (told, mut store) = over_a_wrap(&rt, alloc, Work::Run(RUSH)).expect(&rt, "a port");
+    let Told::Ran(end) = told else {
         panic!(&rt; "no jobs")
     };
     assert!(rt; store.crash(Pick::Kept).is_ok());
@@ -439,10 +441,13 @@ fn one_over_a_file<R: Threads + Wait + Abort + Sync>(
     seals: bool,
 ) -> (JobState, usize) {
     let gate = Until { act };
-    match over_a_file(rt, alloc, Work::RunOne { gate, seals }) {
-        Some((Told::RanOne(state, receipts), _)) => (state, receipts),
-        _ => panic!(rt; "no job"),
-    }
+    let work = Work::RunOne { gate, seals };
+    let (told, store) = over_a_file(rt, alloc, work).expect(rt, "a port");
+    drop(store);
+    let Told::RanOne(state, receipts) = told else {
+        panic!(rt; "no job")
+    };
+    (state, receipts)
 }
 
 #[test]

@@ -19,17 +19,23 @@ fn is_refused_for_good(alloc: Global) -> bool {
 
 /// An entry of these bytes, which are copied once more where that was refused memory.
 fn message(alloc: Global, bytes: &[u8]) -> Option<Entry> {
-    let copy = Vec::from_slice(alloc, bytes)
-        .or_else(|_| Vec::from_slice(alloc, bytes))
-        .ok()?;
-    Some(Entry::Message(copy))
+    match Vec::from_slice(alloc, bytes) {
+        Ok(copy) => Some(Entry::Message(copy)),
+        Err(_) => Some(Entry::Message(Vec::from_slice(alloc, bytes).ok()?)),
+    }
+}
+
+/// Room for three entries.
+fn room(alloc: Global) -> Option<Vec<Entry>> {
+    match Vec::with_capacity(alloc, 3) {
+        Ok(room) => Some(room),
+        Err(_) => Vec::with_capacity(alloc, 3).ok(),
+    }
 }
 
 /// A window of a message, one that spells no term, and two lost ones, after seven entries that tell two as lost.
 fn window(alloc: Global) -> Option<Recovered> {
-    let mut entries = Vec::with_capacity(alloc, 3)
-        .or_else(|_| Vec::with_capacity(alloc, 3))
-        .ok()?;
+    let mut entries = room(alloc)?;
     entries.push(message(alloc, &RECEIVE[5..])?).ok()?;
     entries.push(message(alloc, b"abc")?).ok()?;
     entries.push(Entry::Drop(2)).ok()?;

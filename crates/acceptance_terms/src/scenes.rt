@@ -35,9 +35,10 @@ pub(crate) fn is_refused_for_good(alloc: Global) -> bool {
 }
 
 fn atom(alloc: Global, text: &str) -> Option<Atom> {
-    Atom::new(alloc, text)
-        .or_else(|_| Atom::new(alloc, text))
-        .ok()
+    match Atom::new(alloc, text) {
+        Ok(atom) => Some(atom),
+        Err(_) => Atom::new(alloc, text).ok(),
+    }
 }
 
 /// The receipt of the atom `ok`.
@@ -57,8 +58,11 @@ pub(crate) fn pid(alloc: Global) -> Option<Pid> {
 
 /// The tracee 7, with room for so many messages, which loses at most so many in a row.
 pub(crate) fn tracee(alloc: Global, capacity: u32, drop_limit: u32) -> Option<Tracee> {
-    match Tracee::new(alloc, 7, pid(alloc)?, RECEIVE, capacity, drop_limit) {
-        Ok(tracee) => Some(tracee),
-        Err(_) => Tracee::new(alloc, 7, pid(alloc)?, RECEIVE, capacity, drop_limit).ok(),
+    for _ in 0..TRIES {
+        match Tracee::new(alloc, 7, pid(alloc)?, RECEIVE, capacity, drop_limit) {
+            Ok(tracee) => return Some(tracee),
+            Err(_) => {}
+        }
     }
+    None
 }
