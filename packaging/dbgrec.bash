@@ -29,7 +29,7 @@ _dbgrec() {
             case ${COMP_WORDS[1]} in
             import) offered="$readers $new --flush --keep-open --help" ;;
             record) offered="$readers $new --help" ;;
-            list) offered="$readers $chosen --help" ;;
+            list) offered="$readers $chosen --follow --help" ;;
             export) offered="$readers --help" ;;
             info) offered="$readers --json --help" ;;
             wipe) offered="$readers --force --help" ;;

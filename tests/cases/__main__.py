@@ -19,6 +19,7 @@ import choosing
 import crashes
 import emitting
 import faults
+import following
 import foreign
 import images
 import importing
@@ -42,7 +43,7 @@ import wording
 from cases import Skipped
 from program import Program
 
-GROUPS = (rows, scripts, emitting, readings, listing, pretty, choosing, json_listing, recording, importing, info, foreign, absent, keeping, telling, crashes, images, machine, faults, locking, live, wording, installing, memory, libraries)
+GROUPS = (rows, scripts, emitting, readings, listing, pretty, choosing, json_listing, recording, importing, info, foreign, absent, keeping, telling, crashes, images, machine, faults, locking, live, following, wording, installing, memory, libraries)
 
 
 def words():

@@ -126,6 +126,7 @@ def a_listing_that_is_refused_memory_is_a_beginning(program):
         kept.reads("list", "--from", "1", "--only", "call,receive", "t")
         kept.reads("list", "--json", "t")
         kept.reads("list", "--json", "--from", "1", "t")
+        kept.reads("list", "--follow", "t")
 
 
 @case

@@ -20,7 +20,7 @@ OF_LISTINGS = {"--pretty", "--json", "--from", "--to", "--only", "--pid", "--mfa
 COMMANDS = {
     "import": OF_NEW_FILES | {"--flush", "--keep-open", "--after-failure"},
     "record": OF_NEW_FILES | {"--after-failure"},
-    "list": OF_FILES | OF_LISTINGS,
+    "list": OF_FILES | OF_LISTINGS | {"--follow"},
     "export": OF_FILES,
     "info": OF_FILES | {"--json"},
     "wipe": OF_FILES | {"--force"},

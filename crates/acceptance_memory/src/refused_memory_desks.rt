@@ -30,17 +30,14 @@ fn is_kept(rt: &impl Abort, alloc: Global, tracee: &mut Tracee, event: &Event) -
 fn waiting(rt: &impl Abort, alloc: Global) -> Option<Tracee> {
     let event = receipt_of_ok(alloc)?;
     let mut tracee = tracee(alloc, 7)?;
-    let mut has_one = false;
+    let mut kept: u32 = 0;
     for _ in 0..TRIES {
-        if is_kept(rt, alloc, &mut tracee, &event) {
-            if has_one {
-                drop(event);
-                return Some(tracee);
-            }
-            has_one = true;
+        if kept < 2 && is_kept(rt, alloc, &mut tracee, &event) {
+            kept += 1;
         }
     }
-    None
+    drop(event);
+    if kept == 2 { Some(tracee) } else { None }
 }
 
 pub(crate) fn opening(alloc: Global, store: &mut FixedStore) -> Option<Opening<Pending>> {

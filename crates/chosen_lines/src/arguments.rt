@@ -1,4 +1,4 @@
-// How many arguments a call is told with.
+//! How many arguments a call is told with.
 ghost use Rattle.std.specs.Prelude.{◌≡◌, ◌+◌, ◌<◌, ◌≤◌};
 
 use crate::signs::{closes, goes_on, is_quote, opens};
@@ -31,6 +31,7 @@ pub struct Letters {
 impl Scan {
     ghost use Rattle.chosen_lines.specs.Arguments.{scan_quoted, scan_closed, scan_bare, scanned};
 
+    /// Before the first sign.
     pub const UNREAD: Scan = Scan {
         depth: 0,
         quote: None,
@@ -132,6 +133,7 @@ impl Scan {
 impl Letters {
     ghost use Rattle.chosen_lines.specs.Arguments.{spelled};
 
+    /// No letter was read.
     pub const NONE: Letters = Letters {
         count: 0,
         is_escaped: false,

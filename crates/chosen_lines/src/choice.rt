@@ -1,4 +1,4 @@
-// Which lines are shown.
+//! Which lines are shown.
 ghost use Rattle.std.specs.Prelude.{◌≡◌, ◌&&◌, Some};
 ghost use Rattle.chosen_lines.specs.Lets.{is_of_kinds, is_of_pid, is_of_call, is_number};
 

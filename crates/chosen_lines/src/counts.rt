@@ -1,4 +1,4 @@
-// The numbers of arguments that are counted.
+//! The numbers of arguments that are counted.
 ghost use Rattle.std.specs.Prelude.{◌≡◌, ◌≤◌, length, fold};
 ghost use Rattle.chosen_lines.specs.Arguments.{scanned, unread, spelled, no_letters, member_count, character_count, arity_told};
 

@@ -1,4 +1,4 @@
-// What a writer held, and what was given after that. It takes no memory, and only clauses read it.
+//! What a writer held, and what was given after that. It takes no memory, and only clauses read it.
 ghost use Rattle.std.specs.Prelude.{◌≡◌, ◌++◌, ℕ, List, [], Option};
 ghost use Rattle.std.specs.Borrow.{ftrue};
 ghost use Rattle.std.specs.Coded.{coded_list, coded_option, coded_ℕ};

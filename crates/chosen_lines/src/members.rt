@@ -1,4 +1,4 @@
-// The members of a trace message, as a listing tells them.
+//! The members of a trace message, as a listing tells them.
 ghost use Rattle.std.specs.Prelude.{◌≡◌};
 ghost use Rattle.std.specs.Option.{option_copied};
 ghost use Rattle.chosen_lines.specs.Members.{after, members_of, after_member, after_pid, after_atom, after_word_of_end, after_word_of_call, function_of};

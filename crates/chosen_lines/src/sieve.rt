@@ -1,4 +1,4 @@
-// A writer that hands on the lines that are chosen.
+//! A writer that hands on the lines that are chosen.
 ghost use Rattle.std.specs.Prelude.{◌≡◌, ◌<◌, ◌≤◌, ℕ, Option, List, [], ◌∷◌, ◌++◌, take, vec_len, length, true, OnOk, OnErr, IfOk};
 ghost use Rattle.std.specs.Io.KnownBytes.{Appends, WriteAppends};
 ghost use Rattle.chosen_lines.specs.Lines.{lines_after, rest_after, chosen};

@@ -1,4 +1,4 @@
-// The words of a line.
+//! The words of a line.
 ghost use Rattle.std.specs.Prelude.{◌≡◌, ◌==◌, position};
 ghost use Rattle.std.specs.List.{before_first, after_first};
 ghost use Rattle.chosen_lines.specs.Words.{first_word, after_word, number_told};

@@ -1,4 +1,4 @@
-// The words of a command line, and what they ask for.
+//! The words of a command line, and what they ask for.
 ghost use Rattle.std.specs.Prelude.{◌≡◌, IfOk, string_bytes};
 ghost use Rattle.std.specs.Option.{option_map, option_copied};
 
@@ -232,13 +232,24 @@ fn with_choice<'a>(alloc: Global, command: Command<'a>) -> Result<Command<'a>, A
         .arg(mfa(alloc))
 }
 
+/// The option that goes on with what is added.
+fn follow<'a>(alloc: Global) -> Arg<'a> {
+    flag(
+        alloc,
+        "follow",
+        "Goes on with what another process adds to the trace, until it is sealed",
+    )
+    .short('f')
+}
+
 fn list<'a>(alloc: Global) -> Result<Command<'a>, AllocError> {
     let command = of_files(
         alloc,
         "list",
         "Lists a stored trace on standard output",
         "With --from, --to, --only, --pid or --mfa it shows the entries of which all of these hold, each with its number, and all drop records.\n\nExample: dbgrec list -p trace",
-    )?;
+    )?
+    .arg(follow(alloc))?;
     with_choice(alloc, command)
 }
 
@@ -455,6 +466,14 @@ fn request_in<'a>(alloc: Global, matches: &ArgMatches<'a>) -> Result<Request<'a>
     let Some((name, matches)) = matches.subcommand() else {
         return Ok(Request::Sim);
     };
+    if name == "list" && matches.get_flag("follow") {
+        return Ok(Request::Follow {
+            asked: asked_in(matches),
+            is_pretty: matches.get_flag("pretty"),
+            is_json: matches.get_flag("json"),
+            choice: choice_in(alloc, matches)?,
+        });
+    }
     Ok(match trace_request_in(name, matches)? {
         Some(request) => Request::OfTrace {
             request,

@@ -1,4 +1,4 @@
-// A function, as a command line names it.
+//! A function, as a command line names it.
 
 /// A module, and a name and a number of arguments where they are told.
 #[derive(Clone, Copy, Debug, PartialEq, Eq)]

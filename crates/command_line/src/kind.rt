@@ -1,4 +1,4 @@
-// The words for kinds of entries.
+//! The words for kinds of entries.
 
 /// Which listings have a kind.
 #[derive(Clone, Copy, Debug, PartialEq, Eq)]

@@ -1,4 +1,4 @@
-// A process, as a command line names it.
+//! A process, as a command line names it.
 
 use crate::function::is_quoted;
 

@@ -1,4 +1,4 @@
-// What a command line asks for.
+//! What a command line asks for.
 
 use chosen_lines::Choice;
 use clap::Error;
@@ -36,9 +36,9 @@ pub struct Wanted<'a> {
 /// When an import flushes.
 #[derive(Clone, Copy, Debug, PartialEq, Eq)]
 pub enum Flushing {
-    /// Behind each entry.
+    /// After each entry.
     Always,
-    /// Behind a read that didn't fill its buffer: the writer pauses.
+    /// After a read that didn't fill its buffer: the writer pauses.
     Paused,
     /// At the end alone.
     Never,
@@ -70,6 +70,16 @@ pub enum Request<'a> {
         /// Every term as a person at a node's shell would see it.
         is_pretty: bool,
         /// Each line as a JSON object.
+        is_json: bool,
+        /// The lines that are shown, where not all are.
+        choice: Option<Choice>,
+    },
+    /// List a trace, and go on with what is added to it.
+    Follow {
+        asked: Asked<'a>,
+        /// Every term as a person at a node's shell would see it.
+        is_pretty: bool,
+        /// As JSON objects, one for each line.
         is_json: bool,
         /// The lines that are shown, where not all are.
         choice: Option<Choice>,

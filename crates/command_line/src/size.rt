@@ -1,4 +1,4 @@
-// Numbers of bytes, as a command line says them.
+//! Numbers of bytes, as a command line says them.
 
 /// The number without its unit, and the bytes of that unit: K, M and G are powers of 1,024.
 fn with_unit(text: &str) -> (&str, u64) {

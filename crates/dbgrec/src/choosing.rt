@@ -1,7 +1,7 @@
 //! Listings of which some lines are shown.
 ghost use Rattle.std.specs.Prelude.{◌≡◌, [], Result};
 ghost use Rattle.recorder.specs.Commands.{Serves};
-ghost use Rattle.recorder.specs.Incoming.{outside};
+ghost use Rattle.trace_recording.specs.Incoming.{outside};
 ghost use Rattle.dbgrec.specs.Choosing.{Chooses, ListsStream, IsToldOf};
 
 use chosen_lines::Sieve;

@@ -1,4 +1,4 @@
-// The system's clock, and standard error.
+//! The system's clock, and standard error.
 ghost use Rattle.std.specs.Prelude.{◌≡◌, ◌≤◌};
 ghost use Rattle.trace_reader.specs.Observing.{newest_time};
 

@@ -3,6 +3,7 @@
 
 mod choosing;
 mod console;
+mod following;
 mod outlet;
 mod simulation;
 mod telling;
@@ -10,15 +11,17 @@ mod telling;
 use choosing::{choose_of_stream, choose_of_trace};
 use chosen_lines::{Choice, Sieve};
 use clap::error::ErrorKind as MisuseKind;
-use command_line::{Misuse, Request, TraceRequest, asked_for};
+use command_line::{Asked, Misuse, Request, TraceRequest, asked_for};
 use console::Console;
+use following::{choose_of_following, tell_chosen_of_following, tell_of_following};
 use json_lines::Objects;
 use outlet::Outlet;
-use recorder::{Complaint, Files, files_for, serve_stream, serve_trace};
+use recorder::{Complaint, Files, files_for, serve_following, serve_stream, serve_trace};
 use script_port::SimFault;
 use simulation::serve_sim;
 use std::io::{ErrorKind, IsTerminal};
 use std::process::ExitCode;
+use std::sync::Wait;
 use std::{env, io};
 use telling::{tell_chosen_of_stream, tell_chosen_of_trace, tell_of_stream, tell_of_trace};
 use trace_reader::Watched;
@@ -127,6 +130,115 @@ fn serve_files(
     done
 }
 
+/// Lists a trace and what is added to it.
+fn follow_whole<R: Wait>(
+    waiter: &R,
+    is_pretty: bool,
+    files: &mut Files<'_>,
+    console: &mut Console,
+    output: &mut Outlet,
+) -> Result<(), Complaint> {
+    let mut watched = Watched::new(output, console);
+    let done = serve_following(waiter, files, is_pretty, &mut watched);
+    drop(watched);
+    done
+}
+
+/// Lists a trace and what is added to it, and writes an object for each line.
+fn follow_objects<R: Wait>(
+    rt: &HostRuntime,
+    waiter: &R,
+    is_pretty: bool,
+    files: &mut Files<'_>,
+    console: &mut Console,
+    output: &mut Outlet,
+) -> Result<(), Complaint> {
+    let mut objects = Objects::new(rt.alloc(), output);
+    let mut watched = Watched::new(&mut objects, console);
+    let done = tell_of_following(waiter, files, is_pretty, &mut watched);
+    drop(watched);
+    drop(objects);
+    done
+}
+
+/// Lists a trace and what is added to it, and writes the lines that are chosen.
+fn follow_chosen<R: Wait>(
+    rt: &HostRuntime,
+    waiter: &R,
+    choice: Choice,
+    is_pretty: bool,
+    files: &mut Files<'_>,
+    console: &mut Console,
+    output: &mut Outlet,
+) -> Result<(), Complaint> {
+    let mut sieve = Sieve::new(rt.alloc(), choice, output);
+    let mut watched = Watched::new(&mut sieve, console);
+    let done = choose_of_following(waiter, files, is_pretty, &mut watched);
+    drop(watched);
+    drop(sieve);
+    done
+}
+
+/// Lists a trace and what is added to it, and writes an object for each line that is chosen.
+fn follow_chosen_objects<R: Wait>(
+    rt: &HostRuntime,
+    waiter: &R,
+    choice: Choice,
+    is_pretty: bool,
+    files: &mut Files<'_>,
+    console: &mut Console,
+    output: &mut Outlet,
+) -> Result<(), Complaint> {
+    let objects = Objects::new(rt.alloc(), output);
+    let mut sieve = Sieve::new(rt.alloc(), choice, objects);
+    let mut watched = Watched::new(&mut sieve, console);
+    let done = tell_chosen_of_following(waiter, files, is_pretty, &mut watched);
+    drop(watched);
+    drop(sieve);
+    done
+}
+
+/// Lists a trace, and goes on with what is added to it. It may wait for that forever.
+fn follow<R: Wait>(
+    rt: &HostRuntime,
+    waiter: &R,
+    asked: Asked<'_>,
+    is_pretty: bool,
+    is_json: bool,
+    choice: Option<Choice>,
+    output: &mut Outlet,
+) -> Result<(), Complaint> {
+    let mut files = files_for(rt, &TraceRequest::List { asked, is_pretty })?;
+    let mut console = Console::new(*rt, true);
+    let done = match choice {
+        None if is_json => {
+            follow_objects(rt, waiter, is_pretty, &mut files, &mut console, output)
+        }
+        None => follow_whole(waiter, is_pretty, &mut files, &mut console, output),
+        Some(choice) if is_json => follow_chosen_objects(
+            rt,
+            waiter,
+            choice,
+            is_pretty,
+            &mut files,
+            &mut console,
+            output,
+        ),
+        Some(choice) => follow_chosen(
+            rt,
+            waiter,
+            choice,
+            is_pretty,
+            &mut files,
+            &mut console,
+            output,
+        ),
+    };
+    drop(console);
+    drop(files);
+    done
+}
+
 /// Lists an entry stream, and writes the lines that are chosen.
 fn stream_chosen(
     rt: &HostRuntime,
@@ -179,8 +291,19 @@ fn list_stream(
 }
 
 /// Does what is asked for.
-fn serve(rt: &HostRuntime, request: Request<'_>, output: &mut Outlet) -> Result<(), Complaint> {
+fn serve<R: Wait>(
+    rt: &HostRuntime,
+    waiter: &R,
+    request: Request<'_>,
+    output: &mut Outlet,
+) -> Result<(), Complaint> {
     match request {
+        Request::Follow {
+            asked,
+            is_pretty,
+            is_json,
+            choice,
+        } => follow(rt, waiter, asked, is_pretty, is_json, choice, output),
         Request::Sim => serve_sim(rt.alloc(), rt.stdin(), output),
         Request::Stream {
             is_pretty,
@@ -272,12 +395,12 @@ fn correct(rt: &HostRuntime, misuse: Misuse<'_>) -> ExitCode {
 }
 
 /// Does what the words of the command line ask for.
-fn run(rt: &HostRuntime, words: &[String], output: &mut Outlet) -> ExitCode {
+fn run<R: Wait>(rt: &HostRuntime, waiter: &R, words: &[String], output: &mut Outlet) -> ExitCode {
     let request = match asked_for(rt.alloc(), words) {
         Ok(request) => request,
         Err(misuse) => return correct(rt, misuse),
     };
-    let done = serve(rt, request, output);
+    let done = serve(rt, waiter, request, output);
     let code = match &done {
         Ok(()) => ExitCode::SUCCESS,
         Err(complaint) if complaint.is_of_writer() => {
@@ -294,11 +417,11 @@ fn no_memory(rt: &HostRuntime) -> ExitCode {
 }
 
 /// Does what the words ask for, with standard output.
-fn serve_words(rt: &HostRuntime, words: &[String]) -> ExitCode {
+fn serve_words<R: Wait>(rt: &HostRuntime, waiter: &R, words: &[String]) -> ExitCode {
     let Some(mut output) = Outlet::new(rt).ok() else {
         return no_memory(rt);
     };
-    let code = run(rt, words, &mut output);
+    let code = run(rt, waiter, words, &mut output);
     drop(output);
     code
 }
@@ -307,7 +430,7 @@ fn main(rt: HostRuntime) -> ExitCode {
     let Some(words) = words(&rt).ok() else {
         return no_memory(&rt);
     };
-    let code = serve_words(&rt, words.as_slice());
+    let code = serve_words(&rt, &rt, words.as_slice());
     drop(words);
     code
 }

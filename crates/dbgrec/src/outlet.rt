@@ -1,4 +1,4 @@
-// Standard output.
+//! Standard output.
 
 use std::io::{self, BufWriter, Write};
 use std::rt::Stdout;
@@ -16,6 +16,7 @@ pub struct Outlet {
 impl Outlet {
     ghost use Rattle.std.specs.Prelude.{◌≡◌};
 
+    /// Standard output, with nothing in its buffer.
     pub fn new(rt: &HostRuntime) -> io::Result<Outlet> {
         Ok(Outlet {
             inner: BufWriter::with_capacity(rt.alloc(), BUFFER, rt.stdout())?,

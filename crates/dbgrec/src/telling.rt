@@ -1,7 +1,7 @@
 //! Listings as JSON objects.
 ghost use Rattle.std.specs.Prelude.{◌≡◌, [], Result};
 ghost use Rattle.recorder.specs.Commands.{Serves};
-ghost use Rattle.recorder.specs.Incoming.{outside};
+ghost use Rattle.trace_recording.specs.Incoming.{outside};
 ghost use Rattle.json_lines.specs.Held.{objects_contents};
 ghost use Rattle.dbgrec.specs.Choosing.{Chooses, ListsStream, IsToldOf};
 ghost use Rattle.dbgrec.specs.Telling.{TellsObjects};

@@ -18,7 +18,7 @@ pub fn spelled_is_read()
     ensures { (t : Data) (bytes rest : List ℕ) → Spells t bytes → whole_at (bytes ++ rest) ≡ Ok (t, length bytes) }
 {}
 
-/// A spelling that is cut short, at whatever place, is read as `Truncated`.
+/// A spelling that is cut short, at whatever offset, is read as `Truncated`.
 pub fn cut_is_truncated()
     ensures { (t : Data) (bytes rest : List ℕ) → Spells t (bytes ++ rest) → 0 < length rest → whole_at bytes ≡ Err Truncated }
 {}

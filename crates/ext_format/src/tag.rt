@@ -3,34 +3,49 @@
 ghost use Rattle.std.specs.Prelude.{◌≡◌};
 ghost use Rattle.ext_format.specs.Tags.{tag_of};
 
+/// One unsigned byte.
 pub const SMALL_INTEGER_EXT: u8 = 97;
 
+/// A signed number of 32 bits.
 pub const INTEGER_EXT: u8 = 98;
 
+/// A number of up to 255 bytes, and its sign.
 pub const SMALL_BIG_EXT: u8 = 110;
 
+/// An atom of up to 255 bytes of UTF-8.
 pub const SMALL_ATOM_UTF8_EXT: u8 = 119;
 
+/// An atom whose length in bytes of UTF-8 takes 16 bits.
 pub const ATOM_UTF8_EXT: u8 = 118;
 
+/// An atom of up to 255 characters of Latin-1.
 pub const SMALL_ATOM_EXT: u8 = 115;
 
+/// An atom whose length in characters of Latin-1 takes 16 bits.
 pub const ATOM_EXT: u8 = 100;
 
+/// A process, with a creation of 32 bits.
 pub const NEW_PID_EXT: u8 = 88;
 
+/// A process, with a creation of 8 bits.
 pub const PID_EXT: u8 = 103;
 
+/// A tuple of up to 255 members.
 pub const SMALL_TUPLE_EXT: u8 = 104;
 
+/// A tuple whose number of members takes 32 bits.
 pub const LARGE_TUPLE_EXT: u8 = 105;
 
+/// The empty list.
 pub const NIL_EXT: u8 = 106;
 
+/// A list of bytes.
 pub const STRING_EXT: u8 = 107;
 
+/// A list of terms, and its tail.
 pub const LIST_EXT: u8 = 108;
 
+/// Bytes.
 pub const BINARY_EXT: u8 = 109;
 
 /// What stands after a tag byte.

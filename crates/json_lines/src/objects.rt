@@ -1,4 +1,4 @@
-// A writer that hands on an object for each line.
+//! A writer that hands on an object for each line.
 ghost use Rattle.std.specs.Prelude.{◌≡◌, ◌<◌, ◌≤◌, ℕ, Option, List, [], ◌∷◌, ◌++◌, take, vec_len, length, OnOk, OnErr, IfOk};
 ghost use Rattle.std.specs.Io.KnownBytes.{Appends, WriteAppends};
 ghost use Rattle.chosen_lines.specs.Growth.{Appends-prop};

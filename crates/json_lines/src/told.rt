@@ -1,4 +1,4 @@
-// What the text of a trace message tells of its process and its function.
+//! What the text of a trace message tells of its process and its function.
 ghost use Rattle.std.specs.Prelude.{◌≡◌, ◌≤◌, length, option_map};
 ghost use Rattle.std.specs.Option.{option_copied};
 ghost use Rattle.chosen_lines.specs.Arguments.{unread};

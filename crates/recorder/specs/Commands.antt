@@ -33,9 +33,9 @@ use Rattle.recorder.specs.Complaints.{status_told}
 use Rattle.script_port.specs.Faults.{status_of, run_fault}
 use Rattle.recorder.specs.Faults.{read_fault, wipe_fault}
 use Rattle.recorder.specs.Files.{OnlyLooks, LooksOver, WasRecorded, WasFed}
-use Rattle.recorder.specs.Incoming.{Outside, outside}
+use Rattle.trace_recording.specs.Incoming.{Outside, outside}
 use Rattle.script_port.specs.PortOpenings.{first_told, FitsStore, GoesOnOrBegins}
-use Rattle.recorder.specs.Openings.{wanted, KeepsTrace, IsWhyNotOpened}
+use Rattle.trace_recording.specs.Openings.{wanted, KeepsTrace, IsWhyNotOpened}
 use Rattle.trace_places.specs.Places.{file_count, turn_of}
 use Rattle.script_port.specs.Texts.{line_of}
 use Rattle.script_port.specs.declared.answer.Answer.TheVariants.{Done}

@@ -18,8 +18,8 @@ use Rattle.script_port.specs.Sides.{in_desk}
 use Rattle.script_port.specs.Texts.{line_of}
 use Rattle.script_port.specs.Read.{Stretch, first_lines}
 use Rattle.script_port.specs.Held.{WasHeld}
-use Rattle.recorder.specs.Incoming.{Outside}
-use Rattle.recorder.specs.Importing.{WasImported}
+use Rattle.trace_recording.specs.Incoming.{Outside}
+use Rattle.trace_recording.specs.Importing.{WasImported}
 use Rattle.script_port.specs.declared.answer.Answer.TheVariants.{Done}
 use Rattle.script_port.specs.declared.fault.SimFault.{SimFault}
 use Rattle.script_port.specs.declared.opening.AnyOpening.{AnyOpening}

@@ -1,9 +1,6 @@
 pub mod Faults
-pub mod Openings
-pub mod Incoming
-pub mod Parts
-pub mod Importing
 pub mod Files
 pub mod Live
 pub mod Complaints
 pub mod Commands
+pub mod Following

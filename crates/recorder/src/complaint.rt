@@ -1,4 +1,4 @@
-// What is told of a fault on standard error: a line, and after it what to do next.
+//! What is told of a fault on standard error: a line, and after it what to do next.
 ghost use Rattle.std.specs.Prelude.{◌≡◌, None};
 ghost use Rattle.recorder.specs.Complaints.{status_told};
 ghost use Rattle.recorder.specs.declared.complaint.Complaint.TheVariants as complaints;
@@ -39,7 +39,7 @@ pub enum Advice {
         one: String,
         other: String,
     },
-    /// A file that is there in the place of another one.
+    /// A file that is there instead of another one.
     Misplaced {
         name: String,
     },

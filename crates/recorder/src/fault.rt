@@ -1,4 +1,4 @@
-// What the fault of a reading is among those that end a run.
+//! What the fault of a reading is among those that end a run.
 ghost use Rattle.std.specs.Prelude.{◌≡◌};
 ghost use Rattle.recorder.specs.Faults.{read_fault};
 

@@ -1,4 +1,4 @@
-// A trace is told in numbers.
+//! A trace is told in numbers.
 ghost use Rattle.std.specs.Prelude.{◌≡◌, OnOk, IfErr};
 ghost use Rattle.stores.specs.FolderStore.{reads_of};
 ghost use Rattle.trace_files.specs.Standing.{IsStanding};

@@ -1,4 +1,4 @@
-// The lock of a trace.
+//! The lock of a trace.
 ghost use Rattle.std.specs.Prelude.{◌<◌, length, IfErr};
 ghost use Rattle.stores.specs.FolderStore.{reads_of, IsSame};
 ghost use Rattle.stores.specs.LockFault.{file_of};

@@ -1,4 +1,4 @@
-// What a command says of its options on standard error.
+//! What a command says of its options on standard error.
 
 use command_line::{Asked, Wanted};
 use script_port::Origin;

@@ -1,4 +1,4 @@
-// The files of the trace that a command line asks for.
+//! The files of the trace that a command line asks for.
 ghost use Rattle.std.specs.Prelude.{IfOk, IsSome};
 ghost use Rattle.stores.specs.Events.{World};
 ghost use Rattle.recorder.specs.Commands.{Changes, IsUntouched, IsLocked};

@@ -1,4 +1,4 @@
-// What a line of a script is answered.
+//! What a line of a script is answered.
 ghost use Rattle.std.specs.Prelude.{◌≡◌, Some};
 ghost use Rattle.std.specs.Fmt.{DisplaysOnOk};
 ghost use Rattle.script_port.specs.Answers as told;

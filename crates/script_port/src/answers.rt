@@ -1,4 +1,4 @@
-// The answers of a run.
+//! The answers of a run.
 ghost use Rattle.std.specs.Prelude.{◌≡◌, ◌<◌};
 ghost use Rattle.script_port.specs.Texts.{digit_of, gate_text};
 
@@ -32,6 +32,7 @@ fn digit(number: u8) -> u8
     }
 }
 
+/// What answers are written to.
 #[derive(Drop)]
 pub struct Answers<'w, W: Write> {
     pub writer: &'w mut W,
@@ -47,6 +48,7 @@ impl<'w, W: Write> Answers<'w, W> {
     ghost use Rattle.script_port.specs.Texts.{line_of, state_text};
     ghost use Rattle.script_port.specs.declared.fault.SimFault.TheVariants as faults;
 
+    /// Answers that may wait in the writer.
     pub fn new(writer: &'w mut W) -> Answers<'w, W>
         ensures name { result.writer.ghost_name ≡ writer.entry.ghost_name }
         ensures now { result.writer.now ≡ writer.entry.now }

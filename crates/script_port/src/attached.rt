@@ -1,4 +1,4 @@
-// The tracees at a desk.
+//! The tracees at a desk.
 ghost use Rattle.std.specs.Prelude.{◌≡◌, ◌+◌, ◌≤◌, IfOk, IfErr, OnOk, OnErr, codes};
 ghost use Rattle.script_port.specs.DeskLines.{IsNew, IsBadSpec, IsDue};
 

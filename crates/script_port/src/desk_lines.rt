@@ -1,4 +1,4 @@
-// What a run does while a port is held in a desk.
+//! What a run does while a port is held in a desk.
 ghost use Rattle.std.specs.Prelude.{◌≡◌, ◌≤◌, true, false};
 ghost use Rattle.std.specs.Io.KnownBytes.{Appends};
 ghost use Rattle.tracees.specs.Effects.{Effect, no_effect};

@@ -1,4 +1,4 @@
-// What ends a run before its end.
+//! What ends a run before its end.
 ghost use Rattle.std.specs.Prelude.{◌≡◌};
 ghost use Rattle.script_port.specs.Faults.{status_of, fault_of_list, run_fault, script_fault};
 ghost use Rattle.script_port.specs.declared.fault.SimFault.TheVariants as faults;
@@ -28,22 +28,22 @@ pub enum SimFault {
     /// An answer or a line couldn't be written.
     #[error("refused 2 Write")]
     Write,
-    /// The stream ends inside the entry at this place, in bytes.
+    /// The stream ends inside the entry at this offset, in bytes.
     #[error("refused 3 Truncated at {place}")]
     Truncated {
         place: u64,
     },
-    /// The entry at this place begins with neither 0 nor 1.
+    /// The entry at this offset begins with neither 0 nor 1.
     #[error("refused 4 BadOp at {place}")]
     BadOp {
         place: u64,
     },
-    /// The entry at this place is a drop record of no messages.
+    /// The entry at this offset is a drop record of no messages.
     #[error("refused 5 ZeroDrop at {place}")]
     ZeroDrop {
         place: u64,
     },
-    /// The entry at this place is a message of more than 65,531 bytes.
+    /// The entry at this offset is a message of more than 65,531 bytes.
     #[error("refused 6 TooLong at {place}")]
     TooLong {
         place: u64,

@@ -1,4 +1,4 @@
-// What a port is made of.
+//! What a port is made of.
 
 use trace_port::{Opening, Pending};
 use wrap_port::WrapOpening;

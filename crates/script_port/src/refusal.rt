@@ -1,4 +1,4 @@
-// Refusals, as they are told: a number and a name.
+//! Refusals, as they are told: a number and a name.
 ghost use Rattle.std.specs.Prelude.{◌≡◌, Some};
 ghost use Rattle.std.specs.Fmt.{DisplaysOnOk};
 ghost use Rattle.script_port.specs.Answers as told;

@@ -1,4 +1,4 @@
-// How a port comes to be held, and what comes of a line then.
+//! How a port comes to be held, and what comes of a line then.
 
 use crate::answer::Answer;
 use crate::fault::SimFault;

@@ -1,4 +1,4 @@
-// A store with other bytes in one of its files.
+//! A store with other bytes in one of its files.
 ghost use Rattle.std.specs.Prelude.{◌≡◌, ◌<◌, ◌≤◌, IfOk, length, set};
 ghost use Rattle.trace_store.specs.Disk.{file_of};
 ghost use Rattle.stores.specs.Calls.{contents_of};
@@ -31,7 +31,7 @@ pub fn with_bytes(
     Ok(MemStore::from_bytes(alloc, contents)?)
 }
 
-/// Puts other bytes in the place of a file's.
+/// Puts other bytes instead of a file's.
 fn replace(contents: &mut Vec<Vec<u8>>, file: usize, own: Vec<u8>)
     requires { file < length contents.old.items }
     ensures { contents_of contents.new.items ≡ set (contents_of contents.old.items) file own.items }

@@ -1,4 +1,4 @@
-// A script over a store in memory.
+//! A script over a store in memory.
 ghost use Rattle.std.specs.Prelude.{◌≡◌, ◌≢◌, ◌<◌, ◌≤◌, ℕ, List, length, OnOk, IfErr, false};
 ghost use Rattle.std.specs.Io.KnownBytes.{Appends};
 ghost use Rattle.stores.specs.MemStore.{reads_of};
@@ -319,7 +319,7 @@ fn cleared(store: &mut MemStore) -> Answer
     }
 }
 
-/// Puts a blank store in the place of this one.
+/// Puts a blank store instead of this one.
 fn set_store(alloc: Global, store: &mut MemStore, files: u32) -> Answer
     requires { (1 ≤ files) × (files ≤ 1001) }
     ensures { Does store.old store.new (lines.Store files) (line_of result) }
@@ -333,7 +333,7 @@ fn set_store(alloc: Global, store: &mut MemStore, files: u32) -> Answer
     }
 }
 
-/// Puts a store in the place of this one, in which this file holds these bytes.
+/// Puts a store instead of this one, in which this file holds these bytes.
 fn set_bytes(alloc: Global, store: &mut MemStore, file: u32, bytes: &Vec<u8>) -> Answer
     requires { file < length (reads_of store.old) }
     ensures { Does store.old store.new (lines.Bytes file bytes.now) (line_of result) }

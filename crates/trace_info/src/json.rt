@@ -1,4 +1,4 @@
-// A trace in numbers, as one JSON object.
+//! A trace in numbers, as one JSON object.
 
 use crate::info::{Info, Part};
 use segment::{Kind, SegHeader};

@@ -1,4 +1,4 @@
-// Names of files, as they are told.
+//! Names of files, as they are told.
 
 use std::fmt;
 

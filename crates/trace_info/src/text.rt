@@ -1,4 +1,4 @@
-// A trace in numbers, as text for a person.
+//! A trace in numbers, as text for a person.
 
 use crate::info::{Info, Part};
 use crate::shown::Shown;

@@ -1,3 +1,4 @@
+//! Which kind of event a term tells of.
 ghost use Rattle.std.specs.Prelude.{◌≡◌, ◌↔◌, Some, None, map};
 ghost use Rattle.trace_message.specs.declared.seen.Seen.{Seen as TheSeen};
 ghost use Rattle.trace_message.specs.Kinds.{IsMessage};

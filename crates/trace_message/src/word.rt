@@ -1,3 +1,4 @@
+//! The words of trace messages.
 ghost use Rattle.std.specs.Prelude.{◌≡◌, ◌≤◌, length};
 ghost use Rattle.std.specs.Str.{bytes_eq, chars};
 ghost use Rattle.trace_message.specs.Words.{text_of, word_named};
@@ -67,6 +68,7 @@ impl Word {
         }
     }
 
+    /// The word of this text, if it is one.
     #[tactic(auto, unfolding(crate::specs::Words::word_named))]
     pub fn named(text: &str) -> Option<Word>
         ensures { result ≡ word_named text.now }

@@ -1,4 +1,4 @@
-// What stands where a command line says that a trace is.
+//! What stands where a command line says that a trace is.
 
 use crate::place::{MOST_RUNS, Place};
 use command_line::{Asked, Shape};

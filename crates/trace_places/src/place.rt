@@ -1,4 +1,4 @@
-// Where a trace is stored.
+//! Where a trace is stored.
 ghost use Rattle.std.specs.Prelude.{◌≡◌, ◌≤◌};
 ghost use Rattle.trace_places.specs.Places.{file_count, turn_of};
 

@@ -1,4 +1,4 @@
-// The words after a keyword, of which a line has so many.
+//! The words after a keyword, of which a line has so many.
 ghost use Rattle.std.specs.Prelude.{◌≡◌, ◌≢◌, ◌∷◌, [], MatchOption, length};
 ghost use Rattle.trace_script.specs.Spellings.{IsFound, IsNumber, IsNumberIn, Sole, texts};
 

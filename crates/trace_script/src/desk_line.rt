@@ -1,4 +1,4 @@
-// What a line of a script says to a desk.
+//! What a line of a script says to a desk.
 ghost use Rattle.std.specs.Prelude.{◌≡◌, ◌≢◌, ◌↔◌, ◌<◌, IfOk, IsTrue};
 ghost use Rattle.trace_script.specs.Spellings.{IsFound, Sole, Three, texts};
 ghost use Rattle.trace_script.specs.Table.{IsLong, IsTracee, IsFlags, HasLetters, DeskRow, count_of, set_in, Names};

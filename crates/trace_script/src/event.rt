@@ -1,4 +1,4 @@
-// The events of a script.
+//! The events of a script.
 ghost use Rattle.std.specs.Prelude.{ℕ, List, IfOk, map};
 ghost use Rattle.trace_terms.specs.Data.{Data};
 ghost use Rattle.trace_terms.specs.View.{view};

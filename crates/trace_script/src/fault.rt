@@ -1,4 +1,4 @@
-// Why a script gives no further line.
+//! Why a script gives no further line.
 ghost use Rattle.std.specs.Prelude.{◌≡◌};
 ghost use Rattle.trace_script.specs.declared.fault.ScriptFault.TheVariants as faults;
 

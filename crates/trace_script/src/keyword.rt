@@ -1,4 +1,4 @@
-// The words of a script that mean the same in each line.
+//! The words of a script that mean the same in each line.
 ghost use Rattle.std.specs.Prelude.{◌≡◌, ◌∷◌, ℕ, List};
 ghost use Rattle.trace_script.specs.Keywords.{text_of, all_keywords, keyword_among};
 ghost use Rattle.trace_script.specs.Spellings.{IsFoundAs, texts};

@@ -1,4 +1,4 @@
-// What a line of a script says.
+//! What a line of a script says.
 ghost use Rattle.std.specs.Prelude.{◌≡◌, [], ◌≤◌, IfOk, IfSome};
 ghost use Rattle.trace_script.specs.Keywords.{Behind};
 ghost use Rattle.trace_script.specs.Lines.{IsWithinLimits, pick_of};

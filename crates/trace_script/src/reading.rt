@@ -1,4 +1,4 @@
-// A line of a script, taken off its reader.
+//! A line of a script, taken off its reader.
 ghost use Rattle.std.specs.Prelude.{◌≡◌, ◌≢◌, ◌≤◌, ◌<◌, ◌-◌, All, Ok, OnOk, IfErr, true, length, take};
 ghost use Rattle.std.specs.Io.{StartsWith, StopsAt, IsEmptyOrEndsWith, appended_bytes};
 ghost use Rattle.std.specs.Io.BufRead.{strip_last};

@@ -1,4 +1,4 @@
-// The lines of a script, read one at a time.
+//! The lines of a script, read one at a time.
 ghost use Rattle.std.specs.Prelude.{IfOk, IfSome, ◌≤◌, length, IsUtf8};
 ghost use Rattle.trace_script.specs.Lines.{IsWithinLimits, IsOfRecord};
 ghost use Rattle.trace_script.specs.Reading.{progress, Advances, IsSilent, TellsLine, TellsNext, TellsRoom};
@@ -14,6 +14,7 @@ use std::io::BufRead;
 /// Bytes of the longest script.
 const MOST_BYTES: u64 = 1_099_511_627_776;
 
+/// The lines of a script.
 #[derive(Drop)]
 pub struct Script<'r, R: BufRead> {
     alloc: Global,

@@ -1,4 +1,4 @@
-// Numbers and bytes, as the words of a script spell them.
+//! Numbers and bytes, as the words of a script spell them.
 ghost use Rattle.std.specs.Prelude.{◌≡◌, ◌<◌, ◌≤◌, ◌%◌, ◌/◌, ◌↔◌, ◌∷◌, [], IsTrue, IfOk, length, slice_index};
 ghost use Rattle.std.specs.Char.{is_ascii_digit};
 ghost use Rattle.std.specs.List.{list_all};

@@ -1,3 +1,4 @@
+//! Terms, and the names of processes.
 ghost use Rattle.std.specs.Prelude.{◌≡◌, IfOk, min};
 ghost use Rattle.trace_terms.specs.Data.{depth, greatest_depth};
 ghost use Rattle.trace_terms.specs.View.{view, members_view};

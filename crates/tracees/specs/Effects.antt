@@ -79,7 +79,7 @@ has_cut (replies.Ticked cut) = cut
 has_cut (replies.PortRefused faults.Device) = true
 has_cut _ = false
 
--- what a step with its reply did at the desk at this place
+-- what a step with its reply did at the desk of this index
 abbrev pub effect_at : ℕ → Step → Reply → Effect
 effect_at place (steps.Emit tracee event stamp) reply = no_effect
 effect_at place (steps.HandOver tracee limit) reply = received place false (receipt_in reply)
@@ -109,7 +109,7 @@ abbrev pub offered_too : History → Option Data → History
 offered_too h None = h
 offered_too h (Some message) = Offered h (canonical message)
 
--- what a step with its reply adds to the history of the tracee at this place
+-- what a step with its reply adds to the history of the tracee of this index
 abbrev pub history_by : ℕ → Tracee → History → Step → Reply → History
 history_by place tracee h (steps.Emit at event stamp) reply =
     if nat_eq at place then (if is_offered reply then offered_too h (message_for tracee event stamp) else h) else h

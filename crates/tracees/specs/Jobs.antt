@@ -140,7 +140,7 @@ abbrev pub entries_in : ActFault → List Entry
 entries_in (faults.Emit fault) = []
 entries_in (faults.Hand fault) = moved_by (Err fault)
 
--- the acts before this place were done, and the one there failed; a receipt inside its fault is counted too
+-- the acts before this index were done, and the one there failed; a receipt inside its fault is counted too
 pub record FailedAt {P : Type 0} (told : P → Told) (was is : Seat) (asked : List Act) (given : List Receipt) (place : ℕ) (fault : ActFault) : Type 0 where
   pub act : Act
   pub mid : Seat
@@ -160,7 +160,7 @@ Ended told was is acts receipts (states.Failed place fault) = FailedAt told was 
 
 -- ---- the gate of a job, by what it answers before an act and what it is told after one
 
--- it let each act before this place through, and was told of its end
+-- it let each act before this index through, and was told of its end
 abbrev pub AreLetThrough : (ℕ → Bool → Type 0) → (ℕ → Type 0) → ℕ → Type 0
 AreLetThrough answers ends place = (act : ℕ) → act < place → answers act true × ends act
 

@@ -17,7 +17,7 @@ use Rattle.tracees.specs.declared.step.Step.TheVariants as steps
 use Rattle.tracees.specs.declared.step.Reply.{Reply}
 use Rattle.tracees.specs.declared.step.Reply.TheVariants as replies
 
--- each desk and each tracee, by its place
+-- each desk and each tracee, by its index
 pub record State (P : Type 0) : Type 0 where
   pub desks : List (Place P)
   pub tracees : List Seat
@@ -43,7 +43,7 @@ abbrev pub tick_reply : Result Bool PortFault → Reply
 tick_reply (Ok cut) = replies.Ticked cut
 tick_reply (Err fault) = replies.PortRefused fault
 
--- the desk at this place goes from one value to another, and the others stay
+-- the desk of this index goes from one value to another, and the others stay
 pub record ActsOn {P : Type 0} (old new : State P) (place : ℕ) (p q : Place P) : Type 0 where
   pub there : slice_get old.desks place ≡ Some p
   pub others : new.desks ≡ set old.desks place q
@@ -95,7 +95,7 @@ pub data IsStep {P : Type 0} (told : P → Told) (old new : State P) : Step → 
       → reply ≡ seal_reply result → IsStep told old new (steps.Seal desk) reply
   ticks : {desk now : ℕ} {reply : Reply} (result : Result Bool PortFault) (p q : Place P) → ActsAlone old new desk p q → Ticks (told p.port) (told q.port) now result
       → reply ≡ tick_reply result → IsStep told old new (steps.Tick desk now) reply
-  -- a place that isn't there
+  -- an index that isn't there
   emit_unknown : {tracee : ℕ} {event : Event} {stamp : Stamp} → NoTracee old tracee → new ≡ old → IsStep told old new (steps.Emit tracee event stamp) replies.Unknown
   hand_unknown : {tracee limit : ℕ} → NoSeat old tracee → new ≡ old → IsStep told old new (steps.HandOver tracee limit) replies.Unknown
   flush_for_unknown : {tracee : ℕ} → NoSeat old tracee → new ≡ old → IsStep told old new (steps.FlushFor tracee) replies.Unknown
@@ -109,6 +109,6 @@ pub data Run {P : Type 0} (told : P → Told) : State P → List Step → List R
   goes_on : {old mid new : State P} {step : Step} {steps : List Step} {reply : Reply} {replies : List Reply}
       → IsStep told old mid step reply → Run told mid steps replies new → Run told old (step ∷ steps) (reply ∷ replies) new
 
--- the desk at place i has the number i
+-- the desk of index i has the number i
 abbrev pub AreNumbered : {P : Type 0} → State P → Type 0
 AreNumbered {P} state = (i : ℕ) (p : Place P) → slice_get state.desks i ≡ Some p → p.number ≡ i

@@ -126,7 +126,7 @@ fn act<P: TracePort, K: Bookkeeping>(
 /// Takes steps in order. The replies are a run from the desks and tracees handed in, which stand afterwards in its last
 /// state; and at each moment of it the desks' stores have what was covered.
 ///
-/// The desk at place `i` has the number `i`. Without room for the replies nothing is done.
+/// The desk of index `i` has the number `i`. Without room for the replies nothing is done.
 pub fn drive<P: TracePort, K: Bookkeeping>(
     alloc: Global,
     desks: &mut [Desk<'_, P, K>],

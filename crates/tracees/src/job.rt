@@ -27,7 +27,7 @@ pub enum ActFault {
     Hand(HandFault),
 }
 
-/// How far a job is. Acts are named by their places, counted from 0.
+/// How far a job is. Acts are named by their indices.
 #[derive(Debug, Drop)]
 pub enum JobState {
     Ready,

@@ -8,7 +8,7 @@ use intake::{EmitFault, Offer};
 use trace_message::{Event, Stamp};
 use trace_port::PortFault;
 
-/// What is to be done. Desks and tracees are named by their places, counted from 0.
+/// What is to be done. Desks and tracees are named by their indices.
 #[derive(Debug, Drop)]
 pub enum Step {
     /// The tracee takes in an event.
@@ -52,7 +52,7 @@ pub enum Reply {
     /// Whether the port cut to its next file.
     Ticked(bool),
     PortRefused(PortFault),
-    /// There is no desk or tracee at this place, or the tracee's desk isn't there.
+    /// There is no desk or tracee of this index, or the tracee's desk isn't there.
     Unknown,
 }
 

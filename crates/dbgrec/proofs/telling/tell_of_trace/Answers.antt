@@ -1,5 +1,5 @@
 use Rattle.recorder.specs.Commands.{Serves}
-use Rattle.recorder.specs.Incoming.{outside}
+use Rattle.trace_recording.specs.Incoming.{outside}
 use Rattle.dbgrec.proofs.Told.{tells}
 use Rattle.dbgrec.proofs.telling.tell_of_trace.Goals as goal
 
