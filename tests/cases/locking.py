@@ -83,6 +83,19 @@ def a_file_that_comes_in_the_place_of_a_later_one_stays(program):
 
 
 @case
+def a_link_that_is_put_there_later_is_a_fault(program):
+    with program.start("import", "w", *WRAP) as running:
+        same(running.line(), "created")
+        (program.folder / "w1").symlink_to("original")
+        with contextlib.suppress(BrokenPipeError):
+            running.write(drop(1) * 9)
+        outcome = running.end()
+    same(outcome.status, 1)
+    assert outcome.errors.startswith(b'dbgrec: refused 1 Device: "w1": File exists (os error 17)\n'), outcome
+    assert not (program.folder / "original").exists()
+
+
+@case
 def a_killed_recorder_leaves_no_lock(program):
     for words in (("t",), ("w", *TEN)):
         with program.start("import", *words) as running:
