@@ -7,3 +7,4 @@ pub mod Files
 pub mod Live
 pub mod Complaints
 pub mod Commands
+pub mod Sites
