@@ -1,5 +1,4 @@
-use Rattle.std.proofs.Common.{[]}
-use Rattle.dbgrec.proofs.serve_files.Given as goal
+use Rattle.dbgrec.proofs.serving.serve_files.Given as goal
 
 abbrev pub ghost-files_for : goal.ghost-files_for
-ghost-files_for a = record { start = []; left = [] }
+ghost-files_for g a = g.world'

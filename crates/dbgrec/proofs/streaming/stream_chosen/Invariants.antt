@@ -1,5 +1,4 @@
-use Rattle.std.proofs.Common.{None}
-use Rattle.dbgrec.proofs.stream_chosen.Given as goal
+use Rattle.dbgrec.proofs.streaming.stream_chosen.Given as goal
 
 abbrev pub ghost-new : goal.ghost-new
-ghost-new a = None
+ghost-new g a = g.W.Write.contents a.out
