@@ -1,5 +1,5 @@
 -- What is done for the words of a command line.
-use Rattle.std.specs.Prelude.{◌≡◌, ℕ, Bool, true, false, Option, Some, None, List, [], Result, Ok, Err, IsSome}
+use Rattle.std.specs.Prelude.{◌≡◌, ℕ, Bool, true, false, Option, Some, None, List, [], Result, Err, IsSome}
 use Rattle.std.specs.Io.KnownBytes.{Keeps}
 use Rattle.stores.specs.Events.{World}
 use Rattle.chosen_lines.specs.declared.choice.Choice.{Choice}

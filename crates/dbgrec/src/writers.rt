@@ -42,11 +42,7 @@ pub fn out_of_lent_sieve<W: Write + Drop>(alloc: Global, sieve: &mut Sieve<W>, o
 }
 
 /// The writer below a writer of objects that is lent. A new one over the other is left.
-pub fn out_of_lent_objects<W: Write + Drop>(
-    alloc: Global,
-    objects: &mut Objects<W>,
-    other: W,
-) -> W
+pub fn out_of_lent_objects<W: Write + Drop>(alloc: Global, objects: &mut Objects<W>, other: W) -> W
     ensures { result ≡ objects.old.out }
 {
     out_of_objects(mem::replace(objects, Objects::new(alloc, other)))

@@ -1,4 +1,4 @@
-use Rattle.std.proofs.Common.{◌≡◌, ◌∙◌, sym, ap, subst, rules}
+use Rattle.std.proofs.Common.{◌≡◌, subst, rules}
 use Rattle.recorder.specs.Commands.{Serves}
 use Rattle.recorder.specs.Incoming.{outside}
 use Rattle.dbgrec.specs.Choosing.{Chooses}

@@ -18,4 +18,4 @@ returns g c =
     let files = c.in_ok-files.files in
     let call = c.show_trace-done in
     served files call.new.files (record { past = made.past; locked = made.locked; place = made.place })
-        (subst (λ s. ShowsTrace c.args.request c.args.is_json c.args.choice files call.new.files (outside had 0 s) (contents c.args.output.now) (contents call.new.output) call.result) c.console_for-console.ensures call.ensures)
+    (subst (λ s. ShowsTrace c.args.request c.args.is_json c.args.choice files call.new.files (outside had 0 s) (contents c.args.output.now) (contents call.new.output) call.result) c.console_for-console.ensures call.ensures)

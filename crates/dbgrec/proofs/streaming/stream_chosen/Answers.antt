@@ -1,4 +1,4 @@
-use Rattle.std.proofs.Common.{◌≡◌, ◌∙◌, sym, ap}
+use Rattle.std.proofs.Common.{◌∙◌, sym, ap}
 use Rattle.dbgrec.specs.Choosing.{Chooses, ListsStream}
 use Rattle.dbgrec.proofs.Along.{along}
 use Rattle.dbgrec.proofs.streaming.stream_chosen.Goals as goal
