@@ -117,9 +117,7 @@ fn show_following<R: Wait, W: Output, H: Host>(
         Some(choice) if is_json => {
             follow_chosen_objects(alloc, waiter, choice, is_pretty, files, host, output)
         }
-        Some(choice) => {
-            follow_chosen(alloc, waiter, choice, is_pretty, files, host, output)
-        }
+        Some(choice) => { follow_chosen(alloc, waiter, choice, is_pretty, files, host, output) }
     }
 }
 
