@@ -14,9 +14,7 @@ use std::sync::{Mutex, Wait};
 use std::test::*;
 use std::thread::Threads;
 use trace_port::TracePort;
-use tracees::{
-    ActFault, Bookkeeping, Desk, HandFault, Job, JobState, SharedBook, run_threads,
-};
+use tracees::{ActFault, Bookkeeping, Desk, HandFault, Job, JobState, SharedBook, run_threads};
 
 /// So often jobs are made and run that are refused memory.
 const TRIES: u32 = 3;

@@ -7,8 +7,8 @@ use std::alloc::Global;
 use std::process::Abort;
 use std::test::*;
 use trace_message::{Event, Flags, Stamp};
-use trace_terms::{Atom, NoMemory, Pid, Term};
 use trace_port::TracePort;
+use trace_terms::{Atom, NoMemory, Pid, Term};
 use tracees::{Bookkeeping, Desk, Traced};
 
 /// `{trace,<nonode@nohost.80.0.0>,'receive',ok}` in the External Term Format.
