@@ -96,6 +96,18 @@ def a_link_that_is_put_there_later_is_a_fault(program):
 
 
 @case
+def a_lock_makes_no_file(program):
+    program.refused("wipe", "w", says="dbgrec: w: no such trace")
+    same(stored(program.folder), {})
+    with program.start("import", "w", *WRAP) as running:
+        same(running.line(), "created")
+        same(list(stored(program.folder)), ["w0"])
+        # the others are made since they were looked for
+        in_use(program, "w0", ("import", "w", *WRAP), ("record", "w", *WRAP), ("wipe", "w"))
+        same(running.end().status, 0)
+
+
+@case
 def a_killed_recorder_leaves_no_lock(program):
     for words in (("t",), ("w", *TEN)):
         with program.start("import", *words) as running:

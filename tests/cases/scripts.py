@@ -138,9 +138,9 @@ TWO_OPEN = [
 
 @case
 def a_wipe_closes_the_open_files(program):
-    begun = ["ok"] * 4
     closed = ["file 0 length 1 gate 00", "file 1 length 1 gate 00", "file 2 length 2 gate 00"]
-    answers(program, [*TWO_OPEN, "fuse 16", "wipe", "crash kept", "files", "list"], [*begun, *["ok"] * 3, *closed, "end_of_trace"])
+    script = [*TWO_OPEN, "fuse 16", "wipe", "crash kept", "files", "list"]
+    answers(program, script, [*["ok"] * 7, *closed, "end_of_trace"])
 
 
 # A crash leaves each gate that isn't synced open.
