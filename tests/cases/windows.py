@@ -7,12 +7,12 @@ from segments import segment, wrap_header
 
 CASES, case = group()
 
-# 24 MB of addresses, of which the program needs 6 to list anything
-SMALL = ("bash", "-c", 'ulimit -v 24000; exec "$@"', "bash")
+# 8 MB of addresses, of which the program needs 4 to list anything
+SMALL = ("bash", "-c", 'ulimit -v 8000; exec "$@"', "bash")
 
 
 @case
-def a_wrap_of_60_megabytes_is_listed_and_exported_in_24(program):
+def a_wrap_of_60_megabytes_is_listed_and_exported_in_8(program):
     sizes = [95, 195, 295]
     entries = [message(bytes(sizes[number % 3])) for number in range(400_000)]
     wrap = ("--kind", "wrap", "--size", "8000000", "--count", "8")
