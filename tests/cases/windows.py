@@ -1,18 +1,20 @@
-"""Cases of `list` and `export` of a wrap that nobody writes: its files are read twice, and no entry is held."""
+"""Cases of `list` and `export` of a wrap whose files are read twice, and of which no entry is held."""
+
+import time
 
 from cases import group
 from entries import EXAMPLE, example_line, listing, message, split, window
-from program import same
+from program import PATIENCE, same
 from segments import segment, wrap_header
 
 CASES, case = group()
 
-# 24 MB of addresses, of which the program needs 6 to list anything
-SMALL = ("bash", "-c", 'ulimit -v 24000; exec "$@"', "bash")
+# 8 MB of addresses, of which the program needs 4 to list anything
+SMALL = ("bash", "-c", 'ulimit -v 8000; exec "$@"', "bash")
 
 
 @case
-def a_wrap_of_60_megabytes_is_listed_and_exported_in_24(program):
+def a_wrap_of_60_megabytes_is_listed_and_exported_in_8(program):
     sizes = [95, 195, 295]
     entries = [message(bytes(sizes[number % 3])) for number in range(400_000)]
     wrap = ("--kind", "wrap", "--size", "8000000", "--count", "8")
@@ -26,6 +28,26 @@ def a_wrap_of_60_megabytes_is_listed_and_exported_in_24(program):
     same((listed.status, listed.errors), (0, b""))
     lines = [f"{number} opaque {len(entry) - 5}" for number, entry in enumerate(kept, first)]
     assert listed.output == listing(first, 0, lines)
+
+
+@case
+def a_large_wrap_that_is_written_is_listed_and_exported_in_8_too(program):
+    entries = [message(bytes(95))] * 90_000
+    wrap = ("t", "--kind", "wrap", "--size", "3000000", "--count", "3")
+    with program.start("import", *wrap, "--flush", "always") as importer:
+        same(importer.line(), "created")
+        importer.write(b"".join(entries))
+        deadline = time.monotonic() + PATIENCE
+        while program.run("list", "--from", "89999", *wrap[:3], before=SMALL).output.count(b"opaque") == 0:
+            assert time.monotonic() < deadline
+        first, kept = window(entries, 3_000_000, 3)
+        exported = program.run("export", *wrap[:3], before=SMALL)
+        same((exported.status, exported.errors), (0, b""))
+        assert exported.output == b"".join(kept)
+        listed = program.run("list", *wrap[:3], before=SMALL)
+        same((listed.status, listed.errors), (0, b""))
+        assert listed.output == listing(first, 0, [f"{number} opaque 95" for number in range(first, len(entries))])
+        same(importer.end().status, 0)
 
 
 @case
