@@ -230,5 +230,6 @@ def a_long_listing_shows_on_a_terminal_how_far_it_is(program):
     for words in shown:
         entries = int(words[0])
         same((words[1::2], words[4]), ([b"entries,", b"bytes,", b"dropped\x1b[K"], b"7"))
-        same((entries % 1_024, int(words[2])), (0, len("".join(f"{line}\n" for line in listed[:entries]))))
+        # the bytes of the file that are read: its header, the head of its batch, and entries
+        same((entries % 1_024, int(words[2])), (0, 36 + 5 + entries * len(message(EXAMPLE))))
     assert said.endswith(b"\r\x1b[K"), said
