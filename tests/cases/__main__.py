@@ -17,6 +17,7 @@ import traceback
 import absent
 import choosing
 import crashes
+import emitting
 import faults
 import following
 import foreign
@@ -33,6 +34,7 @@ import locking
 import machine
 import memory
 import pretty
+import readings
 import recording
 import rows
 import scripts
@@ -42,7 +44,7 @@ import wording
 from cases import Skipped
 from program import Program
 
-GROUPS = (rows, scripts, listing, pretty, choosing, json_listing, recording, importing, info, foreign, absent, keeping, telling, crashes, images, machine, faults, locking, live, following, windows, wording, installing, memory, libraries)
+GROUPS = (rows, scripts, emitting, readings, listing, pretty, choosing, json_listing, recording, importing, info, foreign, absent, keeping, telling, crashes, images, machine, faults, locking, live, following, windows, wording, installing, memory, libraries)
 
 
 def words():

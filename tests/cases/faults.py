@@ -60,7 +60,7 @@ def a_failed_sync_leaves_a_mark(program):
     same(outcome.errors, DEVICE + NOT_GONE_ON)
     same(sorted(stored(program.folder)), ["t", "t.failed"])
     mark = (program.folder / "t.failed").read_text()
-    same((mark.count("\n"), mark.endswith("\n"), "failed" in mark), (1, True, True))
+    same(mark, "A sync of this trace failed; what was covered last may not be on the disk.\n")
     is_marked(program, "t")
     exported = program.run("export", "t")
     entries = split(exported.output)

@@ -2,6 +2,7 @@
 
 import os
 import pty
+import socket
 import subprocess
 
 from cases import group
@@ -104,6 +105,25 @@ def the_fault_of_a_stream_is_told_with_its_place(program):
     program.refused("stream", stdin=bytes.fromhex("000000003383"), says="dbgrec: refused 3 Truncated at 0")
     program.refused("stream", stdin=b"\2", says="dbgrec: refused 4 BadOp at 0")
     program.refused("stream", stdin=bytes.fromhex("000000fffc"), says="dbgrec: refused 6 TooLong at 0")
+
+
+@case
+def the_longest_entry_of_a_stream_is_listed(program):
+    entries = message(bytes(65_531)) + drop(2)
+    same((len(entries), program.good("stream", stdin=entries)), (65_541, b"0 opaque 65531\n1 drop 2\nend_of_trace\n"))
+
+
+@case
+def lines_are_written_before_a_stream_breaks_off(program):
+    reader, writer = socket.socketpair()
+    writer.send(message(EXAMPLE))
+    # a socket that is closed with bytes that nobody took breaks the other end's reads, behind what that has still to take
+    reader.send(b"x")
+    writer.close()
+    with reader:
+        ran = subprocess.run([program.path, "stream"], stdin=reader, capture_output=True, timeout=PATIENCE, check=False)
+    line = f"{example_line(0)}\n".encode()
+    same((ran.returncode, ran.stdout, ran.stderr), (1, line, b"dbgrec: refused 1 Read\n"))
 
 
 def comes(screen, line):

@@ -83,6 +83,31 @@ def a_file_that_comes_in_the_place_of_a_later_one_stays(program):
 
 
 @case
+def a_link_that_is_put_there_later_is_a_fault(program):
+    with program.start("import", "w", *WRAP) as running:
+        same(running.line(), "created")
+        (program.folder / "w1").symlink_to("original")
+        with contextlib.suppress(BrokenPipeError):
+            running.write(drop(1) * 9)
+        outcome = running.end()
+    same(outcome.status, 1)
+    assert outcome.errors.startswith(b'dbgrec: refused 1 Device: "w1": File exists (os error 17)\n'), outcome
+    assert not (program.folder / "original").exists()
+
+
+@case
+def a_lock_makes_no_file(program):
+    program.refused("wipe", "w", says="dbgrec: w: no such trace")
+    same(stored(program.folder), {})
+    with program.start("import", "w", *WRAP) as running:
+        same(running.line(), "created")
+        same(list(stored(program.folder)), ["w0"])
+        # the others are made since they were looked for
+        in_use(program, "w0", ("import", "w", *WRAP), ("record", "w", *WRAP), ("wipe", "w"))
+        same(running.end().status, 0)
+
+
+@case
 def a_killed_recorder_leaves_no_lock(program):
     for words in (("t",), ("w", *TEN)):
         with program.start("import", *words) as running:

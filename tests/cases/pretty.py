@@ -6,7 +6,7 @@ import sys
 import time
 
 from cases import STREAMS, group
-from entries import listing, listing_of, message, split
+from entries import EXAMPLE, example_line, listing, listing_of, message, split
 from program import same
 from terms import LONGEST_MESSAGE, OTHER_WORDS, Writer, fun_with, short_atom, told
 
@@ -79,6 +79,20 @@ def of_a_nodes_own_trace_only_what_is_too_long_is_opaque(program):
     same(opaque, [f"{number} opaque {size}" for number, size in too_long(stream)])
     same(lines[-1], "end_of_trace")
     same(len(lines), len(split(stream)) + 1)
+
+
+@case
+def a_readable_listing_has_any_term(program):
+    data = bytes.fromhex("8368026b0003616263463ff8000000000000")
+    same(program.good("stream", "-p", stdin=message(data)), b'0 other {"abc",1.5}\nend_of_trace\n')
+
+
+@case
+def a_readable_listing_passes_over_a_long_message(program):
+    long = message(bytes(70_000))
+    wanted = listing(0, 0, ["0 opaque 70000", example_line(1)])
+    same(program.good("stream", "-p", stdin=long + message(EXAMPLE)), wanted)
+    program.refused("stream", "-p", stdin=long[:-1], says="dbgrec: refused 3 Truncated at 0")
 
 
 @case

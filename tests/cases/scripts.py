@@ -1,5 +1,6 @@
 """Cases of scripts that are made here, as those of long lines, and of scripts over real files that no row has."""
 
+import itertools
 import os
 import pty
 import resource
@@ -102,6 +103,58 @@ def messages_too_long_and_too_deep_are_not_offered(program):
     script = [f"create file {GREATEST_LIMIT}", "desk", "tracee 0 2 9 r", long, deep, "counts 0"]
     told = ["refused 1 TooLong", "refused 2 TooDeep", "offered 0 waiting 0 unsent 0 handed 0 lost 0"]
     answers(program, script, ["ok", "ok", "ok", *told])
+
+
+# Calls 2 to 5 truncate the file and close its gate, 6 to 9 open the segment, and 10 to 13 commit the batch.
+@case
+def a_crash_leaves_a_segment_closed_or_open_and_a_batch_absent_or_whole(program):
+    script = [f"create file {GREATEST_LIMIT}", f"put {EXAMPLE.hex()}", "flush"]
+    behind = ["files", "list", f"resume file {GREATEST_LIMIT}"]
+    for calls, byte, length in itertools.product(range(15), ("00", "01", "37"), ("low", "high")):
+        given = lines("store 1", f"fuse {calls}", *script, f"crash {length} {byte}", *behind)
+        crashed, file, *listed = program.good("sim", stdin=given.encode()).decode().splitlines()[5:]
+        _, _, _, size, _, gate = file.split()
+        same((calls, crashed), (calls, "ok"))
+        is_closed = calls <= 7 or calls <= 9 and byte != "01"
+        same((calls, byte, length, int(size) < 37 or gate != "01"), (calls, byte, length, is_closed))
+        if is_closed:
+            wanted = ["end_of_trace", "refused 2 Blank"]
+        elif calls <= 11 or calls <= 13 and byte != "01":
+            wanted = ["end_of_trace", "resumed 0"]
+        else:
+            same(int(size), 98)
+            wanted = [example_line(0), "end_of_trace", "resumed 1"]
+        same((calls, byte, length, listed), (calls, byte, length, wanted))
+
+
+# two open segments of a wrap by size, of which the first has two messages without bytes, and a closed file
+TWO_OPEN = [
+    "store 3",
+    "bytes 0 014442543101000200000005" + "00" * 24 + "010000000a" + "00" * 11,
+    "bytes 1 014442543101000200000005" + "0000000000000001" + "0000000000000002" + "00" * 9,
+    "bytes 2 0007",
+]
+
+
+@case
+def a_wipe_closes_the_open_files(program):
+    closed = ["file 0 length 1 gate 00", "file 1 length 1 gate 00", "file 2 length 2 gate 00"]
+    script = [*TWO_OPEN, "fuse 16", "wipe", "crash kept", "files", "list"]
+    answers(program, script, [*["ok"] * 7, *closed, "end_of_trace"])
+
+
+# A crash leaves each gate that isn't synced open.
+@case
+def a_wipe_cut_short_is_done_by_another(program):
+    for calls in range(16):
+        if calls <= 4:
+            left = ["0 opaque 0", "1 opaque 0", "end_of_trace"]
+        elif calls <= 11:
+            left = ["refused 3 Sequence"]
+        else:
+            left = ["end_of_trace"]
+        script = [*TWO_OPEN, f"fuse {calls}", "wipe", "crash high 01", "list", "wipe", "list"]
+        answers(program, script, ["ok"] * 5 + ["refused 1 Device", "ok", *left, "ok", "end_of_trace"])
 
 
 @case

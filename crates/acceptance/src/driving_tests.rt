@@ -1,6 +1,5 @@
-use crate::tracees_tests::{EXAMPLE, GREATEST, MOMENT, atom, tracee};
-use entry_codec::Entry;
-use intake::{Counts, Offer, Tracee};
+use crate::scenes::{GREATEST, MOMENT, attach};
+use intake::Counts;
 use std::alloc::Global;
 use std::process::Abort;
 use std::slice;
@@ -9,27 +8,17 @@ use stores::MemStore;
 use trace_message::Event;
 use trace_port::{FilePort, PortFault, TracePort};
 use trace_terms::{NoMemory, Term};
-use tracees::{Desk, HandFault, PlainBook, Receipt, Reply, Step, drive};
-
-/// The tracee at place 0 receives a message.
-fn receives(message: Term) -> Step {
-    let event = Event::Receive { message };
-    Step::Emit {
-        tracee: 0,
-        event,
-        stamp: MOMENT,
-    }
-}
+use tracees::{Desk, HandFault, PlainBook, Reply, Step, drive};
 
 /// Steps at one desk, with the number 0, over a lent port. The tracee is attached there.
 fn run_one<P: TracePort>(
+    rt: &impl Abort,
     alloc: Global,
     port: &mut P,
-    tracee: Tracee,
     steps: &[Step],
-) -> (Result<Vec<Reply>, NoMemory>, Tracee) {
+) -> (Result<Vec<Reply>, NoMemory>, Counts) {
     let mut desk = Desk::new(0, port, PlainBook::new());
-    let mut traced = desk.attach(tracee);
+    let mut traced = attach(rt, alloc, &mut desk, 7, 80, 3);
     let replies = drive(
         alloc,
         slice::from_mut(&mut desk),
@@ -37,95 +26,47 @@ fn run_one<P: TracePort>(
         steps,
     );
     drop(desk);
-    let (tracee, account) = traced.detach();
-    drop(account);
-    (replies, tracee)
+    let counts = traced.counts();
+    drop(traced);
+    (replies, counts)
 }
 
-/// Whether a receipt is that of the tracee's first message, which is covered.
-fn assert_first(rt: &impl Abort, alloc: Global, receipt: &Receipt) -> Result<(), Fail> {
-    assert_eq!(rt; (receipt.desk, receipt.tracee), (0, 7));
-    assert_eq!(rt; (receipt.first, receipt.covered), (0, 1));
-    let example = [Entry::Message(Vec::from_slice(alloc, EXAMPLE)?)];
-    assert!(rt; receipt.entries.as_slice() == example.as_slice());
-    drop(example);
-    Ok(())
-}
-
-fn assert_answers(rt: &impl Abort, alloc: Global, replies: &[Reply]) -> Result<(), Fail> {
-    assert_eq!(rt; replies.len(), 3);
-    assert!(rt; matches!(replies[0], Reply::Offer(Offer::Kept)));
-    assert!(rt; matches!(replies[2], Reply::Unknown));
-    match &replies[1] {
-        Reply::Receipt(receipt) => assert_first(rt, alloc, receipt),
-        _ => Err("another reply".into()),
-    }
-}
-
-/// Runs steps at one desk over a file port, of whose device calls the one after so many may fail. Answers the replies,
-/// and what the tracee counts.
+/// Runs steps at one desk over a file port, of whose device calls the one after so many fails. Answers the replies, and
+/// what the tracee counts.
 fn run_over_a_file(
     rt: &impl Abort,
     alloc: Global,
-    fails_after: Option<u64>,
-    capacity: u32,
+    passing: u64,
     steps: &[Step],
 ) -> (Vec<Reply>, Counts) {
     let mut store = MemStore::blank(alloc, 1).expect(rt, "memory");
-    if let Some(calls) = fails_after {
-        store.fail_once(calls);
-    }
+    store.fail_once(passing);
     let Ok(mut port) = FilePort::create(alloc, &mut store, GREATEST) else {
         panic!(rt; "no port")
     };
-    let (replies, tracee) = run_one(alloc, &mut port, tracee(rt, alloc, capacity), steps);
+    let (replies, counts) = run_one(rt, alloc, &mut port, steps);
     drop(port);
     drop(store);
-    let counts = tracee.counts();
-    drop(tracee);
     (replies.expect(rt, "memory"), counts)
-}
-
-#[test]
-fn a_run_answers_each_step(rt: HostRuntime) -> Result<(), Fail> {
-    let steps = [
-        receives(Term::Atom(atom(&rt, rt.alloc(), "ok"))),
-        Step::FlushFor { tracee: 0 },
-        Step::Flush { desk: 1 },
-    ];
-    let (replies, _counts) = run_over_a_file(&rt, rt.alloc(), None, 2, &steps);
-    drop(steps);
-    let answered = assert_answers(&rt, rt.alloc(), &replies);
-    drop(replies);
-    answered
 }
 
 /// A step in which the tracee receives 40,000 bytes.
 fn receives_many(alloc: Global) -> Result<Step, Fail> {
-    Ok(receives(Term::Binary(vec![in alloc; 0; 40_000]?)))
-}
-
-/// Three such steps, and a hand-over of all.
-fn many_steps(alloc: Global) -> Result<Vec<Step>, Fail> {
-    let mut steps = Vec::with_capacity(alloc, 4)?;
-    for _message in 0..3 {
-        steps.push(receives_many(alloc)?)?;
-    }
-    steps.push(Step::HandOver {
+    let message = Term::Binary(vec![in alloc; 0; 40_000]?);
+    Ok(Step::Emit {
         tracee: 0,
-        limit: 9,
-    })?;
-    Ok(steps)
+        event: Event::Receive { message },
+        stamp: MOMENT,
+    })
 }
 
 /// The first two of the messages were moved before the device failed.
-fn assert_moved(rt: &impl Abort, replies: &[Reply]) -> Result<(), Fail> {
-    assert_eq!(rt; replies.len(), 4);
-    match &replies[3] {
+fn assert_moved(rt: &impl Abort, reply: &Reply) -> Result<(), Fail> {
+    match reply {
         Reply::HandRefused(HandFault::Port { fault, receipt }) => {
-            assert_eq!(rt; *fault, PortFault::Device);
-            assert_eq!(rt; (receipt.first, receipt.covered), (0, 0));
-            assert_eq!(rt; receipt.entries.len(), 2);
+            assert!(rt; *fault == PortFault::Device);
+            assert!(rt; receipt.first == 0 && receipt.covered == 0);
+            assert!(rt; receipt.entries.len() == 2);
             Ok(())
         }
         _ => Err("another reply".into()),
@@ -134,11 +75,21 @@ fn assert_moved(rt: &impl Abort, replies: &[Reply]) -> Result<(), Fail> {
 
 #[test]
 fn a_refusal_has_the_receipt_of_what_was_moved(rt: HostRuntime) -> Result<(), Fail> {
-    let steps = many_steps(rt.alloc())?;
-    let (replies, counts) = run_over_a_file(&rt, rt.alloc(), Some(10), 3, &steps);
+    let alloc = rt.alloc();
+    let steps = [
+        receives_many(alloc)?,
+        receives_many(alloc)?,
+        receives_many(alloc)?,
+        Step::HandOver {
+            tracee: 0,
+            limit: 9,
+        },
+    ];
+    let (replies, counts) = run_over_a_file(&rt, alloc, 10, &steps);
     drop(steps);
-    assert_eq!(rt; (counts.offered, counts.handed, counts.waiting), (3, 2, 1));
-    let moved = assert_moved(&rt, &replies);
+    assert!(rt; counts.offered == 3 && counts.handed == 2 && counts.waiting == 1);
+    assert!(rt; replies.len() == 4);
+    let moved = assert_moved(&rt, &replies[3]);
     drop(replies);
     moved
 }

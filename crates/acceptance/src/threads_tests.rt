@@ -3,27 +3,24 @@ ghost use Rattle.tracees.specs.Books.{no_totals};
 ghost use Rattle.tracees.specs.Jobs.{IsReady};
 ghost use Rattle.tracees.specs.Meanings.{KeepsMeaning};
 
-use crate::tracees_tests::{GREATEST, MOMENT, RECEIVE, atom};
+use crate::ledgers::{Told, Work, over_a_file, over_a_wrap};
+use crate::scenes::{MOMENT, receipt_of_ok, tracee};
+use crate::settling_tests::told;
 use entry_codec::Entry;
-use intake::Tracee;
 use recovery::{Recovered, recover};
-use std::alloc::{AllocError, Global};
-use std::marker::Brand;
+use std::alloc::Global;
 use std::process::Abort;
 use std::sync::atomic::{AtomicU64, Ordering};
-use std::sync::ledger::{Blank, Ledger};
 use std::sync::{Mutex, Wait};
 use std::test::*;
 use std::thread::Threads;
-use stores::{MemStore, Pick};
-use trace_message::Event;
-use trace_port::{FilePort, PortFault, PortState, Status, TracePort};
-use trace_terms::{Pid, Term};
+use stores::Pick;
+use trace_port::{PortFault, PortState, Status, TracePort};
+use trace_terms::NoMemory;
 use tracees::{
-    Account, Act, ActFault, Bookkeeping, Desk, Gate, HandFault, Job, JobState, LedgerBook,
-    Numbered, PARTS, Receipt, SettleFault, SharedBook, Totals, Traced, audit, run_threads, settle,
+    Account, Act, ActFault, Bookkeeping, Desk, Gate, HandFault, Job, JobState, Receipt, SharedBook,
+    Totals, audit, run_threads,
 };
-use wrap_port::{WrapPort, WrapSpec};
 
 /// Lets no job do its first act until so many have come to theirs.
 #[derive(Drop)]
@@ -53,17 +50,6 @@ impl Gate for Meeting {
     fn after(&self, _tracee: u32, _act: u32) {}
 }
 
-/// The tracee of this number and, so that their messages differ, of a pid of its own.
-fn tracee(rt: &impl Abort, alloc: Global, number: u32, capacity: u32) -> Tracee {
-    let pid = Pid {
-        node: atom(rt, alloc, "nonode@nohost"),
-        id: number.saturating_add(80),
-        serial: 0,
-        creation: 0,
-    };
-    Tracee::new(alloc, number, pid, RECEIVE, capacity, 1_000).expect(rt, "a tracee")
-}
-
 #[derive(Clone, Copy)]
 pub(crate) enum Do {
     /// So many receipts of the atom `ok`.
@@ -83,43 +69,52 @@ pub(crate) struct Plan {
     pub(crate) abandons: bool,
 }
 
-fn add_emits(rt: &impl Abort, alloc: Global, acts: &mut Vec<Act>, count: u32) {
+fn add_emits(alloc: Global, acts: &mut Vec<Act>, count: u32) -> Result<(), NoMemory> {
     for _ in 0..count {
-        let message = Term::Atom(atom(rt, alloc, "ok"));
-        let event = Event::Receive { message };
+        let event = receipt_of_ok(alloc)?;
         let stamp = MOMENT;
-        acts.push(Act::Emit { event, stamp }).expect(rt, "memory");
+        acts.push(Act::Emit { event, stamp })?;
     }
+    Ok(())
 }
 
-fn acts(rt: &impl Abort, alloc: Global, plan: Plan) -> Vec<Act> {
+fn acts(alloc: Global, plan: Plan) -> Result<Vec<Act>, NoMemory> {
     let mut acts = Vec::new(alloc);
     for _ in 0..plan.times {
         for one in plan.acts {
             match *one {
-                Do::Emits(count) => add_emits(rt, alloc, &mut acts, count),
-                Do::HandOver(limit) => acts.push(Act::HandOver { limit }).expect(rt, "memory"),
-                Do::FlushFor => acts.push(Act::FlushFor).expect(rt, "memory"),
+                Do::Emits(count) => add_emits(alloc, &mut acts, count)?,
+                Do::HandOver(limit) => acts.push(Act::HandOver { limit })?,
+                Do::FlushFor => acts.push(Act::FlushFor)?,
             }
         }
     }
-    acts
+    Ok(acts)
 }
 
 /// What is known at the end: the receipts of all jobs, the sums of their accounts and what the port has done.
 #[derive(Drop)]
-struct End {
+pub(crate) struct End {
     receipts: Vec<Vec<Receipt>>,
     totals: Totals,
     status: Status,
 }
 
-fn job<K: Bookkeeping>(rt: &impl Abort, alloc: Global, traced: Traced<K>, plan: Plan) -> Job<K>
-    ensures { IsReady result }
+/// A job of a new tracee, so that messages differ of a process of its own.
+fn job<P: TracePort, K: Bookkeeping>(
+    rt: &impl Abort,
+    alloc: Global,
+    desk: &mut Desk<'_, P, K>,
+    number: u32,
+    plan: Plan,
+) -> Result<Job<K>, NoMemory>
+    ensures { IfOk result (λ job. IsReady job) }
 {
-    let acts = acts(rt, alloc, plan);
+    let acts = acts(alloc, plan)?;
     assert!(rt; acts.len() <= u32::MAX as usize);
-    Job::new(alloc, traced, acts)
+    let tracee = tracee(alloc, number, number.saturating_add(80), plan.capacity)?;
+    assert!(rt; desk.attached() != u32::MAX);
+    Ok(Job::new(alloc, desk.attach(tracee), acts))
 }
 
 /// The jobs of a plan, over one desk.
@@ -128,14 +123,12 @@ pub(crate) fn jobs<P: TracePort, K: Bookkeeping>(
     alloc: Global,
     desk: &mut Desk<'_, P, K>,
     plan: Plan,
-) -> Result<Vec<Job<K>>, AllocError>
+) -> Result<Vec<Job<K>>, NoMemory>
     ensures { IfOk result (λ jobs. All (λ job. IsReady job) jobs.items) }
 {
     let mut jobs = Vec::new(alloc);
     for number in 0..plan.jobs {
-        assert!(rt; desk.attached() != u32::MAX);
-        let traced = desk.attach(tracee(rt, alloc, number, plan.capacity));
-        let job = job(rt, alloc, traced, plan);
+        let job = job(rt, alloc, desk, number, plan)?;
         jobs.push(job)?;
     }
     Ok(jobs)
@@ -173,22 +166,6 @@ fn finished<K: Bookkeeping>(
     (receipts, accounts)
 }
 
-/// A desk, and the sums of its accounts, of which none is missing.
-fn sums_of<'p, P: TracePort, K: SharedBook>(
-    rt: &impl Abort,
-    desk: Desk<'p, P, K>,
-    accounts: Vec<Account<K>>,
-) -> (Desk<'p, P, K>, Totals) {
-    match settle(desk, accounts) {
-        Ok(settled) => settled,
-        Err(SettleFault::Missing { desk, accounts }) => {
-            drop(desk);
-            drop(accounts);
-            panic!(rt; "an account is missing")
-        }
-    }
-}
-
 /// Runs the jobs of a plan on threads, over one desk, which comes back with them.
 fn run_jobs<'p, P: TracePort, K: SharedBook, G: Gate, R: Threads + Wait + Abort + Sync>(
     rt: &R,
@@ -204,7 +181,7 @@ fn run_jobs<'p, P: TracePort, K: SharedBook, G: Gate, R: Threads + Wait + Abort 
 }
 
 /// Runs the jobs of a plan on threads, over one desk, and settles their accounts.
-fn run_by<P: TracePort, K: SharedBook, R: Threads + Wait + Abort + Sync>(
+pub(crate) fn run_by<P: TracePort, K: SharedBook, R: Threads + Wait + Abort + Sync>(
     rt: &R,
     alloc: Global,
     port: &mut P,
@@ -225,7 +202,10 @@ fn run_by<P: TracePort, K: SharedBook, R: Threads + Wait + Abort + Sync>(
     drop(gate);
     let status = desk.status();
     let (receipts, accounts) = finished(rt, alloc, jobs);
-    let (mut desk, totals) = sums_of(rt, desk, accounts);
+    let (mut desk, sums) = told(desk, accounts);
+    let Ok(totals) = sums else {
+        panic!(rt; "an account is missing")
+    };
     if plan.abandons {
         desk.abandon();
     }
@@ -237,62 +217,10 @@ fn run_by<P: TracePort, K: SharedBook, R: Threads + Wait + Abort + Sync>(
     }
 }
 
-/// The same over a book of ledgers. Only its type is known where the jobs are run: so its parts, which are many, aren't
-/// looked at there.
-fn run<
-    F: Ledger + Send,
-    U: Ledger + Send,
-    D: Ledger + Send,
-    N: Ledger + Numbered + Send,
-    P: TracePort,
-    R: Threads + Wait + Abort + Sync,
->(
-    rt: &R,
-    alloc: Global,
-    port: &mut P,
-    plan: Plan,
-    flushed: Blank,
-    unflushed: Blank,
-    drops: Blank,
-    accounts: Blank,
-) -> End
-    requires flushed { (flushed.name ≡ F.name) × (flushed.parts ≡ F.parts) × (flushed.parts ≡ PARTS) }
-    requires unflushed { (unflushed.name ≡ U.name) × (unflushed.parts ≡ U.parts) × (unflushed.parts ≡ PARTS) }
-    requires drops { (drops.name ≡ D.name) × (drops.parts ≡ D.parts) × (drops.parts ≡ PARTS) }
-    requires accounts { (accounts.name ≡ N.name) × (accounts.parts ≡ N.parts) × (accounts.parts ≡ PARTS) }
-    requires number { N.number ≡ 7 }
-    requires fits { KeepsMeaning (P.told port.old) }
-{
-    let book: LedgerBook<F, U, D, N> = LedgerBook::new(flushed, unflushed, drops, accounts);
-    run_by(rt, alloc, port, book, plan)
-}
-
-/// What a plan over a file port comes to.
-fn over_a_file<R: Threads + Wait + Abort + Sync>(
-    rt: &R,
-    alloc: Global,
-    store: &mut MemStore,
-    plan: Plan,
-) -> Result<End, Fail> {
-    let mut port = FilePort::create(alloc, store, GREATEST)?;
-    let end = run::<Brand, Brand, Brand, Brand, _, _>(
-        rt,
-        alloc,
-        &mut port,
-        plan,
-        Blank::new(PARTS),
-        Blank::new(PARTS),
-        Blank::new(PARTS),
-        Blank::new(PARTS),
-    );
-    drop(port);
-    Ok(end)
-}
-
 /// Each job's receipts are held against what is recovered.
 fn assert_audited(rt: &impl Abort, end: &End, found: &Recovered) {
     for receipts in &end.receipts {
-        assert_eq!(rt; audit(found, receipts.as_slice()), Ok(()));
+        assert!(rt; audit(found, receipts.as_slice()).is_ok());
     }
 }
 
@@ -301,31 +229,33 @@ fn recovered_behind<R: Threads + Wait + Abort + Sync>(
     rt: &R,
     alloc: Global,
     plan: Plan,
-) -> Result<(End, usize), Fail> {
-    let mut store = MemStore::blank(alloc, 1)?;
-    let end = over_a_file(rt, alloc, &mut store, plan)?;
+) -> (End, usize) {
+    let (told, mut store) = over_a_file(rt, alloc, Work::Run(plan)).expect(rt, "a port");
+    let Told::Ran(end) = told else {
+        panic!(rt; "no jobs")
+    };
     let found = recover(alloc, &mut store).expect(rt, "a trace");
     drop(store);
     assert_audited(rt, &end, &found);
     let entries = found.entries.len();
     drop(found);
-    Ok((end, entries))
+    (end, entries)
 }
 
-fn assert_sums(rt: &impl Abort, sums: Totals, expected: [u64; 3]) {
-    assert_eq!(rt; [sums.messages, sums.drops, sums.flushed], expected);
+fn assert_sums(rt: &impl Abort, sums: Totals, messages: u64, drops: u64, flushed: u64) {
+    assert!(rt; sums.messages == messages && sums.drops == drops && sums.flushed == flushed);
 }
 
 /// These are one receipt of one entry, which is covered.
 fn assert_flushed(rt: &impl Abort, receipts: &[Receipt]) {
-    assert_eq!(rt; receipts.len(), 1);
-    assert_eq!(rt; receipts[0].entries.len(), 1);
+    assert!(rt; receipts.len() == 1);
+    assert!(rt; receipts[0].entries.len() == 1);
     assert!(rt; receipts[0].covered > receipts[0].first);
 }
 
 /// Each of the jobs waits for the other, so both are on their way at once.
 #[test]
-fn two_jobs_meet(rt: HostRuntime) -> Result<(), Fail> {
+fn two_jobs_meet(rt: HostRuntime) {
     let plan = Plan {
         jobs: 2,
         capacity: 8,
@@ -333,28 +263,26 @@ fn two_jobs_meet(rt: HostRuntime) -> Result<(), Fail> {
         acts: &[Do::Emits(1), Do::FlushFor],
         abandons: false,
     };
-    let (end, entries) = recovered_behind(&rt, rt.alloc(), plan)?;
-    assert_sums(&rt, end.totals, [2, 0, 2]);
-    assert_eq!(rt; end.status.covered, 2);
-    assert_eq!(rt; entries, 2);
+    let (end, entries) = recovered_behind(&rt, rt.alloc(), plan);
+    assert_sums(&rt, end.totals, 2, 0, 2);
+    assert!(rt; end.status.covered == 2 && entries == 2);
     for receipts in &end.receipts {
         assert_flushed(&rt, receipts.as_slice());
     }
     drop(end);
-    Ok(())
 }
 
 /// These are a receipt of one message, and one of a drop record.
 fn assert_message_and_drop(rt: &impl Abort, receipts: &[Receipt]) {
-    assert_eq!(rt; receipts.len(), 2);
-    assert_eq!(rt; receipts[0].entries.len(), 1);
+    assert!(rt; receipts.len() == 2);
+    assert!(rt; receipts[0].entries.len() == 1);
     assert!(rt; matches!(&receipts[0].entries[0], Entry::Message(_)));
-    assert_eq!(rt; receipts[1].entries.len(), 1);
+    assert!(rt; receipts[1].entries.len() == 1);
     assert!(rt; matches!(&receipts[1].entries[0], Entry::Drop(1)));
 }
 
 #[test]
-fn four_jobs_meet(rt: HostRuntime) -> Result<(), Fail> {
+fn four_jobs_meet(rt: HostRuntime) {
     let plan = Plan {
         jobs: 4,
         capacity: 1,
@@ -362,18 +290,17 @@ fn four_jobs_meet(rt: HostRuntime) -> Result<(), Fail> {
         acts: &[Do::Emits(2), Do::HandOver(1), Do::FlushFor],
         abandons: false,
     };
-    let (end, entries) = recovered_behind(&rt, rt.alloc(), plan)?;
-    assert_sums(&rt, end.totals, [4, 4, 4]);
-    assert_eq!(rt; entries, 8);
+    let (end, entries) = recovered_behind(&rt, rt.alloc(), plan);
+    assert_sums(&rt, end.totals, 4, 4, 4);
+    assert!(rt; entries == 8);
     for receipts in &end.receipts {
         assert_message_and_drop(&rt, receipts.as_slice());
     }
     drop(end);
-    Ok(())
 }
 
 /// The messages, the drops and the entries that receipts name.
-fn named(all: &[Vec<Receipt>]) -> [u64; 3] {
+fn named(all: &[Vec<Receipt>]) -> (u64, u64, u64) {
     let mut messages: u64 = 0;
     let mut drops: u64 = 0;
     let mut entries: u64 = 0;
@@ -388,7 +315,7 @@ fn named(all: &[Vec<Receipt>]) -> [u64; 3] {
             }
         }
     }
-    [messages, drops, entries]
+    (messages, drops, entries)
 }
 
 /// Each of four tracees takes in 25,000 messages, in rounds of 1,250, of which it has room for 1,000.
@@ -400,55 +327,35 @@ const RUSH: Plan = Plan {
     abandons: true,
 };
 
-fn rush_over_a_wrap<R: Threads + Wait + Abort + Sync>(
-    rt: &R,
-    alloc: Global,
-    store: &mut MemStore,
-) -> Result<End, Fail> {
-    let spec = WrapSpec::standard();
-    let mut port = WrapPort::create(alloc, store, spec)?;
-    let end = run::<Brand, Brand, Brand, Brand, _, _>(
-        rt,
-        alloc,
-        &mut port,
-        RUSH,
-        Blank::new(PARTS),
-        Blank::new(PARTS),
-        Blank::new(PARTS),
-        Blank::new(PARTS),
-    );
-    drop(port);
-    Ok(end)
-}
-
 fn assert_rush_is_told(rt: &impl Abort, end: &End) {
-    assert_sums(rt, end.totals, [80_000, 20_000, 80_000]);
-    assert_eq!(rt; named(end.receipts.as_slice()), [80_000, 20_000, 80_080]);
-    assert_eq!(rt; end.status.accepted, 80_080);
-    assert_eq!(rt; end.status.dropped, 20_000);
-    assert_eq!(rt; end.status.covered, 80_080);
-    assert_eq!(rt; end.status.state, PortState::Live);
+    assert_sums(rt, end.totals, 80_000, 20_000, 80_000);
+    let (messages, drops, entries) = named(end.receipts.as_slice());
+    assert!(rt; messages == 80_000 && drops == 20_000 && entries == 80_080);
+    let status = end.status;
+    assert!(rt; status.accepted == 80_080 && status.dropped == 20_000);
+    assert!(rt; status.covered == 80_080 && status.state == PortState::Live);
 }
 
 /// The sums of the accounts, the port's counts, the receipts and what is recovered after a crash tell the same.
 #[test]
-fn four_jobs_agree_with_what_is_recovered(rt: HostRuntime) -> Result<(), Fail> {
+fn four_jobs_agree_with_what_is_recovered(rt: HostRuntime) {
     let alloc = rt.alloc();
-    let mut store = MemStore::blank(alloc, 9)?;
-    let end = rush_over_a_wrap(&rt, alloc, &mut store)?;
+    let (told, mut store) = over_a_wrap(&rt, alloc, Work::Run(RUSH)).expect(&rt, "a port");
+    let Told::Ran(end) = told else {
+        panic!(&rt; "no jobs")
+    };
     assert!(rt; store.crash(Pick::Kept).is_ok());
     let found = recover(alloc, &mut store).expect(&rt, "a trace");
     drop(store);
     assert_rush_is_told(&rt, &end);
-    assert_eq!(rt; found.total(), 80_080);
-    assert_eq!(rt; found.drops(), 20_000);
+    assert!(rt; found.total() == 80_080 && found.drops() == 20_000);
     assert_audited(&rt, &end, &found);
     drop(end);
     drop(found);
-    Ok(())
 }
 
 /// Is shut before the act at this place.
+#[derive(Clone, Copy)]
 pub(crate) struct Until {
     pub(crate) act: u32,
 }
@@ -483,7 +390,7 @@ fn only<K: Bookkeeping>(rt: &impl Abort, mut jobs: Vec<Job<K>>) -> (JobState, us
 }
 
 /// One job over a desk that may be sealed: how far it came, and how many receipts it has.
-fn run_one_by<P: TracePort, K: SharedBook, R: Threads + Wait + Abort + Sync>(
+pub(crate) fn run_one_by<P: TracePort, K: SharedBook, R: Threads + Wait + Abort + Sync>(
     rt: &R,
     alloc: Global,
     port: &mut P,
@@ -505,65 +412,11 @@ fn run_one_by<P: TracePort, K: SharedBook, R: Threads + Wait + Abort + Sync>(
     };
     let mut desk = Desk::new(7, port, book);
     if seals {
-        assert_eq!(rt; desk.seal(), Ok(()));
+        assert!(rt; desk.seal().is_ok());
     }
     let (desk, jobs) = run_jobs(rt, alloc, desk, plan, gate);
     drop(desk);
     only(rt, jobs)
-}
-
-/// The same over a book of ledgers.
-fn run_one<
-    F: Ledger + Send,
-    U: Ledger + Send,
-    D: Ledger + Send,
-    N: Ledger + Numbered + Send,
-    P: TracePort,
-    R: Threads + Wait + Abort + Sync,
->(
-    rt: &R,
-    alloc: Global,
-    port: &mut P,
-    gate: &Until,
-    seals: bool,
-    flushed: Blank,
-    unflushed: Blank,
-    drops: Blank,
-    accounts: Blank,
-) -> (JobState, usize)
-    requires flushed { (flushed.name ≡ F.name) × (flushed.parts ≡ F.parts) × (flushed.parts ≡ PARTS) }
-    requires unflushed { (unflushed.name ≡ U.name) × (unflushed.parts ≡ U.parts) × (unflushed.parts ≡ PARTS) }
-    requires drops { (drops.name ≡ D.name) × (drops.parts ≡ D.parts) × (drops.parts ≡ PARTS) }
-    requires accounts { (accounts.name ≡ N.name) × (accounts.parts ≡ N.parts) × (accounts.parts ≡ PARTS) }
-    requires number { N.number ≡ 7 }
-    requires fits { KeepsMeaning (P.told port.old) }
-{
-    let book: LedgerBook<F, U, D, N> = LedgerBook::new(flushed, unflushed, drops, accounts);
-    run_one_by(rt, alloc, port, book, gate, seals)
-}
-
-fn one_over_a_file<R: Threads + Wait + Abort + Sync>(
-    rt: &R,
-    alloc: Global,
-    gate: &Until,
-    seals: bool,
-) -> Result<(JobState, usize), Fail> {
-    let mut store = MemStore::blank(alloc, 1)?;
-    let mut port = FilePort::create(alloc, &mut store, GREATEST)?;
-    let ended = run_one::<Brand, Brand, Brand, Brand, _, _>(
-        rt,
-        alloc,
-        &mut port,
-        gate,
-        seals,
-        Blank::new(PARTS),
-        Blank::new(PARTS),
-        Blank::new(PARTS),
-        Blank::new(PARTS),
-    );
-    drop(port);
-    drop(store);
-    Ok(ended)
 }
 
 /// A job whose hand-over found the port sealed.
@@ -573,24 +426,38 @@ fn assert_refused(rt: &impl Abort, state: &JobState) {
             act,
             fault: ActFault::Hand(HandFault::Port { fault, receipt }),
         } => {
-            assert_eq!(rt; *act, 1);
-            assert_eq!(rt; *fault, PortFault::Sealed);
-            assert_eq!(rt; receipt.entries.len(), 0);
+            assert!(rt; *act == 1 && *fault == PortFault::Sealed);
+            assert!(rt; receipt.entries.is_empty());
         }
         _ => panic!(rt; "another end"),
     }
 }
 
+/// How far one job came over a file port, and how many receipts it has.
+fn one_over_a_file<R: Threads + Wait + Abort + Sync>(
+    rt: &R,
+    alloc: Global,
+    act: u32,
+    seals: bool,
+) -> (JobState, usize) {
+    let gate = Until { act };
+    let work = Work::RunOne { gate, seals };
+    let (told, store) = over_a_file(rt, alloc, work).expect(rt, "a port");
+    drop(store);
+    let Told::RanOne(state, receipts) = told else {
+        panic!(rt; "no job")
+    };
+    (state, receipts)
+}
+
 #[test]
-fn a_job_ends_where_it_is_shut_or_refused(rt: HostRuntime) -> Result<(), Fail> {
+fn a_job_ends_where_it_is_shut_or_refused(rt: HostRuntime) {
     let alloc = rt.alloc();
-    let (state, receipts) = one_over_a_file(&rt, alloc, &Until { act: 2 }, false)?;
-    assert!(rt; matches!(&state, JobState::Shut { act: 2 }));
-    assert_eq!(rt; receipts, 1);
+    let (state, receipts) = one_over_a_file(&rt, alloc, 2, false);
+    assert!(rt; matches!(&state, JobState::Shut { act: 2 }) && receipts == 1);
     drop(state);
-    let (state, receipts) = one_over_a_file(&rt, alloc, &Until { act: 9 }, true)?;
+    let (state, receipts) = one_over_a_file(&rt, alloc, 9, true);
     assert_refused(&rt, &state);
-    assert_eq!(rt; receipts, 0);
+    assert!(rt; receipts == 0);
     drop(state);
-    Ok(())
 }

@@ -1,16 +1,15 @@
 ghost use Rattle.std.specs.Prelude.{◌≡◌};
 
-use crate::tracees_tests::{GREATEST, RECEIVE, atom};
+use crate::scenes::{GREATEST, MOMENT, attach, receipt_of_ok};
 use entry_codec::Entry;
-use intake::{Offer, Tracee};
+use intake::Offer;
 use recovery::recover;
 use std::alloc::Global;
 use std::process::Abort;
 use std::test::*;
 use stores::MemStore;
-use trace_message::{Event, Stamp};
 use trace_port::{FilePort, TracePort};
-use trace_terms::{NoMemory, Pid, Term};
+use trace_terms::NoMemory;
 use tracees::{
     Bookkeeping, Desk, EitherPort, PlainBook, Receipt, Reply, Step, Traced, audit, drive,
 };
@@ -27,30 +26,12 @@ enum Expected {
     Unknown,
 }
 
-/// A tracee of this number whose receipts are asked for, with room for two messages.
-fn tracee(rt: &impl Abort, alloc: Global, number: u32) -> Tracee {
-    let pid = Pid {
-        node: atom(rt, alloc, "nonode@nohost"),
-        id: number,
-        serial: 0,
-        creation: 0,
-    };
-    Tracee::new(alloc, number, pid, RECEIVE, 2, 100).expect(rt, "a tracee")
-}
-
 /// The tracee at this place receives the atom `ok`.
 fn receives(rt: &impl Abort, alloc: Global, tracee: u32) -> Step {
-    let message = Term::Atom(atom(rt, alloc, "ok"));
-    let stamp = Stamp {
-        mega: 0,
-        sec: 0,
-        micro: 0,
-        mono: 0,
-    };
     Step::Emit {
         tracee,
-        event: Event::Receive { message },
-        stamp,
+        event: receipt_of_ok(alloc).expect(rt, "memory"),
+        stamp: MOMENT,
     }
 }
 
@@ -63,9 +44,8 @@ fn attach_one<P: TracePort, K: Bookkeeping>(
 )
     ensures { desk.new.number ≡ desk.old.number }
 {
-    assert!(rt; desk.attached() != u32::MAX);
     let number = u32::try_from(traced.len()).expect(rt, "a number");
-    let one = desk.attach(tracee(rt, alloc, number));
+    let one = attach(rt, alloc, desk, number, number, 2);
     traced.push(one).expect(rt, "memory");
 }
 
@@ -207,11 +187,12 @@ fn steps(rt: &impl Abort, alloc: Global) -> Vec<Step> {
         Step::Flush { desk: 1 },
         Step::Seal { desk: 0 },
         hand_over(3),
+        Step::Flush { desk: 2 },
     ];
     Vec::from_array(alloc, steps).expect(rt, "memory")
 }
 
-const EXPECTED: [Expected; 13] = [
+const EXPECTED: [Expected; 14] = [
     Expected::Offer(Offer::Kept),
     Expected::Offer(Offer::Kept),
     Expected::Offer(Offer::Kept),
@@ -225,12 +206,13 @@ const EXPECTED: [Expected; 13] = [
     Expected::Flushed(4),
     Expected::Sealed,
     Expected::Unknown,
+    Expected::Unknown,
 ];
 
 fn assert_expected(rt: &impl Abort, replies: &[Reply]) {
-    assert_eq!(rt; replies.len(), EXPECTED.len());
-    for (place, (reply, expected)) in replies.iter().zip(EXPECTED).enumerate() {
-        assert!(rt; is_as_expected(reply, expected), "at {place}: {reply:?}");
+    assert!(rt; replies.len() == EXPECTED.len());
+    for (reply, expected) in replies.iter().zip(EXPECTED) {
+        assert!(rt; is_as_expected(reply, expected));
     }
 }
 
@@ -242,7 +224,7 @@ fn left(
     receipts: &[Receipt],
 ) -> (usize, bool) {
     let window = recover(alloc, store).expect(rt, "a trace");
-    assert_eq!(rt; audit(&window, receipts), Ok(()));
+    assert!(rt; audit(&window, receipts) == Ok(()));
     let left = (window.entries.len(), window.sealed);
     drop(window);
     left
@@ -258,10 +240,7 @@ fn desks_over_ports_of_two_kinds_take_steps_in_order(rt: HostRuntime) {
     drop(steps);
     assert_expected(&rt, &replies);
     let (file_receipts, wrap_receipts) = receipts(&rt, alloc, replies);
-    assert_eq!(rt;
-        left(&rt, alloc, &mut file_store, &file_receipts),
-        (2, true)
-    );
+    assert!(rt; left(&rt, alloc, &mut file_store, &file_receipts) == (2, true));
     let (_, sealed) = left(&rt, alloc, &mut wrap_store, &wrap_receipts);
     assert!(rt; sealed);
     drop(file_receipts);

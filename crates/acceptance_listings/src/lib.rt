@@ -3,8 +3,8 @@
 #![tactic(auto)]
 
 #[cfg(test)]
-mod line_tests;
-#[cfg(test)]
 mod live_listing_tests;
+#[cfg(test)]
+mod refused_memory_folds;
 #[cfg(test)]
 mod trace_client_tests;

@@ -7,12 +7,10 @@
 #[cfg(test)]
 mod fixed_store;
 #[cfg(test)]
+mod refused_memory_audits;
+#[cfg(test)]
 mod refused_memory_desks;
 #[cfg(test)]
-mod refused_memory_folds;
-#[cfg(test)]
 mod refused_memory_ports;
-#[cfg(test)]
-mod refused_memory_terms;
 #[cfg(test)]
 mod scenes;

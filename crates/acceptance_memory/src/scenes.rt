@@ -30,16 +30,18 @@ pub(crate) const ONE_MESSAGE: &[u8] =
     b"\x01\x00\x00\x00\x38\x00\x00\x00\x00\x33\x83\x68\x04\x77\x05trace\x58\x77\x0dnonode@nohost\x00\x00\x00\x50\x00\x00\x00\x00\x00\x00\x00\x00\x77\x07receive\x77\x02ok";
 
 fn atom(alloc: Global, text: &str) -> Option<Atom> {
-    Atom::new(alloc, text)
-        .or_else(|_| Atom::new(alloc, text))
-        .ok()
+    match Atom::new(alloc, text) {
+        Ok(atom) => Some(atom),
+        Err(_) => Atom::new(alloc, text).ok(),
+    }
 }
 
 /// Room for so many of something.
 pub(crate) fn room<T>(alloc: Global, count: usize) -> Option<Vec<T>> {
-    Vec::with_capacity(alloc, count)
-        .or_else(|_| Vec::with_capacity(alloc, count))
-        .ok()
+    match Vec::with_capacity(alloc, count) {
+        Ok(room) => Some(room),
+        Err(_) => Vec::with_capacity(alloc, count).ok(),
+    }
 }
 
 /// The receipt of the atom `ok`.
@@ -59,8 +61,11 @@ pub(crate) fn pid(alloc: Global) -> Option<Pid> {
 
 /// The tracee of this number, which has room for two messages.
 pub(crate) fn tracee(alloc: Global, number: u32) -> Option<Tracee> {
-    match Tracee::new(alloc, number, pid(alloc)?, RECEIVE, 2, 100) {
-        Ok(tracee) => Some(tracee),
-        Err(_) => Tracee::new(alloc, number, pid(alloc)?, RECEIVE, 2, 100).ok(),
+    for _ in 0..2 {
+        match Tracee::new(alloc, number, pid(alloc)?, RECEIVE, 2, 100) {
+            Ok(tracee) => return Some(tracee),
+            Err(_) => {}
+        }
     }
+    None
 }

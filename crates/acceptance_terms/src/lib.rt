@@ -9,6 +9,10 @@ mod ext_format_tests;
 #[cfg(test)]
 mod intake_tests;
 #[cfg(test)]
+mod refused_memory_terms;
+#[cfg(test)]
+mod scenes;
+#[cfg(test)]
 mod trace_message_tests;
 #[cfg(test)]
 mod trace_terms_tests;

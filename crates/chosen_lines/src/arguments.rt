@@ -41,6 +41,7 @@ impl Scan {
         is_over: false,
     };
 
+    #[inline(always)]
     fn quoted(self, quote: u8, byte: u8) -> Scan
         ensures { result ≡ scan_quoted self quote byte }
     {
@@ -64,6 +65,7 @@ impl Scan {
         }
     }
 
+    #[inline(always)]
     fn closed(self) -> Scan
         ensures { result ≡ scan_closed self }
     {
@@ -80,6 +82,7 @@ impl Scan {
         }
     }
 
+    #[inline(always)]
     fn bare(self, byte: u8) -> Scan
         requires depth { self.depth < usize.MAX }
         requires commas { self.commas < usize.MAX }
@@ -112,6 +115,7 @@ impl Scan {
     }
 
     /// One byte more is read.
+    #[inline(always)]
     #[tactic(auto, unfolding(crate::specs::Arguments::scanned))]
     pub fn read(self, byte: u8) -> Scan
         requires depth { self.depth < usize.MAX }
@@ -141,6 +145,7 @@ impl Letters {
     };
 
     /// One byte more is read.
+    #[inline(always)]
     #[tactic(auto, unfolding(crate::specs::Arguments::spelled))]
     pub fn read(self, byte: u8) -> Letters
         requires { self.count < usize.MAX }

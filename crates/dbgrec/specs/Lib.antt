@@ -1,2 +1,4 @@
 pub mod Choosing
 pub mod Telling
+pub mod Serving
+pub mod Statuses

@@ -1,5 +1,5 @@
 //! The system's clock, and standard error.
-ghost use Rattle.std.specs.Prelude.{◌≡◌, ◌≤◌};
+ghost use Rattle.std.specs.Prelude.{◌≡◌, ◌≤◌, []};
 ghost use Rattle.trace_reader.specs.Observing.{newest_time};
 
 use std::io::IsTerminal;
@@ -31,7 +31,9 @@ pub struct Console {
 
 impl Console {
     /// Where nothing is to be shown, `is_quiet`.
-    pub fn new(rt: HostRuntime, is_quiet: bool) -> Console {
+    pub fn new(rt: HostRuntime, is_quiet: bool) -> Console
+        ensures { result.observed.notes ≡ [] }
+    {
         Console {
             began: Instant::now(&rt).ok(),
             millis: 0,

@@ -3,300 +3,49 @@
 
 mod choosing;
 mod console;
+mod followed;
 mod following;
 mod outlet;
+mod serving;
 mod simulation;
+mod streaming;
 mod telling;
+mod writers;
 
-use choosing::{choose_of_stream, choose_of_trace};
-use chosen_lines::{Choice, Sieve};
+ghost use Rattle.std.specs.Prelude.{◌≡◌, Result};
+ghost use Rattle.std.specs.Process.{exit_status};
+ghost use Rattle.clap.specs.Values.{kind_of};
+ghost use Rattle.stores.specs.Events.{World};
+ghost use Rattle.recorder.specs.Complaints.{status_told};
+ghost use Rattle.dbgrec.specs.Serving.{IsServed};
+ghost use Rattle.dbgrec.specs.Statuses.{status_of_done, status_of_form, status_of_misuse, EndsSo, Answers, Ends};
+
+use clap::Error as FormError;
 use clap::error::ErrorKind as MisuseKind;
-use command_line::{Asked, Misuse, Request, TraceRequest, asked_for};
-use console::Console;
-use following::{choose_of_following, tell_chosen_of_following, tell_of_following};
-use json_lines::Objects;
-use outlet::Outlet;
-use recorder::{Complaint, Files, files_for, serve_following, serve_stream, serve_trace};
+use command_line::{Misuse, Request, asked_for};
+use followed::follow;
+use outlet::{Outlet, Output};
+use recorder::Complaint;
 use script_port::SimFault;
+use serving::serve_files;
 use simulation::serve_sim;
-use std::io::{ErrorKind, IsTerminal};
+use std::io::{ErrorKind, Read};
 use std::process::ExitCode;
 use std::sync::Wait;
 use std::{env, io};
-use telling::{tell_chosen_of_stream, tell_chosen_of_trace, tell_of_stream, tell_of_trace};
-use trace_reader::Watched;
-
-/// Standard error beside standard output: where the output itself goes to a terminal, no other line is shown there.
-fn beside_output(rt: &HostRuntime) -> Console {
-    Console::new(*rt, rt.stdout().is_terminal())
-}
-
-/// The clock and standard error, for what is done with a trace. Beside a listing or a trace in numbers nothing else is shown
-/// on a terminal.
-fn console_for(rt: &HostRuntime, request: &TraceRequest<'_>) -> Console {
-    match request {
-        TraceRequest::List { .. } => beside_output(rt),
-        TraceRequest::Export(_) => beside_output(rt),
-        TraceRequest::Info { .. } => beside_output(rt),
-        _ => Console::new(*rt, false),
-    }
-}
-
-/// Does with a trace what is asked, and writes all that comes of it.
-fn serve_whole(
-    rt: &HostRuntime,
-    request: TraceRequest<'_>,
-    files: &mut Files<'_>,
-    console: &mut Console,
-    output: &mut Outlet,
-) -> Result<(), Complaint> {
-    let mut watched = Watched::new(output, console);
-    let done = serve_trace(rt, request, files, rt.stdin(), &mut watched);
-    drop(watched);
-    done
-}
-
-/// Does with a trace what is asked, and writes the lines that are chosen of what comes of it.
-fn serve_chosen(
-    rt: &HostRuntime,
-    choice: Choice,
-    request: TraceRequest<'_>,
-    files: &mut Files<'_>,
-    console: &mut Console,
-    output: &mut Outlet,
-) -> Result<(), Complaint> {
-    let mut sieve = Sieve::new(rt.alloc(), choice, output);
-    let mut watched = Watched::new(&mut sieve, console);
-    let done = choose_of_trace(rt, request, files, rt.stdin(), &mut watched);
-    drop(watched);
-    drop(sieve);
-    done
-}
-
-/// Does with a trace what is asked, and writes an object for each line of what comes of it.
-fn serve_objects(
-    rt: &HostRuntime,
-    request: TraceRequest<'_>,
-    files: &mut Files<'_>,
-    console: &mut Console,
-    output: &mut Outlet,
-) -> Result<(), Complaint> {
-    let mut objects = Objects::new(rt.alloc(), output);
-    let mut watched = Watched::new(&mut objects, console);
-    let done = tell_of_trace(rt, request, files, rt.stdin(), &mut watched);
-    drop(watched);
-    drop(objects);
-    done
-}
-
-/// Does with a trace what is asked, and writes an object for each line that is chosen of what comes of it.
-fn serve_chosen_objects(
-    rt: &HostRuntime,
-    choice: Choice,
-    request: TraceRequest<'_>,
-    files: &mut Files<'_>,
-    console: &mut Console,
-    output: &mut Outlet,
-) -> Result<(), Complaint> {
-    let objects = Objects::new(rt.alloc(), output);
-    let mut sieve = Sieve::new(rt.alloc(), choice, objects);
-    let mut watched = Watched::new(&mut sieve, console);
-    let done = tell_chosen_of_trace(rt, request, files, rt.stdin(), &mut watched);
-    drop(watched);
-    drop(sieve);
-    done
-}
-
-/// Does with a trace what is asked. Of a listing the lines that are chosen are shown, as they are or as objects.
-fn serve_files(
-    rt: &HostRuntime,
-    request: TraceRequest<'_>,
-    is_json: bool,
-    choice: Option<Choice>,
-    output: &mut Outlet,
-) -> Result<(), Complaint> {
-    let mut files = files_for(rt, &request)?;
-    let mut console = console_for(rt, &request);
-    let done = match choice {
-        None if is_json => serve_objects(rt, request, &mut files, &mut console, output),
-        None => serve_whole(rt, request, &mut files, &mut console, output),
-        Some(choice) if is_json => {
-            serve_chosen_objects(rt, choice, request, &mut files, &mut console, output)
-        }
-        Some(choice) => { serve_chosen(rt, choice, request, &mut files, &mut console, output) }
-    };
-    drop(console);
-    drop(files);
-    done
-}
-
-/// Lists a trace and what is added to it.
-fn follow_whole<R: Wait>(
-    waiter: &R,
-    is_pretty: bool,
-    files: &mut Files<'_>,
-    console: &mut Console,
-    output: &mut Outlet,
-) -> Result<(), Complaint> {
-    let mut watched = Watched::new(output, console);
-    let done = serve_following(waiter, files, is_pretty, &mut watched);
-    drop(watched);
-    done
-}
-
-/// Lists a trace and what is added to it, and writes an object for each line.
-fn follow_objects<R: Wait>(
-    rt: &HostRuntime,
-    waiter: &R,
-    is_pretty: bool,
-    files: &mut Files<'_>,
-    console: &mut Console,
-    output: &mut Outlet,
-) -> Result<(), Complaint> {
-    let mut objects = Objects::new(rt.alloc(), output);
-    let mut watched = Watched::new(&mut objects, console);
-    let done = tell_of_following(waiter, files, is_pretty, &mut watched);
-    drop(watched);
-    drop(objects);
-    done
-}
-
-/// Lists a trace and what is added to it, and writes the lines that are chosen.
-fn follow_chosen<R: Wait>(
-    rt: &HostRuntime,
-    waiter: &R,
-    choice: Choice,
-    is_pretty: bool,
-    files: &mut Files<'_>,
-    console: &mut Console,
-    output: &mut Outlet,
-) -> Result<(), Complaint> {
-    let mut sieve = Sieve::new(rt.alloc(), choice, output);
-    let mut watched = Watched::new(&mut sieve, console);
-    let done = choose_of_following(waiter, files, is_pretty, &mut watched);
-    drop(watched);
-    drop(sieve);
-    done
-}
-
-/// Lists a trace and what is added to it, and writes an object for each line that is chosen.
-fn follow_chosen_objects<R: Wait>(
-    rt: &HostRuntime,
-    waiter: &R,
-    choice: Choice,
-    is_pretty: bool,
-    files: &mut Files<'_>,
-    console: &mut Console,
-    output: &mut Outlet,
-) -> Result<(), Complaint> {
-    let objects = Objects::new(rt.alloc(), output);
-    let mut sieve = Sieve::new(rt.alloc(), choice, objects);
-    let mut watched = Watched::new(&mut sieve, console);
-    let done = tell_chosen_of_following(waiter, files, is_pretty, &mut watched);
-    drop(watched);
-    drop(sieve);
-    done
-}
-
-/// Lists a trace, and goes on with what is added to it. It may wait for that forever.
-fn follow<R: Wait>(
-    rt: &HostRuntime,
-    waiter: &R,
-    asked: Asked<'_>,
-    is_pretty: bool,
-    is_json: bool,
-    choice: Option<Choice>,
-    output: &mut Outlet,
-) -> Result<(), Complaint> {
-    let mut files = files_for(rt, &TraceRequest::List { asked, is_pretty })?;
-    let mut console = Console::new(*rt, true);
-    let done = match choice {
-        None if is_json => {
-            follow_objects(rt, waiter, is_pretty, &mut files, &mut console, output)
-        }
-        None => follow_whole(waiter, is_pretty, &mut files, &mut console, output),
-        Some(choice) if is_json => follow_chosen_objects(
-            rt,
-            waiter,
-            choice,
-            is_pretty,
-            &mut files,
-            &mut console,
-            output,
-        ),
-        Some(choice) => follow_chosen(
-            rt,
-            waiter,
-            choice,
-            is_pretty,
-            &mut files,
-            &mut console,
-            output,
-        ),
-    };
-    drop(console);
-    drop(files);
-    done
-}
-
-/// Lists an entry stream, and writes the lines that are chosen.
-fn stream_chosen(
-    rt: &HostRuntime,
-    is_pretty: bool,
-    choice: Choice,
-    output: &mut Outlet,
-) -> Result<(), Complaint> {
-    let mut sieve = Sieve::new(rt.alloc(), choice, output);
-    let done = choose_of_stream(rt.alloc(), is_pretty, rt.stdin(), &mut sieve);
-    drop(sieve);
-    done
-}
-
-/// Lists an entry stream, and writes an object for each line.
-fn stream_objects(rt: &HostRuntime, is_pretty: bool, output: &mut Outlet) -> Result<(), Complaint> {
-    let mut objects = Objects::new(rt.alloc(), output);
-    let done = tell_of_stream(rt.alloc(), is_pretty, rt.stdin(), &mut objects);
-    drop(objects);
-    done
-}
-
-/// Lists an entry stream, and writes an object for each line that is chosen.
-fn stream_chosen_objects(
-    rt: &HostRuntime,
-    is_pretty: bool,
-    choice: Choice,
-    output: &mut Outlet,
-) -> Result<(), Complaint> {
-    let objects = Objects::new(rt.alloc(), output);
-    let mut sieve = Sieve::new(rt.alloc(), choice, objects);
-    let done = tell_chosen_of_stream(rt.alloc(), is_pretty, rt.stdin(), &mut sieve);
-    drop(sieve);
-    done
-}
-
-/// Lists an entry stream. The lines that are chosen are shown, as they are or as objects.
-fn list_stream(
-    rt: &HostRuntime,
-    is_pretty: bool,
-    is_json: bool,
-    choice: Option<Choice>,
-    output: &mut Outlet,
-) -> Result<(), Complaint> {
-    match choice {
-        None if is_json => stream_objects(rt, is_pretty, output),
-        None => serve_stream(rt.alloc(), is_pretty, rt.stdin(), output),
-        Some(choice) if is_json => stream_chosen_objects(rt, is_pretty, choice, output),
-        Some(choice) => stream_chosen(rt, is_pretty, choice, output),
-    }
-}
+use streaming::list_stream;
 
 /// Does what is asked for.
-fn serve<R: Wait>(
+fn serve<R: Wait, I: Read + Drop, W: Output>(
     rt: &HostRuntime,
     waiter: &R,
     request: Request<'_>,
-    output: &mut Outlet,
-) -> Result<(), Complaint> {
+    input: I,
+    output: &mut W,
+) -> Result<(), Complaint>
+    ghost world: { World }
+    ensures { IsServed world request.entry (I.remaining input) (W.contents output.old) (W.contents output.new) result }
+{
     match request {
         Request::Follow {
             asked,
@@ -304,17 +53,17 @@ fn serve<R: Wait>(
             is_json,
             choice,
         } => follow(rt, waiter, asked, is_pretty, is_json, choice, output),
-        Request::Sim => serve_sim(rt.alloc(), rt.stdin(), output),
+        Request::Sim => serve_sim(rt.alloc(), input, output),
         Request::Stream {
             is_pretty,
             is_json,
             choice,
-        } => list_stream(rt, is_pretty, is_json, choice, output),
+        } => list_stream(rt.alloc(), is_pretty, is_json, choice, input, output),
         Request::OfTrace {
             request,
             is_json,
             choice,
-        } => serve_files(rt, request, is_json, choice, output),
+        } => serve_files(rt, request, is_json, choice, input, output),
     }
 }
 
@@ -323,13 +72,18 @@ fn words(rt: &HostRuntime) -> io::Result<Vec<String>> {
 }
 
 /// Tells what ended the command on standard error, where that can be had.
-fn fail(rt: &HostRuntime, complaint: &Complaint) -> ExitCode {
+fn fail(rt: &HostRuntime, complaint: &Complaint) -> ExitCode
+    ensures { exit_status result ≡ status_told complaint.now }
+{
     let _ = eprintln!(rt; "dbgrec: {complaint}");
     ExitCode::from(complaint.status())
 }
 
 /// Tells that standard output can't be written, and why. A reader that has closed it knows.
-fn fail_to_write(rt: &HostRuntime, complaint: &Complaint, reason: Option<io::Error>) -> ExitCode {
+fn fail_to_write(rt: &HostRuntime, complaint: &Complaint, reason: Option<io::Error>) -> ExitCode
+    requires { status_told complaint.now ≡ 1 }
+    ensures { exit_status result ≡ 1 }
+{
     let Some(reason) = reason else {
         return fail(rt, complaint);
     };
@@ -341,51 +95,80 @@ fn fail_to_write(rt: &HostRuntime, complaint: &Complaint, reason: Option<io::Err
     code
 }
 
-fn not_of_size(rt: &HostRuntime, text: &str) -> ExitCode {
+fn not_of_size(rt: &HostRuntime, text: &str) -> ExitCode
+    ensures { exit_status result ≡ 2 }
+{
     let _ = eprintln!(rt;
         "error: invalid value '{text}' for '--size <BYTES>': a number below 4294967296, with K, M or G after it or nothing\n\nFor more information, try '--help'."
     );
     ExitCode::from(2)
 }
 
-fn no_kind(rt: &HostRuntime, word: &str) -> ExitCode {
+fn no_kind(rt: &HostRuntime, word: &str) -> ExitCode
+    ensures { exit_status result ≡ 2 }
+{
     let _ = eprintln!(rt;
         "error: invalid value '{word}' for '--only <KIND[,KIND..]>': call, return, exception, send, send_lost, receive, other, opaque or drop, several with commas between them; with --pretty also OTP's other words, as spawn and exit\n\nFor more information, try '--help'."
     );
     ExitCode::from(2)
 }
 
-fn pretty_kind(rt: &HostRuntime, word: &str) -> ExitCode {
+fn pretty_kind(rt: &HostRuntime, word: &str) -> ExitCode
+    ensures { exit_status result ≡ 2 }
+{
     let _ = eprintln!(rt;
         "error: '--only {word}' needs '--pretty': without it such a message is other or opaque\n\nFor more information, try '--help'."
     );
     ExitCode::from(2)
 }
 
-fn no_process(rt: &HostRuntime, text: &str) -> ExitCode {
+fn no_process(rt: &HostRuntime, text: &str) -> ExitCode
+    ensures { exit_status result ≡ 2 }
+{
     let _ = eprintln!(rt;
         "error: invalid value '{text}' for '--pid <PID>': a process as a listing shows it, as <app@host.80.0.0> or <'app@my-host'.80.0.0>, or a port, as #Port<app@host.4.0>\n\nFor more information, try '--help'."
     );
     ExitCode::from(2)
 }
 
-fn no_function(rt: &HostRuntime, text: &str) -> ExitCode {
+fn no_function(rt: &HostRuntime, text: &str) -> ExitCode
+    ensures { exit_status result ≡ 2 }
+{
     let _ = eprintln!(rt;
         "error: invalid value '{text}' for '--mfa <M[:F[/A]]>': a module, as lists, a function, as lists:seq, or one of so many arguments, as lists:seq/2\n\nFor more information, try '--help'."
     );
     ExitCode::from(2)
 }
 
+/// The status for words that aren't of the form that the help shows.
+fn form_status(kind: MisuseKind) -> u8
+    ensures { result ≡ status_of_form kind }
+{
+    match kind {
+        MisuseKind::DisplayHelp | MisuseKind::DisplayVersion => 0,
+        MisuseKind::OutOfMemory => 1,
+        _ => 2,
+    }
+}
+
+/// Tells what is wrong with the form of the words, or shows the help that they ask for.
+fn correct_form(rt: &HostRuntime, error: &FormError) -> ExitCode
+    ensures { exit_status result ≡ status_of_form (kind_of error.now) }
+{
+    let kind = error.kind();
+    if kind == MisuseKind::OutOfMemory {
+        return no_memory(rt);
+    }
+    let _ = error.print(rt);
+    ExitCode::from(form_status(kind))
+}
+
 /// Tells what is wrong with the command line, or shows the help that it asks for.
-fn correct(rt: &HostRuntime, misuse: Misuse<'_>) -> ExitCode {
+fn correct(rt: &HostRuntime, misuse: Misuse<'_>) -> ExitCode
+    ensures { exit_status result ≡ status_of_misuse misuse.entry }
+{
     match misuse {
-        Misuse::Form(error) if error.kind() == MisuseKind::OutOfMemory => {
-            fail(rt, &Complaint::from(SimFault::NoMemory))
-        }
-        Misuse::Form(error) => {
-            let _ = error.print(rt);
-            ExitCode::from(if error.use_stderr() { 2 } else { 0 })
-        }
+        Misuse::Form(error) => correct_form(rt, &error),
         Misuse::Size(text) => not_of_size(rt, text),
         Misuse::Kind(word) => no_kind(rt, word),
         Misuse::PrettyKind(word) => pretty_kind(rt, word),
@@ -394,30 +177,55 @@ fn correct(rt: &HostRuntime, misuse: Misuse<'_>) -> ExitCode {
     }
 }
 
-/// Does what the words of the command line ask for.
-fn run<R: Wait>(rt: &HostRuntime, waiter: &R, words: &[String], output: &mut Outlet) -> ExitCode {
-    let request = match asked_for(rt.alloc(), words) {
-        Ok(request) => request,
-        Err(misuse) => return correct(rt, misuse),
-    };
-    let done = serve(rt, waiter, request, output);
-    let code = match &done {
+/// What the program ends with, once that was done. What it can't write is told with its reason.
+fn code_of(rt: &HostRuntime, done: &Result<(), Complaint>, reason: Option<io::Error>) -> ExitCode
+    ensures { exit_status result ≡ status_of_done done.now }
+{
+    match done {
         Ok(()) => ExitCode::SUCCESS,
-        Err(complaint) if complaint.is_of_writer() => {
-            fail_to_write(rt, complaint, output.reason())
-        }
+        Err(complaint) if complaint.is_of_writer() => fail_to_write(rt, complaint, reason),
         Err(complaint) => fail(rt, complaint),
-    };
+    }
+}
+
+/// Does what is asked for, with standard input.
+fn answer<R: Wait>(
+    rt: &HostRuntime,
+    waiter: &R,
+    request: Request<'_>,
+    output: &mut Outlet,
+) -> ExitCode
+    ghost world: { World }
+    ensures { EndsSo world request.entry (exit_status result) }
+{
+    let done = serve(rt, waiter, request, rt.stdin(), output);
+    let code = code_of(rt, &done, output.reason());
     drop(done);
     code
 }
 
-fn no_memory(rt: &HostRuntime) -> ExitCode {
+/// Does what the words of the command line ask for.
+fn run<R: Wait>(rt: &HostRuntime, waiter: &R, words: &[String], output: &mut Outlet) -> ExitCode
+    ghost world: { World }
+    ensures { (asked : Result Request Misuse) × Answers world asked (exit_status result) }
+{
+    match asked_for(rt.alloc(), words) {
+        Ok(request) => answer(rt, waiter, request, output),
+        Err(misuse) => correct(rt, misuse),
+    }
+}
+
+fn no_memory(rt: &HostRuntime) -> ExitCode
+    ensures { exit_status result ≡ 1 }
+{
     fail(rt, &Complaint::from(SimFault::NoMemory))
 }
 
 /// Does what the words ask for, with standard output.
-fn serve_words<R: Wait>(rt: &HostRuntime, waiter: &R, words: &[String]) -> ExitCode {
+fn serve_words<R: Wait>(rt: &HostRuntime, waiter: &R, words: &[String]) -> ExitCode
+    ghost world: { World }
+    ensures { Ends world (exit_status result) }
+{
     let Some(mut output) = Outlet::new(rt).ok() else {
         return no_memory(rt);
     };

@@ -1,15 +1,26 @@
 //! Standard output.
 
-use std::io::{self, BufWriter, Write};
+use std::io::{self, BufWriter, ErrorKind, Write};
+use std::mem;
 use std::rt::Stdout;
 
 /// What is written at a time, in bytes.
 const BUFFER: usize = 65_536;
 
-/// Standard output, by a buffer. It knows why a write failed.
+/// What is written to. It can be taken from where it is lent, so that its owner knows what it holds then: what a call did to a
+/// struct that was lent a writer is known of the struct's value, and not that it still has the same writer.
+pub trait Output: Write + Drop {
+    ghost use Rattle.std.specs.Prelude.{◌≡◌};
+
+    /// Takes it, and leaves one that refuses each byte.
+    fn take(&mut self) -> Self
+        ensures { result ≡ self.old };
+}
+
+/// Standard output, by a buffer, or nothing where it was taken. It knows why a write failed.
 #[derive(Drop)]
 pub struct Outlet {
-    inner: BufWriter<Stdout>,
+    inner: Option<BufWriter<Stdout>>,
     reason: Option<io::Error>,
 }
 
@@ -19,7 +30,7 @@ impl Outlet {
     /// Standard output, with nothing in its buffer.
     pub fn new(rt: &HostRuntime) -> io::Result<Outlet> {
         Ok(Outlet {
-            inner: BufWriter::with_capacity(rt.alloc(), BUFFER, rt.stdout())?,
+            inner: Some(BufWriter::with_capacity(rt.alloc(), BUFFER, rt.stdout())?),
             reason: None,
         })
     }
@@ -41,12 +52,28 @@ impl Outlet {
 
 impl Write for Outlet {
     fn write(&mut self, bytes: &[u8]) -> io::Result<usize> {
-        let answer = self.inner.write(bytes);
+        let Some(inner) = &mut self.inner else {
+            return Err(io::Error::from(ErrorKind::InvalidInput));
+        };
+        let answer = inner.write(bytes);
         self.noted(answer)
     }
 
     fn flush(&mut self) -> io::Result<()> {
-        let answer = self.inner.flush();
+        let Some(inner) = &mut self.inner else {
+            return Ok(());
+        };
+        let answer = inner.flush();
         self.noted(answer)
+    }
+}
+
+impl Output for Outlet {
+    fn take(&mut self) -> Outlet {
+        let taken = Outlet {
+            inner: None,
+            reason: None,
+        };
+        mem::replace(self, taken)
     }
 }

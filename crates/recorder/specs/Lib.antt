@@ -4,3 +4,4 @@ pub mod Live
 pub mod Complaints
 pub mod Commands
 pub mod Following
+pub mod Sites

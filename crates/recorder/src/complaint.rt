@@ -1,5 +1,5 @@
 //! What is told of a fault on standard error: a line, and after it what to do next.
-ghost use Rattle.std.specs.Prelude.{◌≡◌, None};
+ghost use Rattle.std.specs.Prelude.{◌≡◌, None, IsTrue};
 ghost use Rattle.recorder.specs.Complaints.{status_told};
 ghost use Rattle.recorder.specs.declared.complaint.Complaint.TheVariants as complaints;
 ghost use Rattle.script_port.specs.declared.fault.SimFault.TheVariants as faults;
@@ -187,7 +187,9 @@ impl Complaint {
     }
 
     /// Whether the writer failed.
-    pub fn is_of_writer(&self) -> bool {
+    pub fn is_of_writer(&self) -> bool
+        ensures { IsTrue result → status_told self.now ≡ 1 }
+    {
         matches!(
             self,
             Complaint::Fault {

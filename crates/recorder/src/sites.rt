@@ -1,7 +1,10 @@
 //! The files of the trace that a command line asks for.
-ghost use Rattle.std.specs.Prelude.{IfOk, IsSome};
+ghost use Rattle.std.specs.Prelude.{◌≡◌, IfOk, IfErr, IsSome};
 ghost use Rattle.stores.specs.Events.{World};
+ghost use Rattle.trace_places.specs.Finding.{IsFound};
 ghost use Rattle.recorder.specs.Commands.{Changes, IsUntouched, IsLocked};
+ghost use Rattle.recorder.specs.Complaints.{status_told};
+ghost use Rattle.recorder.specs.Sites.{asked_in, IsAtPlace};
 
 use crate::complaint::{Complaint, FAILED_DISK};
 use crate::files::Files;
@@ -15,6 +18,8 @@ pub fn files_for<'a>(rt: &HostRuntime, request: &TraceRequest<'a>) -> Result<Fil
     ghost world: { World }
     ensures past { IfOk result (IsUntouched world) }
     ensures locked { Changes request.now → IfOk result (λ files. IsSome files.locked) }
+    ensures place { IfOk result (IsAtPlace (asked_in request.now)) }
+    ensures refused { IfErr result (λ complaint. status_told complaint ≡ 1) }
 {
     match request {
         TraceRequest::Record(wanted) | TraceRequest::Import { wanted, rules: _ } => {
@@ -35,7 +40,10 @@ pub fn files_for<'a>(rt: &HostRuntime, request: &TraceRequest<'a>) -> Result<Fil
 
 /// What was found of a trace that the command line names. What the files say of themselves counts, and what the command
 /// line says has to agree.
-fn found_to_read(rt: &HostRuntime, asked: Asked<'_>) -> Result<Found, Complaint> {
+fn found_to_read(rt: &HostRuntime, asked: Asked<'_>) -> Result<Found, Complaint>
+    ensures found { IfOk result (IsFound asked.entry.shape) }
+    ensures refused { IfErr result (λ complaint. status_told complaint ≡ 1) }
+{
     let found = find(*rt, asked)?;
     if let (Some(own), Some(given)) = (found.count(), asked.count)
         && own != given
@@ -56,6 +64,8 @@ fn found_to_read(rt: &HostRuntime, asked: Asked<'_>) -> Result<Found, Complaint>
 fn files_to_read<'a>(rt: &HostRuntime, asked: Asked<'a>) -> Result<Files<'a>, Complaint>
     ghost world: { World }
     ensures past { IfOk result (IsUntouched world) }
+    ensures place { IfOk result (IsAtPlace asked.entry) }
+    ensures refused { IfErr result (λ complaint. status_told complaint ≡ 1) }
 {
     let found = found_to_read(rt, asked)?;
     let files = Files::at(*rt, asked, found)?;
@@ -69,6 +79,8 @@ fn files_to_read<'a>(rt: &HostRuntime, asked: Asked<'a>) -> Result<Files<'a>, Co
 fn files_to_wipe<'a>(rt: &HostRuntime, asked: Asked<'a>) -> Result<Files<'a>, Complaint>
     ghost world: { World }
     ensures locked { IfOk result (IsLocked world) }
+    ensures place { IfOk result (IsAtPlace asked.entry) }
+    ensures refused { IfErr result (λ complaint. status_told complaint ≡ 1) }
 {
     let found = found_to_read(rt, asked)?;
     Files::locked_at(*rt, asked, found)
@@ -78,6 +90,8 @@ fn files_to_wipe<'a>(rt: &HostRuntime, asked: Asked<'a>) -> Result<Files<'a>, Co
 fn files_to_write<'a>(rt: &HostRuntime, wanted: &Wanted<'a>) -> Result<Files<'a>, Complaint>
     ghost world: { World }
     ensures locked { IfOk result (IsLocked world) }
+    ensures place { IfOk result (IsAtPlace wanted.now.asked) }
+    ensures refused { IfErr result (λ complaint. status_told complaint ≡ 1) }
 {
     let asked = wanted.asked;
     let found = find(*rt, asked)?;

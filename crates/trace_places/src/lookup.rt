@@ -1,4 +1,7 @@
 //! What stands where a command line says that a trace is.
+ghost use Rattle.std.specs.Prelude.{◌≡◌, ◌↔◌, IsTrue, IfOk, IfSome, string_bytes};
+ghost use Rattle.trace_places.specs.Places.{file_count};
+ghost use Rattle.trace_places.specs.Finding.{count_in, MayBeFile, MayBeWrap, IsInFile, IsInOne, IsFound, IsWrapFile};
 
 use crate::place::{MOST_RUNS, Place};
 use command_line::{Asked, Shape};
@@ -21,7 +24,9 @@ pub enum Found {
 
 impl Found {
     /// The runs that a wrap keeps, where a file of it says so.
-    pub fn count(&self) -> Option<u16> {
+    pub fn count(&self) -> Option<u16>
+        ensures { result ≡ count_in self.now }
+    {
         match self {
             Found::Wrap(Some(header)) => Some(header.wrap_count),
             _ => None,
@@ -38,7 +43,9 @@ pub fn has_bytes(rt: &HostRuntime, name: &str) -> bool {
 }
 
 /// The name of the first wrap file that is there and isn't empty.
-pub fn first_wrap_file(rt: &HostRuntime, asked: Asked<'_>) -> Result<Option<String>, AllocError> {
+pub fn first_wrap_file(rt: &HostRuntime, asked: Asked<'_>) -> Result<Option<String>, AllocError>
+    ensures { IfOk result (λ file. IfSome file (λ name. IsWrapFile asked.entry (string_bytes name))) }
+{
     let place = Place::of_wrap(&asked, Some(MOST_RUNS));
     for k in 0..place.files() {
         let name = place.name(rt.alloc(), k)?;
@@ -58,13 +65,17 @@ fn header_in(rt: HostRuntime, name: String) -> Result<Option<SegHeader>, AllocEr
 }
 
 /// Whether a wrap with this header has it in file `k`. Two wraps may share a name: `t10` is a file of `t` and of `t1`.
-fn is_in_place(header: &SegHeader, k: u32) -> bool {
+fn is_in_place(header: &SegHeader, k: u32) -> bool
+    ensures { IsTrue result ↔ IsInFile header.now k }
+{
     header.kind != Kind::File
         && header.generation % (u64::from(header.wrap_count) + 1) == u64::from(k)
 }
 
 /// The header of the first wrap file that is open and in its place.
-fn wrap_header(rt: HostRuntime, place: Place<'_>) -> Result<Option<SegHeader>, AllocError> {
+fn wrap_header(rt: HostRuntime, place: Place<'_>) -> Result<Option<SegHeader>, AllocError>
+    ensures { IfOk result (IsInOne (file_count place.entry.kind)) }
+{
     for k in 0..place.files() {
         let name = place.name(rt.alloc(), k)?;
         if has_bytes(&rt, name.as_str())
@@ -77,12 +88,34 @@ fn wrap_header(rt: HostRuntime, place: Place<'_>) -> Result<Option<SegHeader>, A
     Ok(None)
 }
 
+/// Whether one file may be asked for.
+fn may_be_file(shape: Option<Shape>) -> bool
+    ensures { IsTrue result → MayBeFile shape }
+{
+    match shape {
+        Some(Shape::Wrap) => false,
+        Some(Shape::File) | None => true,
+    }
+}
+
+/// Whether a wrap may be asked for.
+fn may_be_wrap(shape: Option<Shape>) -> bool
+    ensures { IsTrue result → MayBeWrap shape }
+{
+    match shape {
+        Some(Shape::File) => false,
+        Some(Shape::Wrap) | None => true,
+    }
+}
+
 /// Looks for a trace of the shape that is asked for; where none is, for one file and then for a wrap.
-pub fn find(rt: HostRuntime, asked: Asked<'_>) -> Result<Found, AllocError> {
-    if asked.shape != Some(Shape::Wrap) && has_bytes(&rt, asked.base) {
+pub fn find(rt: HostRuntime, asked: Asked<'_>) -> Result<Found, AllocError>
+    ensures { IfOk result (IsFound asked.entry.shape) }
+{
+    if may_be_file(asked.shape) && has_bytes(&rt, asked.base) {
         return Ok(Found::File);
     }
-    if asked.shape == Some(Shape::File) || first_wrap_file(&rt, asked)?.is_none() {
+    if !may_be_wrap(asked.shape) || first_wrap_file(&rt, asked)?.is_none() {
         return Ok(Found::Nothing);
     }
     Ok(Found::Wrap(wrap_header(rt, Place::of_wrap(&asked, Some(MOST_RUNS)))?))

@@ -1,5 +1,6 @@
 //! Where a trace is stored.
-ghost use Rattle.std.specs.Prelude.{◌≡◌, ◌≤◌};
+ghost use Rattle.std.specs.Prelude.{◌≡◌, ◌≤◌, [], unwrap_or};
+ghost use Rattle.std.specs.Option.{option_copied};
 ghost use Rattle.trace_places.specs.Places.{file_count, turn_of};
 
 use crate::lookup::Found;
@@ -56,18 +57,27 @@ pub struct Place<'a> {
 }
 
 impl<'a> Place<'a> {
+    ghost use Rattle.trace_places.specs.Finding.{runs_by, IsOfKind, IsPlaceFor};
+    ghost use Rattle.trace_places.specs.declared.place.Kind.TheVariants as kinds;
+
     /// Where the trace is that the command line asks for, by what was found of it.
-    pub fn of(asked: &Asked<'a>, found: &Found) -> Place<'a> {
+    pub fn of(asked: &Asked<'a>, found: &Found) -> Place<'a>
+        ensures { IsPlaceFor asked.now found.now result }
+    {
         match found {
             Found::File => Place::of_file(asked),
             Found::Wrap(_) => Place::of_wrap(asked, found.count()),
-            Found::Nothing if asked.shape == Some(Shape::Wrap) => Place::of_wrap(asked, None),
-            Found::Nothing => Place::of_file(asked),
+            Found::Nothing => match asked.shape {
+                Some(Shape::Wrap) => Place::of_wrap(asked, None),
+                Some(Shape::File) | None => Place::of_file(asked),
+            },
         }
     }
 
     /// The trace of one file.
-    pub fn of_file(asked: &Asked<'a>) -> Place<'a> {
+    pub fn of_file(asked: &Asked<'a>) -> Place<'a>
+        ensures { IsOfKind kinds.File asked.now result }
+    {
         Place {
             kind: Kind::File,
             base: asked.base,
@@ -76,15 +86,27 @@ impl<'a> Place<'a> {
     }
 
     /// The wrap that keeps so many runs, or what the command line says.
-    pub fn of_wrap(asked: &Asked<'a>, found: Option<u16>) -> Place<'a> {
+    pub fn of_wrap(asked: &Asked<'a>, found: Option<u16>) -> Place<'a>
+        ensures { IsOfKind (kinds.Wrap (runs_by found asked.now.count)) asked.now result }
+    {
         let count = found.or(asked.count).unwrap_or(STANDARD_RUNS);
         Place {
             kind: Kind::Wrap {
                 count: count.min(MOST_RUNS),
             },
             base: asked.base,
-            suffix: asked.suffix.unwrap_or(""),
+            suffix: suffix_of(asked),
         }
+    }
+}
+
+/// What the names of wrap files end with.
+fn suffix_of<'a>(asked: &Asked<'a>) -> &'a str
+    ensures { result.now ≡ unwrap_or (option_copied asked.now.suffix) [] }
+{
+    match asked.suffix {
+        Some(suffix) => suffix,
+        None => "",
     }
 }
 

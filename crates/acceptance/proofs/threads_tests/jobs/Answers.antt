@@ -6,4 +6,4 @@ use Rattle.acceptance.proofs.threads_tests.jobs.Goals as goal
 
 pub loop-number-preserved : goal.loop-number-preserved
 loop-number-preserved g c =
-    subst (λ (l : List _). All (λ job. IsReady job) l) (sym c.in_ok-push.ensures.items) (All-push (λ job. IsReady job) c.loop-number.jobs.items c.job-job.result c.loop-number.invariant c.job-job.ensures)
+    subst (λ (l : List _). All (λ job. IsReady job) l) (sym c.in_ok-push.ensures.items) (All-push (λ job. IsReady job) c.loop-number.jobs.items c.in_ok-job.job c.loop-number.invariant c.in_ok-job.ensures)

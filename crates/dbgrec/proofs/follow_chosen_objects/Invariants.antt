@@ -1,9 +1,0 @@
-use Rattle.std.proofs.Common.{None, []}
-use Rattle.json_lines.specs.Held.{objects_contents}
-use Rattle.dbgrec.proofs.follow_chosen_objects.Given as goal
-
-abbrev pub ghost-new : goal.ghost-new
-ghost-new g a = None
-
-abbrev pub ghost-new-2 : goal.ghost-new-2
-ghost-new-2 g a = objects_contents None []

@@ -1,0 +1,27 @@
+use Rattle.std.proofs.Common.{◌≡◌, rules}
+use Rattle.recorder.specs.Commands.{Serves}
+use Rattle.trace_recording.specs.Incoming.{outside}
+use Rattle.dbgrec.specs.Telling.{TellsObjects}
+use Rattle.dbgrec.proofs.Along.{along}
+use Rattle.dbgrec.proofs.serving.serve_objects.Goals as goal
+
+pub returns : goal.returns
+returns g c =
+    let contents = g.W.Write.contents in
+    let observed = g.H.Host.observed in
+    let begun = c.new-watched.result in
+    let call = c.tell_of_trace-done in
+    let end = call.new.watched in
+    let promised = call.ensures in
+    let had = g.R.Read.remaining c.args.input in
+    let begins : contents begun.writer.now.out ≡ contents c.args.output.now = search rules in
+    let ends : contents end.writer.now.out ≡ contents c.out_of_lent_objects.result = search rules in
+    let seen : observed begun.host.now ≡ observed c.args.host.now = search rules in (
+      observed end.host.now,
+      (
+        end.writer.now.is_refused,
+        promised.0,
+        along (λ s was now. TellsObjects (λ before after. Serves c.args.request c.args.files.now call.new.files (outside had 0 s) (observed end.host.now) before after promised.0) was now) seen begins ends promised.1,
+        promised.2,
+      ),
+    )

@@ -1,0 +1,28 @@
+-- Where the files of a trace are, by what the command line asks.
+use Rattle.std.specs.Prelude.{◌≡◌}
+use Rattle.command_line.specs.declared.request.Asked.{Asked}
+use Rattle.command_line.specs.declared.request.TraceRequest.{TraceRequest}
+use Rattle.command_line.specs.declared.request.TraceRequest.TheVariants as requests
+use Rattle.recorder.specs.declared.files.Files.{Files}
+use Rattle.trace_places.specs.Finding.{IsFound, IsPlaceFor}
+use Rattle.trace_places.specs.declared.lookup.Found.{Found}
+
+-- what a request says of where its trace is
+abbrev pub asked_in : TraceRequest → Asked
+asked_in (requests.Record wanted) = wanted.asked
+asked_in (requests.Import wanted rules) = wanted.asked
+asked_in (requests.List asked is_pretty) = asked
+asked_in (requests.Export asked) = asked
+asked_in (requests.Info asked is_json) = asked
+asked_in (requests.Wipe asked is_forced) = asked
+
+-- files in the place of what is asked, by what was found of it
+pub record IsAt (asked : Asked) (found : Found) (files : Files) : Type 0 where
+  pub found_is : files.found ≡ found
+  pub place : IsPlaceFor asked found files.place
+
+-- the same of something that may be found where that is asked
+pub record IsAtPlace (asked : Asked) (files : Files) : Type 0 where
+  pub found : Found
+  pub may_be : IsFound asked.shape found
+  pub at : IsAt asked found files
