@@ -52,7 +52,7 @@ fn is_respelled(
     canonical: &[u8],
 ) -> bool {
     let (term, size) = reading(rt, alloc, bytes);
-    assert!(rt; size == end);
+    assert_eq!(rt; size, end);
     let is_same = is_spelled(rt, alloc, &term, canonical);
     drop(term);
     is_same
@@ -112,7 +112,7 @@ fn integers_have_their_shortest_form(rt: HostRuntime) {
     ];
     for (number, bytes) in table {
         let spelled = spelling(&rt, rt.alloc(), &Term::Int(number));
-        assert!(rt; spelled.as_slice() == bytes);
+        assert_eq!(rt; spelled.as_slice(), bytes);
         drop(spelled);
     }
 }
@@ -133,7 +133,7 @@ fn the_end_of_a_spelling_is_found(rt: HostRuntime) {
     ];
     for (number, size, bytes) in table {
         let read = reading(&rt, rt.alloc(), bytes);
-        assert!(rt; read == (Term::Int(number), size));
+        assert_eq!(rt; read, (Term::Int(number), size));
         drop(read);
     }
 }
@@ -228,7 +228,7 @@ fn deepest_lists(rt: &impl Abort, alloc: Global) -> Vec<u8> {
 fn lists_are_nested_64_deep_and_no_deeper(rt: HostRuntime) {
     let bytes = deepest_lists(&rt, rt.alloc());
     let (deepest, size) = reading(&rt, rt.alloc(), &bytes);
-    assert!(rt; size == bytes.len());
+    assert_eq!(rt; size, bytes.len());
     assert!(rt; is_spelled(&rt, rt.alloc(), &deepest, &bytes));
     drop(bytes);
     let deeper = Term::List(Vec::from_array(rt.alloc(), [deepest]).expect(&rt, "memory"));
@@ -241,7 +241,7 @@ fn a_spelling_has_at_most_65531_bytes(rt: HostRuntime) {
     let longest = Term::Binary(joined(&rt, rt.alloc(), b"", b"\x00", 65_525, b""));
     let spelled = spelling(&rt, rt.alloc(), &longest);
     drop(longest);
-    assert!(rt; spelled.len() == 65_531);
+    assert_eq!(rt; spelled.len(), 65_531);
     drop(spelled);
     let longer = Term::Binary(joined(&rt, rt.alloc(), b"", b"\x00", 65_526, b""));
     assert!(rt; refusal_of(rt.alloc(), &longer) == Some(EncodeFault::TooLong));

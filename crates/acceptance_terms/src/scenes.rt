@@ -56,13 +56,18 @@ pub(crate) fn pid(alloc: Global) -> Option<Pid> {
     })
 }
 
+fn made(alloc: Global, capacity: u32, drop_limit: u32) -> Option<Tracee> {
+    let pid = pid(alloc)?;
+    match Tracee::new(alloc, 7, pid, RECEIVE, capacity, drop_limit) {
+        Ok(tracee) => Some(tracee),
+        Err(_) => None,
+    }
+}
+
 /// The tracee 7, with room for so many messages, which loses at most so many in a row.
 pub(crate) fn tracee(alloc: Global, capacity: u32, drop_limit: u32) -> Option<Tracee> {
-    for _ in 0..TRIES {
-        match Tracee::new(alloc, 7, pid(alloc)?, RECEIVE, capacity, drop_limit) {
-            Ok(tracee) => return Some(tracee),
-            Err(_) => {}
-        }
+    match made(alloc, capacity, drop_limit) {
+        Some(tracee) => Some(tracee),
+        None => made(alloc, capacity, drop_limit),
     }
-    None
 }

@@ -29,7 +29,7 @@ fn binary(rt: &impl Abort, alloc: Global) -> Term {
 fn an_atom_has_at_most_255_characters(rt: HostRuntime) {
     let text = repeated(&rt, rt.alloc(), 'é', 255);
     let atom = Atom::new(rt.alloc(), text.as_str()).expect(&rt, "255 characters");
-    assert!(rt; atom.text() == text.as_str());
+    assert_eq!(rt; atom.text(), text.as_str());
     drop(atom);
     drop(text);
     for character in ['a', 'é'] {
@@ -59,10 +59,10 @@ fn a_depth_above_65_is_answered_as_65(rt: HostRuntime) {
         (200, 65),
     ];
     for (depth, answer) in table {
-        assert!(rt; depth_of(nested(&rt, rt.alloc(), depth)) == answer);
+        assert_eq!(rt; depth_of(nested(&rt, rt.alloc(), depth)), answer);
     }
-    assert!(rt; depth_of(Term::Tuple(Vec::new(rt.alloc()))) == 1);
-    assert!(rt; depth_of(binary(&rt, rt.alloc())) == 0);
+    assert_eq!(rt; depth_of(Term::Tuple(Vec::new(rt.alloc()))), 1);
+    assert_eq!(rt; depth_of(binary(&rt, rt.alloc())), 0);
 }
 
 /// A process, nested lists and a binary in a tuple.
@@ -82,7 +82,7 @@ fn of_each_kind(rt: &impl Abort, alloc: Global) -> Term {
 fn a_copy_equals_its_source(rt: HostRuntime) {
     let term = of_each_kind(&rt, rt.alloc());
     let copied = term.copy().expect(&rt, "memory");
-    assert!(rt; copied == term);
+    assert_eq!(rt; copied, term);
     drop(term);
     let other = nested(&rt, rt.alloc(), 3);
     assert_ne!(rt; copied, other);
