@@ -32,15 +32,15 @@ def a_wrap_of_60_megabytes_is_listed_and_exported_in_8(program):
 
 @case
 def a_large_wrap_that_is_written_is_listed_and_exported_in_8_too(program):
-    entries = [message(bytes(60_000))] * 2_000
-    wrap = ("t", "--kind", "wrap", "--size", "30000000", "--count", "3")
+    entries = [message(bytes(60_000))] * 2_200
+    wrap = ("t", "--kind", "wrap", "--size", "30000000", "--count", "4")
     with program.start("import", *wrap, "--flush", "always") as importer:
         same(importer.line(), "created")
         importer.write(b"".join(entries))
         deadline = time.monotonic() + PATIENCE
-        while b"1999 opaque" not in program.run("list", *wrap[:3], before=SMALL).output:
+        while b"2199 opaque" not in program.run("list", *wrap[:3], before=SMALL).output:
             assert time.monotonic() < deadline
-        first, kept = window(entries, 30_000_000, 3)
+        first, kept = window(entries, 30_000_000, 4)
         exported = program.run("export", *wrap[:3], before=SMALL)
         same((exported.status, exported.errors), (0, b""))
         assert exported.output == b"".join(kept)
