@@ -66,15 +66,13 @@ fn count<'a>(alloc: Global) -> Arg<'a> {
     .value_parser(value_parser!(u16).range(1..=1000))
 }
 
-/// A command over the files of a trace.
+/// A command over the files of a trace, with the options that say which.
 fn of_files<'a>(
     alloc: Global,
-    name: &'a str,
-    about: &'a str,
+    command: Command<'a>,
     example: &'a str,
 ) -> Result<Command<'a>, AllocError> {
-    Command::new(alloc, name)
-        .about(about)
+    command
         .after_help(example)
         .arg(base(alloc))?
         .arg(kind(alloc))?
@@ -112,11 +110,10 @@ fn after_failure<'a>(alloc: Global) -> Arg<'a> {
 /// A command that makes the files where there is no trace yet.
 fn of_new_files<'a>(
     alloc: Global,
-    name: &'a str,
-    about: &'a str,
+    command: Command<'a>,
     example: &'a str,
 ) -> Result<Command<'a>, AllocError> {
-    of_files(alloc, name, about, example)?
+    of_files(alloc, command, example)?
         .arg(size(alloc))?
         .arg(time(alloc))?
         .arg(after_failure(alloc))
@@ -142,11 +139,10 @@ fn keep_open<'a>(alloc: Global) -> Arg<'a> {
 }
 
 /// The command that records an entry stream.
-fn import<'a>(alloc: Global) -> Result<Command<'a>, AllocError> {
+fn import<'a>(alloc: Global, command: Command<'a>) -> Result<Command<'a>, AllocError> {
     of_new_files(
         alloc,
-        "import",
-        "Records the entry stream of a node from standard input, and seals the trace at its end",
+        command,
         "A trace that is there and not sealed is gone on with. A sealed one is kept by export and cleared by wipe. A stream that is truncated or broken doesn't seal.\n\nExample: nc HOST 4711 | dbgrec import trace --kind wrap",
     )?
     .arg(flush(alloc))?
@@ -154,11 +150,10 @@ fn import<'a>(alloc: Global) -> Result<Command<'a>, AllocError> {
 }
 
 /// The command that records what a script says.
-fn record<'a>(alloc: Global) -> Result<Command<'a>, AllocError> {
+fn record<'a>(alloc: Global, command: Command<'a>) -> Result<Command<'a>, AllocError> {
     of_new_files(
         alloc,
-        "record",
-        "Records what a script from standard input says, and seals the trace at its end",
+        command,
         "Example: dbgrec record trace < desk.script",
     )
 }
@@ -242,80 +237,115 @@ fn follow<'a>(alloc: Global) -> Arg<'a> {
     .short('f')
 }
 
-fn list<'a>(alloc: Global) -> Result<Command<'a>, AllocError> {
+fn list<'a>(alloc: Global, command: Command<'a>) -> Result<Command<'a>, AllocError> {
     let command = of_files(
         alloc,
-        "list",
-        "Lists a stored trace on standard output",
+        command,
         "With --from, --to, --only, --pid or --mfa it shows the entries of which all of these hold, each with its number, and all drop records.\n\nExample: dbgrec list -p trace",
     )?
     .arg(follow(alloc))?;
     with_choice(alloc, command)
 }
 
-fn export<'a>(alloc: Global) -> Result<Command<'a>, AllocError> {
+fn export<'a>(alloc: Global, command: Command<'a>) -> Result<Command<'a>, AllocError> {
     of_files(
         alloc,
-        "export",
-        "Writes a stored trace on standard output, as the entry stream that dbg:trace_client reads",
+        command,
         "Example: dbgrec export trace > trace.out",
     )
 }
 
-fn info<'a>(alloc: Global) -> Result<Command<'a>, AllocError> {
+fn info<'a>(alloc: Global, command: Command<'a>) -> Result<Command<'a>, AllocError> {
     of_files(
         alloc,
-        "info",
-        "Tells what a stored trace holds, in numbers",
+        command,
         "Example: dbgrec info trace",
     )?
     .arg(flag(alloc, "json", "As one JSON object"))
 }
 
-fn wipe<'a>(alloc: Global) -> Result<Command<'a>, AllocError> {
+fn wipe<'a>(alloc: Global, command: Command<'a>) -> Result<Command<'a>, AllocError> {
     of_files(
         alloc,
-        "wipe",
-        "Clears a stored trace, for good",
+        command,
         "Example: dbgrec wipe trace",
     )?
     .arg(flag(alloc, "force", "Clears files that aren't of a trace too"))
 }
 
-fn stream<'a>(alloc: Global) -> Result<Command<'a>, AllocError> {
-    let command = Command::new(alloc, "stream")
-        .about(
-            "Lists an entry stream from standard input on standard output, each line as it comes",
-        )
-        .after_help("Example: nc HOST 4711 | dbgrec stream -p");
+fn stream<'a>(alloc: Global, command: Command<'a>) -> Result<Command<'a>, AllocError> {
+    let command = command.after_help("Example: nc HOST 4711 | dbgrec stream -p");
     with_choice(alloc, command)
 }
 
-fn sim<'a>(alloc: Global) -> Command<'a> {
-    Command::new(alloc, "sim")
-        .about("Runs a script from standard input over a store in memory")
-        .after_help("Example: dbgrec sim < examples/first.script")
+/// The commands, and what the help says that each does.
+const COMMANDS: [(&str, &str); 8] = [
+    (
+        "import",
+        "Records the entry stream of a node from standard input, and seals the trace at its end",
+    ),
+    ("list", "Lists a stored trace on standard output"),
+    (
+        "export",
+        "Writes a stored trace on standard output, as the entry stream that dbg:trace_client reads",
+    ),
+    ("info", "Tells what a stored trace holds, in numbers"),
+    ("wipe", "Clears a stored trace, for good"),
+    (
+        "stream",
+        "Lists an entry stream from standard input on standard output, each line as it comes",
+    ),
+    (
+        "record",
+        "Records what a script from standard input says, and seals the trace at its end",
+    ),
+    ("sim", "Runs a script from standard input over a store in memory"),
+];
+
+/// A command with its options.
+fn with_options<'a>(
+    alloc: Global,
+    name: &str,
+    command: Command<'a>,
+) -> Result<Command<'a>, AllocError> {
+    match name {
+        "import" => import(alloc, command),
+        "list" => list(alloc, command),
+        "export" => export(alloc, command),
+        "info" => info(alloc, command),
+        "wipe" => wipe(alloc, command),
+        "stream" => stream(alloc, command),
+        "record" => record(alloc, command),
+        _ => Ok(command.after_help("Example: dbgrec sim < examples/first.script")),
+    }
 }
 
-/// A command with those that read a stored trace.
-fn with_readers<'a>(alloc: Global, command: Command<'a>) -> Result<Command<'a>, AllocError> {
-    command
-        .subcommand(list(alloc)?)?
-        .subcommand(export(alloc)?)?
-        .subcommand(info(alloc)?)
+/// Whether a word is among those of a command line.
+fn is_among<S: AsStr>(words: &[S], name: &str) -> bool {
+    for word in words {
+        if word.as_str() == name {
+            return true;
+        }
+    }
+    false
 }
 
-fn dbgrec<'a>(alloc: Global) -> Result<Command<'a>, AllocError> {
-    let command = Command::new(alloc, "dbgrec")
+/// The program's commands. One whose name isn't among the words has no options: nothing that is said shows them.
+fn dbgrec<'a, S: AsStr>(alloc: Global, words: &[S]) -> Result<Command<'a>, AllocError> {
+    let mut all = Command::new(alloc, "dbgrec")
         .version("0.1.0")
         .about("Records traces as dbg of Erlang does, and lists what a crash has left of them")
         .subcommand_required(true)
         .arg_required_else_help(true);
-    with_readers(alloc, command.subcommand(import(alloc)?)?)?
-        .subcommand(wipe(alloc)?)?
-        .subcommand(stream(alloc)?)?
-        .subcommand(record(alloc)?)?
-        .subcommand(sim(alloc))
+    for (name, about) in COMMANDS {
+        let command = Command::new(alloc, name).about(about);
+        all = if is_among(words, name) {
+            all.subcommand(with_options(alloc, name, command)?)?
+        } else {
+            all.subcommand(command)?
+        };
+    }
+    Ok(all)
 }
 
 /// What the options say of where a trace is.
@@ -495,6 +525,6 @@ fn request_in<'a>(alloc: Global, matches: &ArgMatches<'a>) -> Result<Request<'a>
 
 /// What the words ask for, of which the first is the program's name.
 pub fn asked_for<'a, S: AsStr>(alloc: Global, words: &'a [S]) -> Result<Request<'a>, Misuse<'a>> {
-    let matches = dbgrec(alloc)?.try_get_matches_from(words)?;
+    let matches = dbgrec(alloc, words)?.try_get_matches_from(words)?;
     request_in(alloc, &matches)
 }
