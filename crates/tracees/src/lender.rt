@@ -1,6 +1,6 @@
 //! What a lender knows of a port, or of a store, that went through a desk.
 
-ghost use Rattle.std.specs.Prelude.{◌≡◌, ◌++◌, ℕ, [], IsTrue};
+ghost use Rattle.std.specs.Prelude.{◌≡◌, ◌++◌, ℕ, []};
 ghost use Rattle.segment.specs.Specification.{File};
 ghost use Rattle.recovery.specs.Views.{View, total};
 ghost use Rattle.intake.specs.Tracees.{waiting_of};
@@ -10,11 +10,10 @@ ghost use Rattle.trace_port.specs.Sound.{Sound};
 ghost use Rattle.trace_port.specs.Port.{Fits, IsSaved};
 ghost use Rattle.trace_port.specs.Opened.{opened_told};
 ghost use Rattle.trace_port.specs.FilePort.{file_told};
-ghost use Rattle.tracees.specs.Books.{no_totals};
 ghost use Rattle.tracees.specs.Hands.{moved_by, items_moved};
 ghost use Rattle.tracees.specs.Lent.{HandsOne, RecordsOne};
 ghost use Rattle.tracees.specs.Loans.{KeepsLoan};
-ghost use Rattle.tracees.specs.Meanings.{KeepsMeaning};
+ghost use Rattle.tracees.specs.Meanings.{MayStand};
 
 use crate::book::{Bookkeeping, PlainBook};
 use crate::desk::Desk;
@@ -33,10 +32,7 @@ pub fn hand_one<P: TracePort, K: Bookkeeping>(
     tracee: Tracee,
     limit: u32,
 ) -> (Tracee, Result<Receipt, HandFault>)
-    requires totals { K.totals_of book ≡ no_totals }
-    requires attached { K.attached_of book ≡ 0 }
-    requires number { IsTrue K.shared → number ≡ K.desk }
-    requires fits { IsTrue K.shared → KeepsMeaning (P.told port.old) }
+    requires may_stand { MayStand K.Bookkeeping book number (P.told port.old) }
     ensures hands { KeepsLoan P.TracePort port.old port.new (HandsOne P.told number port.old port.new limit tracee result.0 result.1) }
 {
     let mut desk = Desk::new(number, port, book);
