@@ -1,8 +1,8 @@
 //! What is done at a desk with a book of ledgers.
 
 ghost use Rattle.std.specs.Prelude.{◌≡◌};
-ghost use Rattle.tracees.specs.Books.{no_totals};
 ghost use Rattle.tracees.specs.Meanings.{KeepsMeaning};
+ghost use Rattle.acceptance.specs.Beginnings.{Begins};
 
 use crate::refused_memory_threads::finished_by;
 use crate::scenes::GREATEST;
@@ -51,10 +51,7 @@ fn work_by<P: TracePort, K: SharedBook, R: Threads + Wait + Abort + Sync>(
     book: K,
     work: Work,
 ) -> Told
-    requires totals { K.totals_of book ≡ no_totals }
-    requires attached { K.attached_of book ≡ 0 }
-    requires number { K.desk ≡ 7 }
-    requires fits { KeepsMeaning (P.told port.old) }
+    requires begins { Begins P.TracePort K.Bookkeeping port.old book }
 {
     match work {
         Work::Run(plan) => Told::Ran(run_by(rt, alloc, port, book, plan)),

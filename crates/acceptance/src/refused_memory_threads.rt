@@ -1,9 +1,8 @@
 //! Jobs on threads, while memory is refused.
 
-ghost use Rattle.std.specs.Prelude.{◌≡◌, All};
-ghost use Rattle.tracees.specs.Books.{no_totals};
+ghost use Rattle.std.specs.Prelude.{All};
 ghost use Rattle.tracees.specs.Jobs.{IsReady};
-ghost use Rattle.tracees.specs.Meanings.{KeepsMeaning};
+ghost use Rattle.acceptance.specs.Beginnings.{Begins};
 
 use crate::ledgers::{Told, Work, over_a_file};
 use crate::threads_tests::{Do, Plan, Until, jobs};
@@ -75,10 +74,7 @@ pub(crate) fn finished_by<P: TracePort, K: SharedBook, R: Threads + Wait + Abort
     port: &mut P,
     book: K,
 ) -> bool
-    requires totals { K.totals_of book ≡ no_totals }
-    requires attached { K.attached_of book ≡ 0 }
-    requires number { K.desk ≡ 7 }
-    requires fits { KeepsMeaning (P.told port.old) }
+    requires begins { Begins P.TracePort K.Bookkeeping port.old book }
 {
     let mut desk = Desk::new(7, port, book);
     let jobs = jobs(rt, alloc, &mut desk, TWO);

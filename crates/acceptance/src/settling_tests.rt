@@ -1,6 +1,4 @@
-ghost use Rattle.std.specs.Prelude.{◌≡◌};
-ghost use Rattle.tracees.specs.Books.{no_totals};
-ghost use Rattle.tracees.specs.Meanings.{KeepsMeaning};
+ghost use Rattle.acceptance.specs.Beginnings.{Begins};
 
 use crate::ledgers::{Told, Work, over_a_file};
 use crate::scenes::{attach, emit};
@@ -86,10 +84,7 @@ pub(crate) fn settled_by<P: TracePort, K: SharedBook>(
     book: K,
     all: bool,
 ) -> Result<Totals, usize>
-    requires totals { K.totals_of book ≡ no_totals }
-    requires attached { K.attached_of book ≡ 0 }
-    requires number { K.desk ≡ 7 }
-    requires fits { KeepsMeaning (P.told port.old) }
+    requires begins { Begins P.TracePort K.Bookkeeping port.old book }
 {
     let mut desk = Desk::new(7, port, book);
     let mut one = attach(rt, alloc, &mut desk, 7, 80, 2);

@@ -1,7 +1,6 @@
-ghost use Rattle.std.specs.Prelude.{◌≡◌, ◌↔◌, ◌<◌, All, IfOk, IsTrue, ⊤};
-ghost use Rattle.tracees.specs.Books.{no_totals};
+ghost use Rattle.std.specs.Prelude.{◌↔◌, ◌<◌, All, IfOk, IsTrue, ⊤};
 ghost use Rattle.tracees.specs.Jobs.{IsReady};
-ghost use Rattle.tracees.specs.Meanings.{KeepsMeaning};
+ghost use Rattle.acceptance.specs.Beginnings.{Begins};
 
 use crate::ledgers::{Told, Work, over_a_file, over_a_wrap};
 use crate::scenes::{MOMENT, receipt_of_ok, tracee};
@@ -188,10 +187,7 @@ pub(crate) fn run_by<P: TracePort, K: SharedBook, R: Threads + Wait + Abort + Sy
     book: K,
     plan: Plan,
 ) -> End
-    requires totals { K.totals_of book ≡ no_totals }
-    requires attached { K.attached_of book ≡ 0 }
-    requires number { K.desk ≡ 7 }
-    requires fits { KeepsMeaning (P.told port.old) }
+    requires begins { Begins P.TracePort K.Bookkeeping port.old book }
 {
     let gate = Meeting {
         jobs: u64::from(plan.jobs),
@@ -398,10 +394,7 @@ pub(crate) fn run_one_by<P: TracePort, K: SharedBook, R: Threads + Wait + Abort 
     gate: &Until,
     seals: bool,
 ) -> (JobState, usize)
-    requires totals { K.totals_of book ≡ no_totals }
-    requires attached { K.attached_of book ≡ 0 }
-    requires number { K.desk ≡ 7 }
-    requires fits { KeepsMeaning (P.told port.old) }
+    requires begins { Begins P.TracePort K.Bookkeeping port.old book }
 {
     let plan = Plan {
         jobs: 1,

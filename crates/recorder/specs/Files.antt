@@ -1,7 +1,7 @@
 -- What is done with the real files of a trace.
 use Rattle.std.specs.Prelude.{◌≡◌, ℕ, true, Option, Some, None, List, Result, Ok, Err, OnOk}
 use Rattle.std.specs.Io.KnownBytes.{Appends}
-use Rattle.trace_reader.specs.DeviceReads.{DeviceReads}
+use Rattle.segment.specs.DeviceCalls.{DeviceReads}
 use Rattle.segment.specs.Pieces.{OnlyReads}
 use Rattle.stores.specs.FolderStore.{honest_of, reads_of, images_of, moments_of, clock_of}
 use Rattle.stores.specs.declared.folder_store.FolderStore.{FolderStore}

@@ -82,18 +82,30 @@ impl Refusal {
 }
 
 impl From<DeviceFault> for Refusal {
+    ghost use Rattle.script_port.specs.declared.refusal.Refusal.TheVariants.{Device};
+
+    ghost from_gives = { λ _ refusal. refusal ≡ Device };
+
     fn from(_fault: DeviceFault) -> Refusal {
         Refusal::Device
     }
 }
 
 impl From<AllocError> for Refusal {
+    ghost use Rattle.script_port.specs.declared.refusal.Refusal.TheVariants.{NoMemory};
+
+    ghost from_gives = { λ _ refusal. refusal ≡ NoMemory };
+
     fn from(_fault: AllocError) -> Refusal {
         Refusal::NoMemory
     }
 }
 
 impl<T: Drop> From<AllocFailed<T>> for Refusal {
+    ghost use Rattle.script_port.specs.declared.refusal.Refusal.TheVariants.{NoMemory};
+
+    ghost from_gives = { λ _ refusal. refusal ≡ NoMemory };
+
     fn from(_fault: AllocFailed<T>) -> Refusal {
         Refusal::NoMemory
     }

@@ -1,11 +1,12 @@
 //! A store with other bytes in one of its files.
-ghost use Rattle.std.specs.Prelude.{◌≡◌, ◌<◌, ◌≤◌, IfOk, length, set};
+ghost use Rattle.std.specs.Prelude.{◌≡◌, ◌+◌, ◌*◌, ◌<◌, ◌≤◌, IfOk, length, set};
 ghost use Rattle.trace_store.specs.Disk.{file_of};
 ghost use Rattle.stores.specs.Calls.{contents_of};
 ghost use Rattle.stores.specs.MemStore.{reads_of, fuse_of, IsSettled};
 ghost use Rattle.stores.specs.declared.fuse.Fuse.TheVariants.{Whole};
-ghost use Rattle.segment.specs.Pieces.{OnlyReads};
 ghost use Rattle.simulator.specs.Simulated.{OnlyLooked};
+ghost use Rattle.segment.specs.DeviceCalls.{DeviceReads};
+ghost use Rattle.simulator.specs.Stored.{TellsRefusal};
 
 use script_port::Refusal;
 use std::alloc::Global;
@@ -41,7 +42,7 @@ fn replace(contents: &mut Vec<Vec<u8>>, file: usize, own: Vec<u8>)
 
 /// What a read gives of each file.
 fn contents_of<S: Store>(alloc: Global, store: &mut S) -> Result<Vec<Vec<u8>>, Refusal>
-    ensures only_reads { OnlyReads S.honest S.clock_of S.reads S.images S.moments store.old store.new }
+    ensures device { DeviceReads S.Store TellsRefusal store.old store.new result (S.clock_of store.new ≤ S.clock_of store.old + 2 * length (S.reads store.old)) }
     ensures count { IfOk result (λ contents. length contents.items ≡ length (S.reads store.old)) }
     ensures read { S.honest store.new → IfOk result (λ contents. contents_of contents.items ≡ S.reads store.old) }
 {
@@ -55,7 +56,7 @@ fn contents_of<S: Store>(alloc: Global, store: &mut S) -> Result<Vec<Vec<u8>>, R
 /// What a read gives of a file.
 pub fn bytes_of<S: Store>(alloc: Global, store: &mut S, file: u32) -> Result<Vec<u8>, Refusal>
     requires { file < length (S.reads store.old) }
-    ensures only_reads { OnlyReads S.honest S.clock_of S.reads S.images S.moments store.old store.new }
+    ensures device { DeviceReads S.Store TellsRefusal store.old store.new result (S.clock_of store.new ≤ S.clock_of store.old + 2) }
     ensures read { S.honest store.new → IfOk result (λ bytes. bytes.items ≡ file_of (S.reads store.old) file) }
 {
     let length = store.len(file)?;

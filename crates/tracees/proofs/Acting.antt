@@ -80,6 +80,10 @@ module _ {P K S : Type 0} (port : PortGhosts P) (keep : BookGhosts K S) where
   desk_of : (traced : List (Traced K S keep)) (i k : ℕ) (t u : Traced K S keep) → i < length traced → k ≡ (get_or traced i t).desk → k ≡ (get_or traced i u).desk
   desk_of traced i k t u less is = is ∙ ap (λ (x : Traced K S keep). x.desk) (same_at traced i t u less)
 
+  -- and so of a tracee that was read at its place
+  pub desk_there : (traced : List (Traced K S keep)) (i k : ℕ) (t u : Traced K S keep) → i < length traced → t ≡ get_or traced i t → k ≡ t.desk → k ≡ (get_or traced i u).desk
+  desk_there traced i k t u less read is = is ∙ ap (λ (x : Traced K S keep). x.desk) (read ∙ same_at traced i t u less)
+
   pub no_desk_for : (desks : List (Desk P K S port keep)) (traced : List (Traced K S keep)) (i k : ℕ) (t : Traced K S keep) → i < length traced → k ≡ (get_or traced i t).desk → length desks ≤ k
       → NoSeat (state_of port keep desks traced) i
   no_desk_for desks traced i k t less is past =

@@ -1,11 +1,11 @@
 //! Steps in order, over any number of desks and tracees.
 
-ghost use Rattle.std.specs.Prelude.{◌≡◌, IfOk, OnErr, List, map};
+ghost use Rattle.std.specs.Prelude.{◌≡◌, IfOk, IfSome, IsNone, OnErr, List, map};
 ghost use Rattle.tracees.specs.Moments.{AreGrown, AreCarried, AreReceiptsKept, EachMoment};
 ghost use Rattle.tracees.specs.Desks.{Seat};
 ghost use Rattle.tracees.specs.Loans.{KeepAllLoans};
-ghost use Rattle.tracees.specs.States.{places_with, state_of};
-ghost use Rattle.tracees.specs.Steps.{AreNumbered, IsStep, Run};
+ghost use Rattle.tracees.specs.States.{IsDeskOf, places_with, state_of};
+ghost use Rattle.tracees.specs.Steps.{AreNumbered, NoSeat, IsStep, Run};
 ghost use Rattle.tracees.specs.declared.step.Step.TheVariants as steps;
 
 use crate::book::Bookkeeping;
@@ -16,6 +16,26 @@ use std::alloc::Global;
 use trace_message::{Event, Stamp};
 use trace_port::TracePort;
 use trace_terms::NoMemory;
+
+/// The index of a tracee's desk, where both are there.
+fn desk_of<P: TracePort, K: Bookkeeping>(
+    desks: &[Desk<'_, P, K>],
+    traced: &[Traced<K>],
+    tracee: u32,
+) -> Option<usize>
+    ensures there { IfSome result (IsDeskOf P.TracePort K.Bookkeeping desks.now traced.now tracee) }
+    ensures none { IsNone result → NoSeat (state_of P.TracePort K.Bookkeeping desks.now traced.now) tracee }
+{
+    let place = tracee as usize;
+    if place >= traced.len() {
+        return None;
+    }
+    let desk = traced[place].desk() as usize;
+    if desk >= desks.len() {
+        return None;
+    }
+    Some(desk)
+}
 
 /// A hand-over of at most `limit` entries from a tracee into its desk.
 fn hand_over<P: TracePort, K: Bookkeeping>(
@@ -28,15 +48,10 @@ fn hand_over<P: TracePort, K: Bookkeeping>(
     requires { AreNumbered (state_of P.TracePort K.Bookkeeping desks.old traced.old) }
     ensures step { KeepAllLoans P.TracePort K.Bookkeeping desks.old desks.new (IsStep P.told (state_of P.TracePort K.Bookkeeping desks.old traced.old) (state_of P.TracePort K.Bookkeeping desks.new traced.new) (steps.HandOver tracee limit) result) }
 {
-    let place = tracee as usize;
-    if place >= traced.len() {
+    let Some(desk) = desk_of(desks, traced, tracee) else {
         return Reply::Unknown;
-    }
-    let desk = traced[place].desk() as usize;
-    if desk >= desks.len() {
-        return Reply::Unknown;
-    }
-    Reply::from(desks[desk].hand_over(alloc, &mut traced[place], limit))
+    };
+    Reply::from(desks[desk].hand_over(alloc, &mut traced[tracee as usize], limit))
 }
 
 /// A flush for a tracee.
@@ -49,15 +64,10 @@ fn flush_for<P: TracePort, K: Bookkeeping>(
     requires { AreNumbered (state_of P.TracePort K.Bookkeeping desks.old traced.old) }
     ensures step { KeepAllLoans P.TracePort K.Bookkeeping desks.old desks.new (IsStep P.told (state_of P.TracePort K.Bookkeeping desks.old traced.old) (state_of P.TracePort K.Bookkeeping desks.new traced.new) (steps.FlushFor tracee) result) }
 {
-    let place = tracee as usize;
-    if place >= traced.len() {
+    let Some(desk) = desk_of(desks, traced, tracee) else {
         return Reply::Unknown;
-    }
-    let desk = traced[place].desk() as usize;
-    if desk >= desks.len() {
-        return Reply::Unknown;
-    }
-    Reply::from(desks[desk].flush_for(alloc, &mut traced[place]))
+    };
+    Reply::from(desks[desk].flush_for(alloc, &mut traced[tracee as usize]))
 }
 
 /// A flush of a desk.

@@ -73,11 +73,7 @@ impl<L: Ledger> BookCount<L> {
         ensures account { account.new.count ≡ account.old.count + amount }
         ensures within { account.old.count ≤ self.old.count }
     {
-        let BookCount {
-            count,
-            book,
-            rest: _,
-        } = self;
+        let BookCount { count, book, .. } = self;
         let AccountCount { count: mine, share } = account;
         book.audit(share);
         book.add(share, amount);
@@ -92,11 +88,7 @@ impl<L: Ledger> BookCount<L> {
         ensures rest { self.new.rest.parts ≡ self.old.rest.parts }
         ensures account { account.new.count ≡ 0 }
     {
-        let BookCount {
-            count,
-            book,
-            rest: _,
-        } = self;
+        let BookCount { count, book, .. } = self;
         let AccountCount { count: mine, share } = account;
         book.audit(share);
         let amount = *mine;

@@ -1,20 +1,19 @@
 //! What a lender knows of a port, or of a store, that went through a desk.
 
-ghost use Rattle.std.specs.Prelude.{◌≡◌, ◌<◌, ◌++◌, ℕ, [], length, IsTrue};
-ghost use Rattle.trace_store.specs.Disk.{file_of};
+ghost use Rattle.std.specs.Prelude.{◌≡◌, ◌++◌, ℕ, []};
 ghost use Rattle.segment.specs.Specification.{File};
 ghost use Rattle.recovery.specs.Views.{View, total};
 ghost use Rattle.intake.specs.Tracees.{waiting_of};
 ghost use Rattle.trace_port.specs.Device.{device_of, Leaves};
+ghost use Rattle.trace_port.specs.Places.{HasGate};
 ghost use Rattle.trace_port.specs.Sound.{Sound};
 ghost use Rattle.trace_port.specs.Port.{Fits, IsSaved};
 ghost use Rattle.trace_port.specs.Opened.{opened_told};
 ghost use Rattle.trace_port.specs.FilePort.{file_told};
-ghost use Rattle.tracees.specs.Books.{no_totals};
 ghost use Rattle.tracees.specs.Hands.{moved_by, items_moved};
 ghost use Rattle.tracees.specs.Lent.{HandsOne, RecordsOne};
 ghost use Rattle.tracees.specs.Loans.{KeepsLoan};
-ghost use Rattle.tracees.specs.Meanings.{KeepsMeaning};
+ghost use Rattle.tracees.specs.Meanings.{MayStand};
 
 use crate::book::{Bookkeeping, PlainBook};
 use crate::desk::Desk;
@@ -33,10 +32,7 @@ pub fn hand_one<P: TracePort, K: Bookkeeping>(
     tracee: Tracee,
     limit: u32,
 ) -> (Tracee, Result<Receipt, HandFault>)
-    requires totals { K.totals_of book ≡ no_totals }
-    requires attached { K.attached_of book ≡ 0 }
-    requires number { IsTrue K.shared → number ≡ K.desk }
-    requires fits { IsTrue K.shared → KeepsMeaning (P.told port.old) }
+    requires may_stand { MayStand K.Bookkeeping book number (P.told port.old) }
     ensures hands { KeepsLoan P.TracePort port.old port.new (HandsOne P.told number port.old port.new limit tracee result.0 result.1) }
 {
     let mut desk = Desk::new(number, port, book);
@@ -56,8 +52,7 @@ pub fn record_one<S: Store + Send, R: Room + Send>(
     tracee: Tracee,
     limit: u32,
 ) -> (Tracee, Result<Receipt, HandFault>)
-    requires some { 0 < length (S.reads store.old) }
-    requires within { S.honest store.old → opening.gate < length (file_of (S.reads store.old) 0) }
+    requires place { HasGate S.Store store.old 0 opening.gate }
     ensures hands { RecordsOne (file_told S.Store R.Room) (opened_told R.Room opening (device_of S.Store store.old)) (device_of S.Store store.new) limit tracee result.0 result.1 }
     ensures rest { waiting_of tracee ≡ moved_by result.1 ++ waiting_of result.0 }
     ensures moments { S.honest store.new → (v0 : View) → Fits (opened_told R.Room opening (device_of S.Store store.old)) v0 [] (total v0)

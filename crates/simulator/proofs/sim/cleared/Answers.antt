@@ -6,4 +6,4 @@ pub returns-in-Ok : goal.returns-in-Ok
 returns-in-Ok c = let e = c.in-Ok.ensures in wipes (e.reads tt) (e.wiped tt) (e.any_moment tt)
 
 pub returns-in-Err : goal.returns-in-Err
-returns-in-Err c = let e = c.in-Err.ensures in wipes_not (e.failed refl) (e.any_moment tt)
+returns-in-Err c = let e = c.in-Err.ensures in wipes_not e.device.failures (e.any_moment tt)

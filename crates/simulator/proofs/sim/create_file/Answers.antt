@@ -17,8 +17,8 @@ returns-in-Ok g c =
             did = rw c.ended.ensures (was_run Created _ c.args.store.now c.hold_file-left.new.store _ c.hold_file-left.result _ (record {
               mid = c.begin_create.new.store;
               opening = openings.File c.in-Ok.opening;
-              opens = begins (is_blank (e.blank tt)) refl (e.fits tt);
-              moments = (c.begin_create.ensures.any_moment tt, c.begin_create.ensures.not_blank_stays tt);
+              opens = begins (is_blank (e.created.blank tt)) refl (e.fits tt);
+              moments = (c.begin_create.ensures.creates.any_moment tt, c.begin_create.ensures.creates.not_blank_stays tt);
               ran = c.hold_file-left.ensures.held.did;
             }));
           };

@@ -20,7 +20,7 @@ returns-in-Ok g c =
               mid = c.begin_resume.new.store;
               opening = openings.File c.in-Ok.opening;
               opens = goes_on found.0 found.1 found.2;
-              moments = only_kept File c.args.store.now c.begin_resume.new.store c.begin_resume.ensures.kept;
+              moments = only_kept File c.args.store.now c.begin_resume.new.store c.begin_resume.ensures.device.kept;
               ran = c.hold_file-left.ensures.held.did;
             }));
           };
@@ -33,6 +33,6 @@ returns-in-Err g c =
         name = refl;
         of_desk = refl;
         reader = refl;
-        did = (only_kept File c.args.store.now c.begin_resume.new.store c.begin_resume.ensures.kept, refl, Appends-nil _);
+        did = (only_kept File c.args.store.now c.begin_resume.new.store c.begin_resume.ensures.device.kept, refl, Appends-nil _);
       };
     }

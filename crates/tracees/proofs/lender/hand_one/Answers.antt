@@ -16,7 +16,7 @@ returns g c =
             same = search rules;
             did = hands_one g.P.TracePort.told c.args.number c.args.port.now c.drop.new.self.0 c.port-1.given.0 c.args.limit c.args.tracee c.detach-tracee.result.0 c.hand_over-answer.result
                 (place first) (place c.hand_over-answer.new.self) (seat c.attach-traced.result) (seat c.hand_over-answer.new.traced)
-                (c.attach-traced.ensures.number ∙ made.number) (c.attach-traced.ensures.port ∙ made.port) (book ∙ c.requires.totals) (c.attach-traced.ensures.desk ∙ made.number) c.attach-traced.ensures.tracee c.attach-traced.ensures.account
+                (c.attach-traced.ensures.number ∙ made.number) (c.attach-traced.ensures.port ∙ made.port) (book ∙ c.requires.may_stand.totals) (c.attach-traced.ensures.desk ∙ made.number) c.attach-traced.ensures.tracee c.attach-traced.ensures.account
                 c.hand_over-answer.ensures.hands.did c.detach-tracee.ensures.tracee c.drop.ensures.finishes back;
           };
     }
