@@ -7,3 +7,4 @@ pub mod Members
 pub mod Sifted
 pub mod Signs
 pub mod Words
+pub mod Taking

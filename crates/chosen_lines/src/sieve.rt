@@ -1,11 +1,12 @@
 //! A writer that hands on the lines that are chosen.
-ghost use Rattle.std.specs.Prelude.{◌≡◌, ◌<◌, ◌≤◌, ℕ, Option, List, [], ◌∷◌, ◌++◌, take, vec_len, length, true, OnOk, OnErr, IfOk};
+ghost use Rattle.std.specs.Prelude.{◌≡◌, ◌<◌, ◌≤◌, ℕ, Option, List, [], ◌∷◌, ◌++◌, take, vec_len, length, true, OnOk, IfOk};
 ghost use Rattle.std.specs.Io.KnownBytes.{Appends, WriteAppends};
 ghost use Rattle.chosen_lines.specs.Lines.{lines_after, rest_after, chosen};
 ghost use Rattle.chosen_lines.specs.Lets.{lets};
 ghost use Rattle.chosen_lines.specs.Asks.{asks_of};
 ghost use Rattle.chosen_lines.specs.Sifted.{sieve_contents};
 ghost use Rattle.chosen_lines.specs.Growth.{Appends-prop};
+ghost use Rattle.chosen_lines.specs.Taking.{Takes};
 
 use crate::choice::Choice;
 use crate::given::Given;
@@ -60,9 +61,8 @@ impl<W: Write> Sieve<W> {
     fn take_part(&mut self, part: &[u8]) -> io::Result<usize>
         requires { lines_after self.old.line.items part.now ≡ [] }
         ensures choice { self.new.choice ≡ self.old.choice }
-        ensures ok { OnOk result (self.new.given ≡ record self.old.given { bytes = self.old.given.bytes ++ part.now }) }
+        ensures given { Takes part.now self.old.given self.new.given result }
         ensures all { IfOk result (λ count. count ≡ length part.now) }
-        ensures err { OnErr result (self.new.given ≡ self.old.given) }
     {
         if self.sent > 0 {
             return Err(io::Error::from(ErrorKind::InvalidInput));
@@ -97,8 +97,7 @@ impl<W: Write> Sieve<W> {
         requires sent { self.old.sent ≡ vec_len self.old.line }
         requires chosen { lets self.old.choice self.old.line.items ≡ true }
         ensures choice { self.new.choice ≡ self.old.choice }
-        ensures ok { OnOk result (self.new.given ≡ record self.old.given { bytes = self.old.given.bytes ++ 10 ∷ [] }) }
-        ensures err { OnErr result (self.new.given ≡ self.old.given) }
+        ensures given { Takes (10 ∷ []) self.old.given self.new.given result }
     {
         if self.out.write(&[FEED])? == 0 {
             return Err(io::Error::from(ErrorKind::WriteZero));
@@ -112,9 +111,8 @@ impl<W: Write> Sieve<W> {
     /// Takes the line feed that ends a line, which is one byte.
     fn end_line(&mut self) -> io::Result<usize>
         ensures choice { self.new.choice ≡ self.old.choice }
-        ensures ok { OnOk result (self.new.given ≡ record self.old.given { bytes = self.old.given.bytes ++ 10 ∷ [] }) }
+        ensures given { Takes (10 ∷ []) self.old.given self.new.given result }
         ensures all { IfOk result (λ count. count ≡ 1) }
-        ensures err { OnErr result (self.new.given ≡ self.old.given) }
     {
         if self.choice.lets_through(&self.line) {
             self.send_line()?;

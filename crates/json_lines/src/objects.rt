@@ -1,7 +1,8 @@
 //! A writer that hands on an object for each line.
-ghost use Rattle.std.specs.Prelude.{◌≡◌, ◌<◌, ◌≤◌, ℕ, Option, List, [], ◌∷◌, ◌++◌, take, vec_len, length, OnOk, OnErr, IfOk};
+ghost use Rattle.std.specs.Prelude.{◌≡◌, ◌<◌, ◌≤◌, ℕ, Option, List, [], ◌∷◌, ◌++◌, take, vec_len, length, OnOk, IfOk};
 ghost use Rattle.std.specs.Io.KnownBytes.{Appends, WriteAppends};
 ghost use Rattle.chosen_lines.specs.Growth.{Appends-prop};
+ghost use Rattle.chosen_lines.specs.Taking.{Takes};
 ghost use Rattle.chosen_lines.specs.Lines.{lines_after, rest_after};
 ghost use Rattle.json_lines.specs.Held.{objects_contents};
 ghost use Rattle.json_lines.specs.Objects.{object_line, objects_of};
@@ -57,9 +58,8 @@ impl<W: Write> Objects<W> {
     /// Takes bytes of a line that isn't at its end. Once a part of its object is handed on there are none to come.
     fn take_part(&mut self, part: &[u8]) -> io::Result<usize>
         requires { lines_after self.old.line.items part.now ≡ [] }
-        ensures ok { OnOk result (self.new.given ≡ record self.old.given { bytes = self.old.given.bytes ++ part.now }) }
+        ensures given { Takes part.now self.old.given self.new.given result }
         ensures all { IfOk result (λ count. count ≡ length part.now) }
-        ensures err { OnErr result (self.new.given ≡ self.old.given) }
     {
         if self.sent > 0 {
             return Err(io::Error::from(ErrorKind::InvalidInput));
@@ -108,9 +108,8 @@ impl<W: Write> Objects<W> {
 
     /// Takes the line feed that ends a line, which is one byte.
     fn end_line(&mut self) -> io::Result<usize>
-        ensures ok { OnOk result (self.new.given ≡ record self.old.given { bytes = self.old.given.bytes ++ 10 ∷ [] }) }
+        ensures given { Takes (10 ∷ []) self.old.given self.new.given result }
         ensures all { IfOk result (λ count. count ≡ 1) }
-        ensures err { OnErr result (self.new.given ≡ self.old.given) }
     {
         self.make_object()?;
         self.send_object()?;
