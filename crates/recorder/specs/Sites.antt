@@ -1,8 +1,10 @@
 -- Where the files of a trace are, by what the command line asks.
-use Rattle.std.specs.Prelude.{◌≡◌}
+use Rattle.std.specs.Prelude.{◌≡◌, Result, IfOk, IfErr}
 use Rattle.command_line.specs.declared.request.Asked.{Asked}
 use Rattle.command_line.specs.declared.request.TraceRequest.{TraceRequest}
 use Rattle.command_line.specs.declared.request.TraceRequest.TheVariants as requests
+use Rattle.recorder.specs.Complaints.{status_told}
+use Rattle.recorder.specs.declared.complaint.Complaint.{Complaint}
 use Rattle.recorder.specs.declared.files.Files.{Files}
 use Rattle.trace_places.specs.Finding.{IsFound, IsPlaceFor}
 use Rattle.trace_places.specs.declared.lookup.Found.{Found}
@@ -26,3 +28,9 @@ pub record IsAtPlace (asked : Asked) (files : Files) : Type 0 where
   pub found : Found
   pub may_be : IsFound asked.shape found
   pub at : IsAt asked found files
+
+-- files that stand so where that is asked, or why there are none
+pub record HasFiles (Stand : Files → Type 0) (asked : Asked) (result : Result Files Complaint) : Type 0 where
+  pub stand : IfOk result Stand
+  pub place : IfOk result (IsAtPlace asked)
+  pub refused : IfErr result (λ complaint. status_told complaint ≡ 1)

@@ -4,7 +4,7 @@ ghost use Rattle.stores.specs.Events.{World};
 ghost use Rattle.trace_places.specs.Finding.{IsFound};
 ghost use Rattle.recorder.specs.Commands.{Changes, IsUntouched, IsLocked};
 ghost use Rattle.recorder.specs.Complaints.{status_told};
-ghost use Rattle.recorder.specs.Sites.{asked_in, IsAtPlace};
+ghost use Rattle.recorder.specs.Sites.{asked_in, IsAtPlace, HasFiles};
 
 use crate::complaint::{Complaint, FAILED_DISK};
 use crate::files::Files;
@@ -63,9 +63,7 @@ fn found_to_read(rt: &HostRuntime, asked: Asked<'_>) -> Result<Found, Complaint>
 /// A trace to be read. Where a sync of it failed, standard error says so.
 fn files_to_read<'a>(rt: &HostRuntime, asked: Asked<'a>) -> Result<Files<'a>, Complaint>
     ghost world: { World }
-    ensures past { IfOk result (IsUntouched world) }
-    ensures place { IfOk result (IsAtPlace asked.entry) }
-    ensures refused { IfErr result (λ complaint. status_told complaint ≡ 1) }
+    ensures files { HasFiles (IsUntouched world) asked.entry result }
 {
     let found = found_to_read(rt, asked)?;
     let files = Files::at(*rt, asked, found)?;
@@ -78,9 +76,7 @@ fn files_to_read<'a>(rt: &HostRuntime, asked: Asked<'a>) -> Result<Files<'a>, Co
 /// A trace to be cleared.
 fn files_to_wipe<'a>(rt: &HostRuntime, asked: Asked<'a>) -> Result<Files<'a>, Complaint>
     ghost world: { World }
-    ensures locked { IfOk result (IsLocked world) }
-    ensures place { IfOk result (IsAtPlace asked.entry) }
-    ensures refused { IfErr result (λ complaint. status_told complaint ≡ 1) }
+    ensures files { HasFiles (IsLocked world) asked.entry result }
 {
     let found = found_to_read(rt, asked)?;
     Files::locked_at(*rt, asked, found)
@@ -89,9 +85,7 @@ fn files_to_wipe<'a>(rt: &HostRuntime, asked: Asked<'a>) -> Result<Files<'a>, Co
 /// A trace to be written. It is refused where a sync failed before, unless the command line says otherwise.
 fn files_to_write<'a>(rt: &HostRuntime, wanted: &Wanted<'a>) -> Result<Files<'a>, Complaint>
     ghost world: { World }
-    ensures locked { IfOk result (IsLocked world) }
-    ensures place { IfOk result (IsAtPlace wanted.now.asked) }
-    ensures refused { IfErr result (λ complaint. status_told complaint ≡ 1) }
+    ensures files { HasFiles (IsLocked world) wanted.now.asked result }
 {
     let asked = wanted.asked;
     let found = find(*rt, asked)?;
