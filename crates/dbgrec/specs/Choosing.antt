@@ -1,14 +1,20 @@
 -- Listings of which some lines are shown.
-use Rattle.std.specs.Prelude.{◌≡◌, ℕ, Bool, Option, Some, None, List, Result, Ok, Err, IfSome, if◌then◌else◌}
+use Rattle.std.specs.Prelude.{◌≡◌, ℕ, Bool, Option, Some, None, List, [], Result, Ok, Err, IfSome, if◌then◌else◌}
 use Rattle.std.specs.Io.KnownBytes.{Appends}
 use Rattle.trace_client.specs.Streams.{IsListed}
 use Rattle.chosen_lines.specs.declared.choice.Choice.{Choice}
+use Rattle.chosen_lines.specs.declared.given.Given.{Given}
 use Rattle.chosen_lines.specs.Lets.{lets}
 use Rattle.chosen_lines.specs.Lines.{Sifts}
 use Rattle.recorder.specs.Commands.{style_of, EndsStream}
 use Rattle.recorder.specs.declared.complaint.Complaint.{Complaint}
 use Rattle.recorder.specs.declared.complaint.Complaint.TheVariants as complaints
 use Rattle.script_port.specs.declared.fault.SimFault.TheVariants as faults
+
+-- nothing was given yet after what a writer held
+pub record IsNew (given : Given) (held : Option (List ℕ)) : Type 0 where
+  pub start : given.start ≡ held
+  pub none : given.bytes ≡ []
 
 -- The whole listing went to a writer that held some bytes before. Where a text came to these, the chosen lines of that
 -- text are written.

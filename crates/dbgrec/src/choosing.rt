@@ -1,8 +1,8 @@
 //! Listings of which some lines are shown.
-ghost use Rattle.std.specs.Prelude.{◌≡◌, [], Result};
+ghost use Rattle.std.specs.Prelude.{◌≡◌, Result};
 ghost use Rattle.recorder.specs.Commands.{Serves};
 ghost use Rattle.trace_recording.specs.Incoming.{outside};
-ghost use Rattle.dbgrec.specs.Choosing.{Chooses, ListsStream, IsToldOf};
+ghost use Rattle.dbgrec.specs.Choosing.{Chooses, ListsStream, IsNew, IsToldOf};
 
 use chosen_lines::Sieve;
 use command_line::TraceRequest;
@@ -34,8 +34,7 @@ pub fn choose_of_stream<R: Read + Drop, W: Write>(
     input: R,
     sieve: &mut Sieve<W>,
 ) -> Result<(), Complaint>
-    requires start { sieve.old.given.start ≡ W.contents sieve.old.out }
-    requires none { sieve.old.given.bytes ≡ [] }
+    requires fresh { IsNew sieve.old.given (W.contents sieve.old.out) }
     ensures { (done : Result Unit Complaint) × Chooses sieve.old.choice (ListsStream is_pretty (R.remaining input) done) (W.contents sieve.old.out) (W.contents sieve.new.out) × IsToldOf sieve.new.is_refused done result }
 {
     let done = serve_stream(alloc, is_pretty, input, sieve);
@@ -52,8 +51,7 @@ pub fn choose_of_trace<R: Read + Drop, W: Write, H: Host>(
     watched: &mut Watched<'_, Sieve<W>, H>,
 ) -> Result<(), Complaint>
     requires first { watched.old.entries ≡ 0 }
-    requires start { watched.old.writer.now.given.start ≡ W.contents watched.old.writer.now.out }
-    requires none { watched.old.writer.now.given.bytes ≡ [] }
+    requires fresh { IsNew watched.old.writer.now.given (W.contents watched.old.writer.now.out) }
     ensures { (done : Result Unit Complaint) × Chooses watched.old.writer.now.choice (λ was now. Serves request.entry files.old files.new (outside (R.remaining input) 0 (H.observed watched.old.host.now)) (H.observed watched.new.host.now) was now done) (W.contents watched.old.writer.now.out) (W.contents watched.new.writer.now.out) × IsToldOf watched.new.writer.now.is_refused done result }
 {
     let done = serve_trace(rt, request, files, input, watched);

@@ -95,49 +95,34 @@ fn fail_to_write(rt: &HostRuntime, complaint: &Complaint, reason: Option<io::Err
     code
 }
 
-fn not_of_size(rt: &HostRuntime, text: &str) -> ExitCode
-    ensures { exit_status result ≡ 2 }
-{
+fn not_of_size(rt: &HostRuntime, text: &str) {
     let _ = eprintln!(rt;
         "error: invalid value '{text}' for '--size <BYTES>': a number below 4294967296, with K, M or G after it or nothing\n\nFor more information, try '--help'."
     );
-    ExitCode::from(2)
 }
 
-fn no_kind(rt: &HostRuntime, word: &str) -> ExitCode
-    ensures { exit_status result ≡ 2 }
-{
+fn no_kind(rt: &HostRuntime, word: &str) {
     let _ = eprintln!(rt;
         "error: invalid value '{word}' for '--only <KIND[,KIND..]>': call, return, exception, send, send_lost, receive, other, opaque or drop, several with commas between them; with --pretty also OTP's other words, as spawn and exit\n\nFor more information, try '--help'."
     );
-    ExitCode::from(2)
 }
 
-fn pretty_kind(rt: &HostRuntime, word: &str) -> ExitCode
-    ensures { exit_status result ≡ 2 }
-{
+fn pretty_kind(rt: &HostRuntime, word: &str) {
     let _ = eprintln!(rt;
         "error: '--only {word}' needs '--pretty': without it such a message is other or opaque\n\nFor more information, try '--help'."
     );
-    ExitCode::from(2)
 }
 
-fn no_process(rt: &HostRuntime, text: &str) -> ExitCode
-    ensures { exit_status result ≡ 2 }
-{
+fn no_process(rt: &HostRuntime, text: &str) {
     let _ = eprintln!(rt;
         "error: invalid value '{text}' for '--pid <PID>': a process as a listing shows it, as <app@host.80.0.0> or <'app@my-host'.80.0.0>, or a port, as #Port<app@host.4.0>\n\nFor more information, try '--help'."
     );
-    ExitCode::from(2)
 }
 
-fn no_function(rt: &HostRuntime, text: &str) -> ExitCode
-    ensures { exit_status result ≡ 2 }
-{
+fn no_function(rt: &HostRuntime, text: &str) {
     let _ = eprintln!(rt;
         "error: invalid value '{text}' for '--mfa <M[:F[/A]]>': a module, as lists, a function, as lists:seq, or one of so many arguments, as lists:seq/2\n\nFor more information, try '--help'."
     );
-    ExitCode::from(2)
 }
 
 /// The status for words that aren't of the form that the help shows.
@@ -169,11 +154,26 @@ fn correct(rt: &HostRuntime, misuse: Misuse<'_>) -> ExitCode
 {
     match misuse {
         Misuse::Form(error) => correct_form(rt, &error),
-        Misuse::Size(text) => not_of_size(rt, text),
-        Misuse::Kind(word) => no_kind(rt, word),
-        Misuse::PrettyKind(word) => pretty_kind(rt, word),
-        Misuse::Process(text) => no_process(rt, text),
-        Misuse::Function(text) => no_function(rt, text),
+        Misuse::Size(text) => {
+            not_of_size(rt, text);
+            ExitCode::from(2)
+        }
+        Misuse::Kind(word) => {
+            no_kind(rt, word);
+            ExitCode::from(2)
+        }
+        Misuse::PrettyKind(word) => {
+            pretty_kind(rt, word);
+            ExitCode::from(2)
+        }
+        Misuse::Process(text) => {
+            no_process(rt, text);
+            ExitCode::from(2)
+        }
+        Misuse::Function(text) => {
+            no_function(rt, text);
+            ExitCode::from(2)
+        }
     }
 }
 

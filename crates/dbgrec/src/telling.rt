@@ -1,9 +1,9 @@
 //! Listings as JSON objects.
-ghost use Rattle.std.specs.Prelude.{◌≡◌, [], Result};
+ghost use Rattle.std.specs.Prelude.{◌≡◌, Result};
 ghost use Rattle.recorder.specs.Commands.{Serves};
 ghost use Rattle.trace_recording.specs.Incoming.{outside};
 ghost use Rattle.json_lines.specs.Held.{objects_contents};
-ghost use Rattle.dbgrec.specs.Choosing.{Chooses, ListsStream, IsToldOf};
+ghost use Rattle.dbgrec.specs.Choosing.{Chooses, ListsStream, IsNew, IsToldOf};
 ghost use Rattle.dbgrec.specs.Telling.{TellsObjects};
 
 use crate::choosing::{choose_of_stream, choose_of_trace, told_of};
@@ -22,8 +22,7 @@ pub fn tell_of_stream<R: Read + Drop, W: Write>(
     input: R,
     objects: &mut Objects<W>,
 ) -> Result<(), Complaint>
-    requires start { objects.old.given.start ≡ W.contents objects.old.out }
-    requires none { objects.old.given.bytes ≡ [] }
+    requires fresh { IsNew objects.old.given (W.contents objects.old.out) }
     ensures { (done : Result Unit Complaint) × TellsObjects (ListsStream is_pretty (R.remaining input) done) (W.contents objects.old.out) (W.contents objects.new.out) × IsToldOf objects.new.is_refused done result }
 {
     let done = serve_stream(alloc, is_pretty, input, objects);
@@ -38,10 +37,8 @@ pub fn tell_chosen_of_stream<R: Read + Drop, W: Write>(
     input: R,
     sieve: &mut Sieve<Objects<W>>,
 ) -> Result<(), Complaint>
-    requires start { sieve.old.given.start ≡ objects_contents sieve.old.out.given.start sieve.old.out.given.bytes }
-    requires none { sieve.old.given.bytes ≡ [] }
-    requires start_below { sieve.old.out.given.start ≡ W.contents sieve.old.out.out }
-    requires none_below { sieve.old.out.given.bytes ≡ [] }
+    requires fresh { IsNew sieve.old.given (objects_contents sieve.old.out.given.start sieve.old.out.given.bytes) }
+    requires below { IsNew sieve.old.out.given (W.contents sieve.old.out.out) }
     ensures { (done : Result Unit Complaint) × (chosen : Result Unit Complaint) × TellsObjects (Chooses sieve.old.choice (ListsStream is_pretty (R.remaining input) done)) (W.contents sieve.old.out.out) (W.contents sieve.new.out.out) × IsToldOf sieve.new.is_refused done chosen × IsToldOf sieve.new.out.is_refused chosen result }
 {
     let chosen = choose_of_stream(alloc, is_pretty, input, sieve);
@@ -58,8 +55,7 @@ pub fn tell_of_trace<R: Read + Drop, W: Write, H: Host>(
     watched: &mut Watched<'_, Objects<W>, H>,
 ) -> Result<(), Complaint>
     requires first { watched.old.entries ≡ 0 }
-    requires start { watched.old.writer.now.given.start ≡ W.contents watched.old.writer.now.out }
-    requires none { watched.old.writer.now.given.bytes ≡ [] }
+    requires fresh { IsNew watched.old.writer.now.given (W.contents watched.old.writer.now.out) }
     ensures { (done : Result Unit Complaint) × TellsObjects (λ was now. Serves request.entry files.old files.new (outside (R.remaining input) 0 (H.observed watched.old.host.now)) (H.observed watched.new.host.now) was now done) (W.contents watched.old.writer.now.out) (W.contents watched.new.writer.now.out) × IsToldOf watched.new.writer.now.is_refused done result }
 {
     let done = serve_trace(rt, request, files, input, watched);
@@ -76,10 +72,8 @@ pub fn tell_chosen_of_trace<R: Read + Drop, W: Write, H: Host>(
     watched: &mut Watched<'_, Sieve<Objects<W>>, H>,
 ) -> Result<(), Complaint>
     requires first { watched.old.entries ≡ 0 }
-    requires start { watched.old.writer.now.given.start ≡ objects_contents watched.old.writer.now.out.given.start watched.old.writer.now.out.given.bytes }
-    requires none { watched.old.writer.now.given.bytes ≡ [] }
-    requires start_below { watched.old.writer.now.out.given.start ≡ W.contents watched.old.writer.now.out.out }
-    requires none_below { watched.old.writer.now.out.given.bytes ≡ [] }
+    requires fresh { IsNew watched.old.writer.now.given (objects_contents watched.old.writer.now.out.given.start watched.old.writer.now.out.given.bytes) }
+    requires below { IsNew watched.old.writer.now.out.given (W.contents watched.old.writer.now.out.out) }
     ensures { (done : Result Unit Complaint) × (chosen : Result Unit Complaint) × TellsObjects (Chooses watched.old.writer.now.choice (λ was now. Serves request.entry files.old files.new (outside (R.remaining input) 0 (H.observed watched.old.host.now)) (H.observed watched.new.host.now) was now done)) (W.contents watched.old.writer.now.out.out) (W.contents watched.new.writer.now.out.out) × IsToldOf watched.new.writer.now.is_refused done chosen × IsToldOf watched.new.writer.now.out.is_refused chosen result }
 {
     let chosen = choose_of_trace(rt, request, files, input, watched);

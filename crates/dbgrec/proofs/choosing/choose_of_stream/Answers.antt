@@ -10,7 +10,7 @@ returns g c =
     let done = c.serve_stream-done.result in
     let promised = c.serve_stream-done.ensures in (
       done,
-      chooses old.choice new.choice old.given new.given _ _ new.line.items new.sent (ListsStream c.args.is_pretty had done) c.requires.start c.requires.none new.part new.due new.held
+      chooses old.choice new.choice old.given new.given _ _ new.line.items new.sent (ListsStream c.args.is_pretty had done) c.requires.fresh.start c.requires.fresh.none new.part new.due new.held
           (lists_stream c.args.is_pretty had _ _ done promised.listed promised.stopped),
       c.told_of.ensures,
     )

@@ -12,6 +12,6 @@ returns g c =
     let saw = outside (g.R.Read.remaining c.args.input) 0 (g.H.Host.observed c.args.watched.now.host.now) in (
       done,
       chooses old.choice new.choice old.given new.given _ _ new.line.items new.sent
-          (λ was now. Serves c.args.request c.args.files.now c.serve_trace-done.new.files saw (g.H.Host.observed end.host.now) was now done) c.requires.start c.requires.none new.part new.due new.held c.serve_trace-done.ensures,
+          (λ was now. Serves c.args.request c.args.files.now c.serve_trace-done.new.files saw (g.H.Host.observed end.host.now) was now done) c.requires.fresh.start c.requires.fresh.none new.part new.due new.held c.serve_trace-done.ensures,
       c.told_of.ensures,
     )

@@ -9,4 +9,4 @@ returns g c =
     let had = g.R.Read.remaining c.args.input in
     let promised = c.choose_of_stream-chosen.ensures in
     let chosen = c.choose_of_stream-chosen.result in
-    (promised.0, chosen, tells old.out.given below.given _ _ below.line.items below.object.items below.sent (Chooses old.choice (ListsStream c.args.is_pretty had promised.0)) c.requires.start_below c.requires.none_below below.part below.due below.held promised.1, promised.2, c.told_of.ensures)
+    (promised.0, chosen, tells old.out.given below.given _ _ below.line.items below.object.items below.sent (Chooses old.choice (ListsStream c.args.is_pretty had promised.0)) c.requires.below.start c.requires.below.none below.part below.due below.held promised.1, promised.2, c.told_of.ensures)

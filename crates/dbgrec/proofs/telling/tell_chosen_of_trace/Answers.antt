@@ -15,7 +15,7 @@ returns g c =
       promised.0,
       chosen,
       tells old.out.given below.given _ _ below.line.items below.object.items below.sent
-          (Chooses old.choice (λ was now. Serves c.args.request c.args.files.now c.choose_of_trace-chosen.new.files saw (g.H.Host.observed end.host.now) was now promised.0)) c.requires.start_below c.requires.none_below below.part below.due below.held promised.1,
+          (Chooses old.choice (λ was now. Serves c.args.request c.args.files.now c.choose_of_trace-chosen.new.files saw (g.H.Host.observed end.host.now) was now promised.0)) c.requires.below.start c.requires.below.none below.part below.due below.held promised.1,
       promised.2,
       c.told_of.ensures,
     )
