@@ -151,11 +151,7 @@ fn import<'a>(alloc: Global, command: Command<'a>) -> Result<Command<'a>, AllocE
 
 /// The command that records what a script says.
 fn record<'a>(alloc: Global, command: Command<'a>) -> Result<Command<'a>, AllocError> {
-    of_new_files(
-        alloc,
-        command,
-        "Example: dbgrec record trace < desk.script",
-    )
+    of_new_files(alloc, command, "Example: dbgrec record trace < desk.script")
 }
 
 /// The option that shows any term of a node.
@@ -248,29 +244,23 @@ fn list<'a>(alloc: Global, command: Command<'a>) -> Result<Command<'a>, AllocErr
 }
 
 fn export<'a>(alloc: Global, command: Command<'a>) -> Result<Command<'a>, AllocError> {
-    of_files(
-        alloc,
-        command,
-        "Example: dbgrec export trace > trace.out",
-    )
+    of_files(alloc, command, "Example: dbgrec export trace > trace.out")
 }
 
 fn info<'a>(alloc: Global, command: Command<'a>) -> Result<Command<'a>, AllocError> {
-    of_files(
+    of_files(alloc, command, "Example: dbgrec info trace")?.arg(flag(
         alloc,
-        command,
-        "Example: dbgrec info trace",
-    )?
-    .arg(flag(alloc, "json", "As one JSON object"))
+        "json",
+        "As one JSON object",
+    ))
 }
 
 fn wipe<'a>(alloc: Global, command: Command<'a>) -> Result<Command<'a>, AllocError> {
-    of_files(
+    of_files(alloc, command, "Example: dbgrec wipe trace")?.arg(flag(
         alloc,
-        command,
-        "Example: dbgrec wipe trace",
-    )?
-    .arg(flag(alloc, "force", "Clears files that aren't of a trace too"))
+        "force",
+        "Clears files that aren't of a trace too",
+    ))
 }
 
 fn stream<'a>(alloc: Global, command: Command<'a>) -> Result<Command<'a>, AllocError> {
@@ -299,7 +289,10 @@ const COMMANDS: [(&str, &str); 8] = [
         "record",
         "Records what a script from standard input says, and seals the trace at its end",
     ),
-    ("sim", "Runs a script from standard input over a store in memory"),
+    (
+        "sim",
+        "Runs a script from standard input over a store in memory",
+    ),
 ];
 
 /// A command with its options.
