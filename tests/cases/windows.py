@@ -50,6 +50,35 @@ def a_large_wrap_that_is_written_is_listed_and_exported_in_8_too(program):
         same(importer.end().status, 0)
 
 
+def written_in_8(program, wrap, size, count):
+    """A wrap that is written is listed and exported in 8 MB, as its entries are kept."""
+    entries = [message(bytes(95 + number % 3)) for number in range(60_000)]
+    with program.start("import", "t", *wrap, "--flush", "always") as importer:
+        same(importer.line(), "created")
+        importer.write(b"".join(entries))
+        deadline = time.monotonic() + PATIENCE
+        while b"59999 opaque" not in program.run("list", "t", *wrap[:2]).output:
+            assert time.monotonic() < deadline
+        first, kept = window(entries, size, count)
+        exported = program.run("export", "t", *wrap[:2], before=SMALL)
+        same((exported.status, exported.errors), (0, b""))
+        assert exported.output == b"".join(kept)
+        listed = program.run("list", "t", *wrap[:2], before=SMALL)
+        same((listed.status, listed.errors), (0, b""))
+        assert listed.output == listing(first, 0, [f"{number} opaque {len(entry) - 5}" for number, entry in enumerate(kept, first)])
+        same(importer.end().status, 0)
+
+
+@case
+def a_standard_wrap_that_is_written_is_listed_and_exported_in_8(program):
+    written_in_8(program, ("--kind", "wrap"), 131_072, 8)
+
+
+@case
+def a_wrap_of_5_megabytes_that_is_written_is_listed_and_exported_in_8(program):
+    written_in_8(program, ("--kind", "wrap", "--size", "1000000", "--count", "5"), 1_000_000, 5)
+
+
 @case
 def a_wrap_whose_middle_file_is_damaged_is_refused(program):
     entry = message(EXAMPLE)

@@ -1,4 +1,4 @@
-use crate::scenes::EXAMPLE;
+use acceptance_scenes::EXAMPLE;
 use entry_codec::Entry;
 use recovery::Recovered;
 use std::alloc::Global;

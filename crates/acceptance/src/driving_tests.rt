@@ -1,4 +1,5 @@
-use crate::scenes::{GREATEST, MOMENT, attach};
+use crate::scenes::{GREATEST, attach};
+use acceptance_scenes::MOMENT;
 use intake::Counts;
 use std::alloc::Global;
 use std::process::Abort;

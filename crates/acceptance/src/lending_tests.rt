@@ -1,5 +1,6 @@
-use crate::scenes::{EXAMPLE, GREATEST};
+use crate::scenes::GREATEST;
 use crate::tracees_tests::left;
+use acceptance_scenes::EXAMPLE;
 use entry_codec::Entry;
 use std::test::*;
 use stores::MemStore;

@@ -6,6 +6,7 @@ ghost use Rattle.acceptance.specs.Beginnings.{Begins};
 
 use crate::ledgers::{Told, Work, over_a_file};
 use crate::threads_tests::{Do, Plan, Until, jobs};
+use acceptance_scenes::{TRIES, is_refused_for_good};
 use intake::EmitFault;
 use std::alloc::Global;
 use std::process::Abort;
@@ -14,9 +15,6 @@ use std::test::*;
 use std::thread::Threads;
 use trace_port::TracePort;
 use tracees::{ActFault, Bookkeeping, Desk, HandFault, Job, JobState, SharedBook, run_threads};
-
-/// So often jobs are made and run that are refused memory.
-const TRIES: u32 = 3;
 
 /// Two jobs of which each takes in a message and hands it over.
 const TWO: Plan = Plan {
@@ -96,12 +94,6 @@ fn is_done<R: Threads + Wait + Abort + Sync>(rt: &R, alloc: Global) -> bool {
     let is_done = matches!(&told, Told::Finished(true));
     drop(told);
     is_done
-}
-
-/// Whether memory is refused from now on, also to this.
-fn is_refused_for_good(alloc: Global) -> bool {
-    let asked: Result<Vec<u8>, _> = Vec::with_capacity(alloc, 8);
-    asked.is_err()
 }
 
 #[test]

@@ -2,36 +2,17 @@
 
 ghost use Rattle.std.specs.Prelude.{◌≡◌};
 
+use acceptance_scenes::{MOMENT, RECEIVE};
 use intake::{Offer, Tracee};
 use std::alloc::Global;
 use std::process::Abort;
 use std::test::*;
-use trace_message::{Event, Flags, Stamp};
+use trace_message::Event;
 use trace_port::TracePort;
 use trace_terms::{Atom, NoMemory, Pid, Term};
 use tracees::{Bookkeeping, Desk, Traced};
 
-/// `{trace,<nonode@nohost.80.0.0>,'receive',ok}` in the External Term Format.
-pub(crate) const EXAMPLE: &[u8] =
-    b"\x83\x68\x04\x77\x05trace\x58\x77\x0dnonode@nohost\x00\x00\x00\x50\x00\x00\x00\x00\x00\x00\x00\x00\x77\x07receive\x77\x02ok";
-
 pub(crate) const GREATEST: u64 = 1_099_511_627_776;
-
-pub(crate) const MOMENT: Stamp = Stamp {
-    mega: 1,
-    sec: 2,
-    micro: 3,
-    mono: 0,
-};
-
-const RECEIVE: Flags = Flags {
-    call: false,
-    send: false,
-    receive: true,
-    arity: false,
-    timestamp: false,
-    monotonic: false,
-};
 
 /// The tracee of a number and of a process, which has room for so many messages.
 pub(crate) fn tracee(

@@ -3,8 +3,9 @@ ghost use Rattle.tracees.specs.Jobs.{IsReady};
 ghost use Rattle.acceptance.specs.Beginnings.{Begins};
 
 use crate::ledgers::{Told, Work, over_a_file, over_a_wrap};
-use crate::scenes::{MOMENT, receipt_of_ok, tracee};
+use crate::scenes::{receipt_of_ok, tracee};
 use crate::settling_tests::told;
+use acceptance_scenes::MOMENT;
 use entry_codec::Entry;
 use recovery::{Recovered, recover};
 use std::alloc::Global;

@@ -1,6 +1,7 @@
 ghost use Rattle.std.specs.Prelude.{◌≡◌};
 
-use crate::scenes::{GREATEST, MOMENT, attach, receipt_of_ok};
+use crate::scenes::{GREATEST, attach, receipt_of_ok};
+use acceptance_scenes::MOMENT;
 use entry_codec::Entry;
 use intake::Offer;
 use recovery::recover;

@@ -1,21 +1,13 @@
 //! Folds over a window, while memory is refused.
 
 use crate::trace_client_tests::RECEIVE;
+use acceptance_scenes::{TRIES, is_refused_for_good};
 use entry_codec::Entry;
 use recovery::Recovered;
 use std::alloc::Global;
 use std::cell::Cell;
 use std::test::*;
 use trace_client::{Item, fold_trace};
-
-/// So often a call is made that is refused memory.
-const TRIES: u32 = 3;
-
-/// Whether memory is refused from now on, also to this.
-fn is_refused_for_good(alloc: Global) -> bool {
-    let asked: Result<Vec<u8>, _> = Vec::with_capacity(alloc, 8);
-    asked.is_err()
-}
 
 /// An entry of these bytes, which are copied once more where that was refused memory.
 fn message(alloc: Global, bytes: &[u8]) -> Option<Entry> {

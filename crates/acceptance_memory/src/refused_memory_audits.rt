@@ -1,7 +1,7 @@
 //! Audits while memory is refused, which need none.
 
-use crate::refused_memory_ports::is_refused_for_good;
 use crate::scenes::{MESSAGE, room};
+use acceptance_scenes::is_refused_for_good;
 use entry_codec::Entry;
 use recovery::Recovered;
 use std::alloc::Global;

@@ -1,8 +1,9 @@
 //! Desks that hand over, and runs of steps, while memory is refused.
 
 use crate::fixed_store::FixedStore;
-use crate::refused_memory_ports::{FILE, GREATEST, SEAL, TRIES, is_refused_for_good};
-use crate::scenes::{MESSAGE, MOMENT, ONE_MESSAGE, receipt_of_ok, tracee};
+use crate::refused_memory_ports::{FILE, GREATEST, SEAL};
+use crate::scenes::{MESSAGE, ONE_MESSAGE, tracee};
+use acceptance_scenes::{MOMENT, TRIES, is_refused_for_good, receipt_of_ok};
 use entry_codec::Entry;
 use intake::{EmitFault, Offer, Tracee};
 use std::alloc::Global;

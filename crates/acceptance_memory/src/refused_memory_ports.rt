@@ -4,6 +4,7 @@ ghost use Rattle.entry_codec.specs.Entries.{IsLawful};
 ghost use Rattle.entry_codec.specs.Seen.{view};
 
 use crate::fixed_store::FixedStore;
+use acceptance_scenes::{TRIES, is_refused_for_good};
 use entry_codec::Entry;
 use recovery::RecoverFault;
 use std::alloc::Global;
@@ -11,9 +12,6 @@ use std::process::Abort;
 use std::test::*;
 use trace_port::{CreateFault, FilePort, ResumeFault, TracePort};
 use wrap_port::{WrapPort, WrapSpec};
-
-/// So often a call is made that is refused memory.
-pub(crate) const TRIES: u32 = 3;
 
 pub(crate) const GREATEST: u64 = 1_099_511_627_776;
 
@@ -44,12 +42,6 @@ const ONE: &[u8] = b"\x01\0\0\0\x05\x01\0\0\0\x01";
 const CLOSED: &[u8] = b"\0";
 
 pub(crate) const SEAL: &[u8] = b"\x01\0\0\0\0";
-
-/// Whether memory is refused from now on, also to this.
-pub(crate) fn is_refused_for_good(alloc: Global) -> bool {
-    let asked: Result<Vec<u8>, _> = Vec::with_capacity(alloc, 8);
-    asked.is_err()
-}
 
 fn seven_lost() -> Entry
     ensures { IsLawful (view result) }

@@ -60,24 +60,12 @@ fn is_respelled(
 
 /// Why bytes aren't read; None where they are.
 fn fault_of(alloc: Global, bytes: &[u8]) -> Option<DecodeFault> {
-    let read = decode(alloc, bytes);
-    let fault = match &read {
-        Ok(_) => None,
-        Err(fault) => Some(*fault),
-    };
-    drop(read);
-    fault
+    decode(alloc, bytes).err()
 }
 
 /// Why a term isn't spelled; None where it is.
 fn refusal_of(alloc: Global, term: &Term) -> Option<EncodeFault> {
-    let spelled = encode(alloc, term);
-    let fault = match &spelled {
-        Ok(_) => None,
-        Err(fault) => Some(*fault),
-    };
-    drop(spelled);
-    fault
+    encode(alloc, term).err()
 }
 
 /// These bytes, a piece so many times, and the last bytes.

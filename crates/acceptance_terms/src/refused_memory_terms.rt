@@ -1,8 +1,7 @@
 //! Messages that are made, copied, spelled and taken off, while memory is refused.
 
-use crate::scenes::{
-    EXAMPLE, MOMENT, RECEIVE, TRIES, is_refused_for_good, pid, receipt_of_ok, tracee,
-};
+use crate::scenes::{MOMENT, tracee};
+use acceptance_scenes::{EXAMPLE, RECEIVE, TRIES, is_refused_for_good, pid, receipt_of_ok};
 use entry_codec::Entry;
 use ext_format::{EncodeFault, encode};
 use intake::{Offer, Tracee};

@@ -35,6 +35,21 @@ use std::sync::Wait;
 use std::{env, io};
 use streaming::list_stream;
 
+/// What may stand for the number of `--size`.
+const A_SIZE: &str = "a number below 4294967296, with K, M or G after it or nothing";
+
+/// What may stand for the kinds of `--only`.
+const KINDS: &str =
+    "call, return, exception, send, send_lost, receive, other, opaque or drop, several with commas between them; with --pretty also OTP's other words, as spawn and exit";
+
+/// What may stand for the process of `--pid`.
+const A_PROCESS: &str =
+    "a process as a listing shows it, as <app@host.80.0.0> or <'app@my-host'.80.0.0>, or a port, as #Port<app@host.4.0>";
+
+/// What may stand for the function of `--mfa`.
+const A_FUNCTION: &str =
+    "a module, as lists, a function, as lists:seq, or one of so many arguments, as lists:seq/2";
+
 /// Does what is asked for.
 fn serve<R: Wait, I: Read + Drop, W: Output>(
     rt: &HostRuntime,
@@ -95,34 +110,24 @@ fn fail_to_write(rt: &HostRuntime, complaint: &Complaint, reason: Option<io::Err
     code
 }
 
-fn not_of_size(rt: &HostRuntime, text: &str) {
+/// Tells that a word isn't one that the option takes, and what that takes.
+fn refuse(rt: &HostRuntime, word: &str, option: &str, taken: &str) -> ExitCode
+    ensures { exit_status result ≡ 2 }
+{
     let _ = eprintln!(rt;
-        "error: invalid value '{text}' for '--size <BYTES>': a number below 4294967296, with K, M or G after it or nothing\n\nFor more information, try '--help'."
+        "error: invalid value '{word}' for '{option}': {taken}\n\nFor more information, try '--help'."
     );
+    ExitCode::from(2)
 }
 
-fn no_kind(rt: &HostRuntime, word: &str) {
-    let _ = eprintln!(rt;
-        "error: invalid value '{word}' for '--only <KIND[,KIND..]>': call, return, exception, send, send_lost, receive, other, opaque or drop, several with commas between them; with --pretty also OTP's other words, as spawn and exit\n\nFor more information, try '--help'."
-    );
-}
-
-fn pretty_kind(rt: &HostRuntime, word: &str) {
+/// Tells that a kind is one of OTP's own words, which a plain listing doesn't have.
+fn refuse_pretty(rt: &HostRuntime, word: &str) -> ExitCode
+    ensures { exit_status result ≡ 2 }
+{
     let _ = eprintln!(rt;
         "error: '--only {word}' needs '--pretty': without it such a message is other or opaque\n\nFor more information, try '--help'."
     );
-}
-
-fn no_process(rt: &HostRuntime, text: &str) {
-    let _ = eprintln!(rt;
-        "error: invalid value '{text}' for '--pid <PID>': a process as a listing shows it, as <app@host.80.0.0> or <'app@my-host'.80.0.0>, or a port, as #Port<app@host.4.0>\n\nFor more information, try '--help'."
-    );
-}
-
-fn no_function(rt: &HostRuntime, text: &str) {
-    let _ = eprintln!(rt;
-        "error: invalid value '{text}' for '--mfa <M[:F[/A]]>': a module, as lists, a function, as lists:seq, or one of so many arguments, as lists:seq/2\n\nFor more information, try '--help'."
-    );
+    ExitCode::from(2)
 }
 
 /// The status for words that aren't of the form that the help shows.
@@ -154,26 +159,11 @@ fn correct(rt: &HostRuntime, misuse: Misuse<'_>) -> ExitCode
 {
     match misuse {
         Misuse::Form(error) => correct_form(rt, &error),
-        Misuse::Size(text) => {
-            not_of_size(rt, text);
-            ExitCode::from(2)
-        }
-        Misuse::Kind(word) => {
-            no_kind(rt, word);
-            ExitCode::from(2)
-        }
-        Misuse::PrettyKind(word) => {
-            pretty_kind(rt, word);
-            ExitCode::from(2)
-        }
-        Misuse::Process(text) => {
-            no_process(rt, text);
-            ExitCode::from(2)
-        }
-        Misuse::Function(text) => {
-            no_function(rt, text);
-            ExitCode::from(2)
-        }
+        Misuse::Size(text) => refuse(rt, text, "--size <BYTES>", A_SIZE),
+        Misuse::Kind(word) => refuse(rt, word, "--only <KIND[,KIND..]>", KINDS),
+        Misuse::PrettyKind(word) => refuse_pretty(rt, word),
+        Misuse::Process(text) => refuse(rt, text, "--pid <PID>", A_PROCESS),
+        Misuse::Function(text) => refuse(rt, text, "--mfa <M[:F[/A]]>", A_FUNCTION),
     }
 }
 

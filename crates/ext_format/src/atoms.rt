@@ -1,12 +1,12 @@
 //! Atoms and pids, read from the front of bytes.
 
 ghost use Rattle.std.specs.Prelude.{◌≡◌, ◌≤◌, Ok, length, string_bytes, IfOk, IfSome, IsTrue};
-ghost use Rattle.std.specs.Int.{w8, w32};
 ghost use Rattle.std.specs.Str.{encode_utf8_all, IsAscii};
 ghost use Rattle.ext_format.specs.Reading.{Gives, short_text, utf8_text, latin1_text, text_at, spelt_at, node_at, pid_at};
+ghost use Rattle.ext_format.specs.Widths.{width_of};
 
 use crate::fault::DecodeFault;
-use crate::fields::{sized_8, sized_16, tag_behind, u8_at, u32_at};
+use crate::fields::{Bytes, number_at, sized_8, sized_16, tag_behind, u32_at};
 use crate::tag::Tag;
 use std::alloc::{AllocError, Global};
 use std::str;
@@ -122,36 +122,15 @@ fn node_of(alloc: Global, bytes: &[u8]) -> Result<(Atom, &[u8]), DecodeFault>
     atom_of(alloc, tag, rest)
 }
 
-/// The pid after the tag NEW_PID_EXT.
+/// The pid after its tag, NEW_PID_EXT or PID_EXT, whose creation has four bytes or one.
 #[tactic(auto, unfolding(crate::specs::Reading::pid_at))]
-pub fn new_pid_of(alloc: Global, bytes: &[u8]) -> Result<(Pid, &[u8]), DecodeFault>
-    ensures { Gives (λ x. (x.0, x.1.now)) result (pid_at w32 bytes.now) }
+pub fn pid_of(alloc: Global, creation: Bytes, bytes: &[u8]) -> Result<(Pid, &[u8]), DecodeFault>
+    ensures { Gives (λ x. (x.0, x.1.now)) result (pid_at (width_of creation) bytes.now) }
 {
     let (node, rest) = node_of(alloc, bytes)?;
     let (id, rest) = u32_at(rest)?;
     let (serial, rest) = u32_at(rest)?;
-    let (creation, rest) = u32_at(rest)?;
-    Ok((
-        Pid {
-            node,
-            id,
-            serial,
-            creation,
-        },
-        rest,
-    ))
-}
-
-/// The pid after the tag PID_EXT, whose creation has one byte.
-#[tactic(auto, unfolding(crate::specs::Reading::pid_at))]
-pub fn pid_of(alloc: Global, bytes: &[u8]) -> Result<(Pid, &[u8]), DecodeFault>
-    ensures { Gives (λ x. (x.0, x.1.now)) result (pid_at w8 bytes.now) }
-{
-    let (node, rest) = node_of(alloc, bytes)?;
-    let (id, rest) = u32_at(rest)?;
-    let (serial, rest) = u32_at(rest)?;
-    let (creation, rest) = u8_at(rest)?;
-    let creation = u32::from(creation);
+    let (creation, rest) = number_at(creation, rest)?;
     Ok((
         Pid {
             node,

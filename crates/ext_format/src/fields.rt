@@ -3,9 +3,17 @@
 ghost use Rattle.std.specs.Prelude.{◌≡◌};
 ghost use Rattle.std.specs.Int.{w8, w16, w32};
 ghost use Rattle.ext_format.specs.Reading.{Gives, number_at, bytes_at, sized_at, tag_at};
+ghost use Rattle.ext_format.specs.Widths.{width_of};
 
 use crate::fault::DecodeFault;
 use crate::tag::{Tag, tag_named};
+
+/// How many bytes a number has, where a tag chooses.
+#[derive(Clone, Copy, Debug, PartialEq, Eq)]
+pub enum Bytes {
+    One,
+    Four,
+}
 
 /// A number of one byte.
 pub fn u8_at(bytes: &[u8]) -> Result<(u8, &[u8]), DecodeFault>
@@ -36,6 +44,20 @@ pub fn u32_at(bytes: &[u8]) -> Result<(u32, &[u8]), DecodeFault>
     let (front, rest) = bytes.split_at(4);
     let number = u32::from_be_bytes([front[0], front[1], front[2], front[3]]);
     Ok((number, rest))
+}
+
+/// A number of one byte or of four.
+#[inline(always)]
+pub fn number_at(size: Bytes, bytes: &[u8]) -> Result<(u32, &[u8]), DecodeFault>
+    ensures { Gives (λ x. (x.0, x.1.now)) result (number_at (width_of size) bytes.now) }
+{
+    match size {
+        Bytes::One => {
+            let (number, rest) = u8_at(bytes)?;
+            Ok((u32::from(number), rest))
+        }
+        Bytes::Four => u32_at(bytes),
+    }
 }
 
 /// So many bytes.

@@ -9,7 +9,7 @@ use Rattle.stores.specs.declared.folder_store.FolderStore.{FolderStore}
 use Rattle.stores.specs.contracts.folder_store.FolderStoreStore.TheImpl as folder
 use Rattle.segment.specs.Specification.{Spec}
 use Rattle.recovery.specs.Stores.{readings, IsBlank}
-use Rattle.trace_port.specs.Device.{Device, device_of}
+use Rattle.trace_store.specs.Device.{Device, device_of}
 use Rattle.trace_client.specs.Forms.{Form, as_lines, as_bytes}
 use Rattle.trace_client.specs.declared.fault.StreamFault.{StreamFault}
 use Rattle.trace_text.specs.declared.style.Style.{Style}

@@ -2,11 +2,10 @@
 use Rattle.std.specs.Prelude.{◌≡◌, ℕ, true, Option, Some, None, List, Result, Ok, Err, OnOk}
 use Rattle.std.specs.Io.KnownBytes.{Appends}
 use Rattle.segment.specs.DeviceCalls.{DeviceReads}
-use Rattle.segment.specs.Pieces.{OnlyReads}
+use Rattle.trace_store.specs.Device.{OnlyReads, device_of}
 use Rattle.stores.specs.FolderStore.{honest_of, reads_of, images_of, moments_of, clock_of}
 use Rattle.stores.specs.declared.folder_store.FolderStore.{FolderStore}
 use Rattle.stores.specs.contracts.folder_store.FolderStoreStore.TheImpl as folder
-use Rattle.trace_port.specs.Device.{device_of}
 use Rattle.trace_port.specs.Opened.{opened_told}
 use Rattle.trace_port.specs.FilePort.{file_told}
 use Rattle.trace_port.specs.contracts.pending.PendingRoom.TheImpl as pending

@@ -1,5 +1,5 @@
 -- A trace that is followed, look by look.
-use Rattle.std.specs.Prelude.{◌≡◌, ℕ, Bool, Option, None, List, [], Result, Ok, Err}
+use Rattle.std.specs.Prelude.{◌≡◌, ◌⊎◌, ℕ, Bool, Option, None, List, [], Result, Ok, Err}
 use Rattle.std.specs.Io.KnownBytes.{Appends, Keeps}
 use Rattle.stores.specs.Events.{World}
 use Rattle.stores.specs.FolderStore.{past_of, honest_of, reads_of}
@@ -46,6 +46,12 @@ pub record IsNew (style : Style) (follower : Follower) : Type 0 where
 pub record IsAnew (count : ℕ) (store : FolderStore) : Type 0 where
   pub world : World
   pub past : past_of store ≡ record { world = world; count = count; events = [] }
+
+-- the store in which the files are: the one that was there, or one over the files as they are now; since then it was only looked at
+pub record IsLookedAt (count : ℕ) (old new : FolderStore) : Type 0 where
+  pub start : FolderStore
+  pub is : (start ≡ old) ⊎ IsAnew count start
+  pub looked : (new ≡ start) ⊎ OnlyLooks start new
 
 -- one look at the files, by a store of its own: what it told is what was added since the last, as far as that store is honest
 pub record IsLook (count : ℕ) (old new : Follower) (was now : Option (List ℕ)) (look : Look) : Type 0 where

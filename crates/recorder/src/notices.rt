@@ -2,7 +2,7 @@
 
 use command_line::{Asked, Wanted};
 use script_port::Origin;
-use segment::{Kind as Turns, SegHeader};
+use segment::StoreSpec;
 use trace_info::Shown;
 use trace_places::{Found, Kind};
 
@@ -38,14 +38,16 @@ pub fn tell_idle(rt: &HostRuntime, wanted: &Wanted<'_>, kind: Kind) {
 
 /// Says which options of the command line a wrap that is gone on with doesn't take.
 pub fn tell_own(rt: &HostRuntime, wanted: &Wanted<'_>, found: &Found, origin: Origin) {
-    if let (Origin::Resumed, Found::Wrap(Some(own))) = (origin, found) {
-        tell_own_count(rt, wanted, own);
-        tell_own_turn(rt, wanted, own);
+    if let (Origin::Resumed, Found::Wrap(Some(own))) = (origin, found)
+        && let Some(count) = own.spec.count()
+    {
+        tell_own_count(rt, wanted, count);
+        tell_own_turn(rt, wanted, own.spec);
     }
 }
 
-fn tell_own_count(rt: &HostRuntime, wanted: &Wanted<'_>, own: &SegHeader) {
-    let (name, count) = (Shown(wanted.asked.base), own.wrap_count);
+fn tell_own_count(rt: &HostRuntime, wanted: &Wanted<'_>, count: u16) {
+    let name = Shown(wanted.asked.base);
     if let Some(given) = wanted.asked.count
         && given != count
     {
@@ -54,11 +56,12 @@ fn tell_own_count(rt: &HostRuntime, wanted: &Wanted<'_>, own: &SegHeader) {
 }
 
 /// What is said of the option that ends a run.
-fn tell_own_turn(rt: &HostRuntime, wanted: &Wanted<'_>, own: &SegHeader) {
-    let (name, turn) = (Shown(wanted.asked.base), own.wrap_size);
-    let (option, given, other, instead) = match own.kind {
-        Turns::Timed => ("--time", wanted.time, "--size", wanted.size),
-        _ => ("--size", wanted.size, "--time", wanted.time),
+fn tell_own_turn(rt: &HostRuntime, wanted: &Wanted<'_>, own: StoreSpec) {
+    let name = Shown(wanted.asked.base);
+    let (turn, option, given, other, instead) = match own {
+        StoreSpec::File => return,
+        StoreSpec::Wrap { size, .. } => (size, "--size", wanted.size, "--time", wanted.time),
+        StoreSpec::Timed { millis, .. } => (millis, "--time", wanted.time, "--size", wanted.size),
     };
     match (given, instead) {
         (Some(given), _) if given != turn => {

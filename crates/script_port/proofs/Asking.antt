@@ -5,7 +5,7 @@ use Rattle.trace_message.specs.declared.event.Event.{Event}
 use Rattle.trace_message.specs.declared.event.Flags.{Flags}
 use Rattle.trace_message.specs.declared.event.Stamp.{Stamp}
 use Rattle.trace_port.specs.Port.{Told}
-use Rattle.tracees.specs.Desks.{Place, Seat, SameBook}
+use Rattle.tracees.specs.Desks.{DeskState, Seat, SameBook}
 use Rattle.intake.specs.declared.fault.EmitFault.{EmitFault}
 use Rattle.intake.specs.declared.offer.Offer.{Offer}
 use Rattle.intake.specs.declared.tracee.Tracee.{Tracee}
@@ -30,7 +30,7 @@ use Rattle.script_port.specs.DeskLines.{IsAskedFor, emits, hands_over, flushes_f
 use Rattle.script_port.specs.Asked.{IsAsked, puts, flushes, seals, ticks, abandons, crashes, closes, comes_to_desk, acts_there, out_of_order}
 
 -- a line for a tracee
-for_calls : {P : Type 0} (told : P → Told) → ((p : P) → IsStill (told p)) → (old new : Place P) (moment : Stamp) (was is : Seat) (line : TraceeLine) (answer : Answer) (did : Effect)
+for_calls : {P : Type 0} (told : P → Told) → ((p : P) → IsStill (told p)) → (old new : DeskState P) (moment : Stamp) (was is : Seat) (line : TraceeLine) (answer : Answer) (did : Effect)
     → IsAskedFor told old moment was new is line answer did → Calls (told old.port) (told new.port) (did ∷ [])
 for_calls told still old new moment was is line answer did (emits result e) = no_effect_call (told old.port) (still old.port)
 for_calls told still old new moment was is line answer did (hands_over {limit = limit} result h) = hands_calls told still old new limit was is result h
@@ -82,7 +82,7 @@ pub answered_there : {P : Type 0} (told : P → Told) (old new : DeskSide P) (li
 answered_there told old new line said answer meant did is same step =
     (did, subst (λ (l : DeskLine). IsAskedAtDesk told old new l answer did) (sym is) (subst (λ (a : Answer). IsAskedAtDesk told old new said a did) (sym same) step))
 
-pub answered_for : {P : Type 0} (told : P → Told) (old new : Place P) (moment : Stamp) (was is : Seat) (line said : TraceeLine) (answer meant : Answer) (did : Effect) → line ≡ said → answer ≡ meant → IsAskedFor told old moment was new is said meant did
+pub answered_for : {P : Type 0} (told : P → Told) (old new : DeskState P) (moment : Stamp) (was is : Seat) (line said : TraceeLine) (answer meant : Answer) (did : Effect) → line ≡ said → answer ≡ meant → IsAskedFor told old moment was new is said meant did
     → (e : Effect) × IsAskedFor told old moment was new is line answer e
 answered_for told old new moment was is line said answer meant did same_line same step =
     (did, subst (λ (l : TraceeLine). IsAskedFor told old moment was new is l answer did) (sym same_line) (subst (λ (a : Answer). IsAskedFor told old moment was new is said a did) (sym same) step))
@@ -93,30 +93,30 @@ same_seat was is desk sums =
     ap (λ d. let seat : Seat = record { desk = d; tracee = is.tracee; sums = was.sums } in seat) (sym desk)
     ∙ ap (λ s. let seat : Seat = record { desk = is.desk; tracee = is.tracee; sums = s } in seat) (sym sums)
 
-pub emitted : {P : Type 0} (told : P → Told) (desk : Place P) (moment : Stamp) (was is : Seat) (event : Event) (result : Result Offer EmitFault) → is.desk ≡ was.desk → is.sums ≡ was.sums → Emits was.tracee is.tracee event moment result
+pub emitted : {P : Type 0} (told : P → Told) (desk : DeskState P) (moment : Stamp) (was is : Seat) (event : Event) (result : Result Offer EmitFault) → is.desk ≡ was.desk → is.sums ≡ was.sums → Emits was.tracee is.tracee event moment result
     → IsAskedFor told desk moment was desk is (Emit event) (emit_answer result) no_effect
 emitted told desk moment was is event result same sums e = subst (λ (seat : Seat). IsAskedFor told desk moment was desk seat (Emit event) (emit_answer result) no_effect) (same_seat was is same sums) (emits {tracee = is.tracee} result e)
 
 -- ---- a desk whose book stays
 
-same_place : {P : Type 0} (old new : Place P) → SameBook old new → (let then : Place P = record old { port = new.port } in then ≡ new)
+same_place : {P : Type 0} (old new : DeskState P) → SameBook old new → (let then : DeskState P = record old { port = new.port } in then ≡ new)
 same_place {P} old new book =
-    ap (λ n. let place : Place P = record { number = n; port = new.port; counted = old.counted; attached = old.attached } in place) (sym book.number)
-    ∙ ap (λ t. let place : Place P = record { number = new.number; port = new.port; counted = t; attached = old.attached } in place) (sym book.counted)
-    ∙ ap (λ n. let place : Place P = record { number = new.number; port = new.port; counted = new.counted; attached = n } in place) (sym book.attached)
+    ap (λ n. let place : DeskState P = record { number = n; port = new.port; counted = old.counted; attached = old.attached } in place) (sym book.number)
+    ∙ ap (λ t. let place : DeskState P = record { number = new.number; port = new.port; counted = t; attached = old.attached } in place) (sym book.counted)
+    ∙ ap (λ n. let place : DeskState P = record { number = new.number; port = new.port; counted = new.counted; attached = n } in place) (sym book.attached)
 
 -- a call of the port in a desk
-pub in_desk : {P : Type 0} (told : P → Told) (old new : Place P) (moment : Stamp) (seats : List Seat) (line : Line) (reply : Reply) (did : Effect) → SameBook old new
+pub in_desk : {P : Type 0} (told : P → Told) (old new : DeskState P) (moment : Stamp) (seats : List Seat) (line : Line) (reply : Reply) (did : Effect) → SameBook old new
     → (let here : DeskSide P = record { desk = old; moment = moment; seats = seats } in IsAsked told (AtDesk here) (with_port (AtDesk here) new.port) line reply did)
     → (let here : DeskSide P = record { desk = old; moment = moment; seats = seats } in let then : DeskSide P = record { desk = new; moment = moment; seats = seats } in IsAsked told (AtDesk here) (AtDesk then) line reply did)
 in_desk {P} told old new moment seats line reply did book step =
     let here : DeskSide P = record { desk = old; moment = moment; seats = seats } in
-    subst (λ (place : Place P). let then : DeskSide P = record { desk = place; moment = moment; seats = seats } in IsAsked told (AtDesk here) (AtDesk then) line reply did) (same_place old new book) step
+    subst (λ (place : DeskState P). let then : DeskSide P = record { desk = place; moment = moment; seats = seats } in IsAsked told (AtDesk here) (AtDesk then) line reply did) (same_place old new book) step
 
 -- ---- lines for a desk
 
 -- the moment and the seats as they stand
-pub as_they_stand : {P : Type 0} (told : P → Told) (old : DeskSide P) (desk : Place P) (moment now : Stamp) (seats sit : List Seat) (line : DeskLine) (answer : Answer) (did : Effect) → now ≡ moment → sit ≡ seats
+pub as_they_stand : {P : Type 0} (told : P → Told) (old : DeskSide P) (desk : DeskState P) (moment now : Stamp) (seats sit : List Seat) (line : DeskLine) (answer : Answer) (did : Effect) → now ≡ moment → sit ≡ seats
     → (let new : DeskSide P = record { desk = desk; moment = moment; seats = seats } in IsAskedAtDesk told old new line answer did)
     → (let new : DeskSide P = record { desk = desk; moment = now; seats = sit } in IsAskedAtDesk told old new line answer did)
 as_they_stand {P} told old desk moment now seats sit line answer did is sits step =
@@ -124,21 +124,21 @@ as_they_stand {P} told old desk moment now seats sit line answer did is sits ste
     (subst (λ (s : List Seat). let new : DeskSide P = record { desk = desk; moment = moment; seats = s } in IsAskedAtDesk told old new line answer did) (sym sits) step)
 
 -- a new tracee
-pub attached_there : {P : Type 0} (told : P → Told) (old : DeskSide P) (desk : Place P) (seats : List Seat) (seat : Seat) (n capacity drop_limit : ℕ) (flags : Flags) (tracee : Tracee)
+pub attached_there : {P : Type 0} (told : P → Told) (old : DeskSide P) (desk : DeskState P) (seats : List Seat) (seat : Seat) (n capacity drop_limit : ℕ) (flags : Flags) (tracee : Tracee)
     → desk.number ≡ old.desk.number → desk.port ≡ old.desk.port → desk.counted ≡ old.desk.counted → desk.attached ≡ old.desk.attached + 1 → seat.desk ≡ old.desk.number → seat.tracee ≡ tracee → seat.sums ≡ no_totals → seats ≡ old.seats ++ seat ∷ []
     → place_by n old.seats ≡ None → (IsBadSpec capacity drop_limit → ⊥) → IsNew n capacity drop_limit flags tracee
     → (let new : DeskSide P = record { desk = desk; moment = old.moment; seats = seats } in IsAskedAtDesk told old new (desk_lines.Tracee n capacity drop_limit flags) answers.Done no_effect)
 attached_there {P} told old desk seats seat n capacity drop_limit flags tracee number port counted attached at is sums sit free fits made =
-    let place_is : (let p : Place P = record old.desk { attached = old.desk.attached + 1 } in p ≡ desk) =
-    ap (λ x. let p : Place P = record { number = x; port = old.desk.port; counted = old.desk.counted; attached = old.desk.attached + 1 } in p) (sym number)
-    ∙ ap (λ x. let p : Place P = record { number = desk.number; port = x; counted = old.desk.counted; attached = old.desk.attached + 1 } in p) (sym port)
-    ∙ ap (λ x. let p : Place P = record { number = desk.number; port = desk.port; counted = x; attached = old.desk.attached + 1 } in p) (sym counted)
-    ∙ ap (λ x. let p : Place P = record { number = desk.number; port = desk.port; counted = desk.counted; attached = x } in p) (sym attached) in
+    let place_is : (let p : DeskState P = record old.desk { attached = old.desk.attached + 1 } in p ≡ desk) =
+    ap (λ x. let p : DeskState P = record { number = x; port = old.desk.port; counted = old.desk.counted; attached = old.desk.attached + 1 } in p) (sym number)
+    ∙ ap (λ x. let p : DeskState P = record { number = desk.number; port = x; counted = old.desk.counted; attached = old.desk.attached + 1 } in p) (sym port)
+    ∙ ap (λ x. let p : DeskState P = record { number = desk.number; port = desk.port; counted = x; attached = old.desk.attached + 1 } in p) (sym counted)
+    ∙ ap (λ x. let p : DeskState P = record { number = desk.number; port = desk.port; counted = desk.counted; attached = x } in p) (sym attached) in
     let seat_is : (let s : Seat = record { desk = old.desk.number; tracee = tracee; sums = no_totals } in s ≡ seat) =
     ap (λ x. let s : Seat = record { desk = x; tracee = tracee; sums = no_totals } in s) (sym at)
     ∙ ap (λ x. let s : Seat = record { desk = seat.desk; tracee = x; sums = no_totals } in s) (sym is)
     ∙ ap (λ x. let s : Seat = record { desk = seat.desk; tracee = seat.tracee; sums = x } in s) (sym sums) in
     let line = desk_lines.Tracee n capacity drop_limit flags in
     subst (λ (s : List Seat). let new : DeskSide P = record { desk = desk; moment = old.moment; seats = s } in IsAskedAtDesk told old new line answers.Done no_effect) (ap (λ (s : Seat). old.seats ++ s ∷ []) seat_is ∙ sym sit)
-    (subst (λ (p : Place P). let new : DeskSide P = record { desk = p; moment = old.moment; seats = old.seats ++ record { desk = old.desk.number; tracee = tracee; sums = no_totals } ∷ [] } in IsAskedAtDesk told old new line answers.Done no_effect) place_is
+    (subst (λ (p : DeskState P). let new : DeskSide P = record { desk = p; moment = old.moment; seats = old.seats ++ record { desk = old.desk.number; tracee = tracee; sums = no_totals } ∷ [] } in IsAskedAtDesk told old new line answers.Done no_effect) place_is
     (attaches free fits made))

@@ -3,5 +3,4 @@ pub mod Misplaced
 pub mod Placing
 pub mod Running
 pub mod Through
-pub mod Turning
 pub mod Written

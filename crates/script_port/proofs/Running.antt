@@ -5,7 +5,9 @@ use Rattle.trace_store.specs.Disk.{Image, SameImages}
 use Rattle.segment.specs.Specification.{Spec}
 use Rattle.recovery.specs.Items.{Item}
 use Rattle.recovery.specs.Views.{View, extend}
-use Rattle.trace_port.specs.Device.{Device, Leaves, IsIdle, FailedOnce, clock_sealed}
+use Rattle.trace_store.specs.Moments.{Rose}
+use Rattle.trace_store.specs.Device.{Device, Leaves, IsIdle}
+use Rattle.trace_port.specs.Clocks.{clock_sealed}
 use Rattle.trace_port.specs.Sound.{Sound}
 use Rattle.trace_port.specs.Port.{Told, Fits, AreSealed, gate_behind, has_sealed, Ends}
 use Rattle.trace_port.proofs.Leaving.{both, stays_idle}
@@ -97,8 +99,8 @@ idle_twice old mid new one two = record {
   failures = two.failures ∙ one.failures;
 }
 
-rose_still : (before mid now : ℕ) → now ≡ mid → FailedOnce before mid → FailedOnce before now
-rose_still before mid now same rose = subst (λ (n : ℕ). FailedOnce before n) (sym same) rose
+rose_still : (before mid now : ℕ) → now ≡ mid → Rose before mid → Rose before now
+rose_still before mid now same rose = subst (λ (n : ℕ). Rose before n) (sym same) rose
 
 -- a desk finished its port, whose own drop then made no device call
 finished_ends : (old mid : Told) (last : Device) → Finishes old mid → Ends mid last → Ends old last
@@ -113,11 +115,11 @@ finished_ends old mid last finished dropped =
           ⊎_elim
           (λ (all : AreSealed old.spec (extend old.spec v0 ys) place mid.device.images).
           inl (record { chain = all.chain; alike = λ image left. all.alike image (idle.images.no_more image left); view = all.view; sealed = all.sealed; gate = all.gate }))
-          (λ (rose : FailedOnce old.device.failures mid.device.failures). inr (rose_still old.device.failures mid.device.failures last.failures idle.failures rose))
+          (λ (rose : Rose old.device.failures mid.device.failures). inr (rose_still old.device.failures mid.device.failures last.failures idle.failures rose))
           (finished.ends.saved (dropped.was_honest h) v0 ys c f live);
       calls = λ live. ⊎_elim
           (λ (clock : mid.device.clock ≡ clock_sealed old.device.clock old.pending). inl (idle.clock ∙ clock))
-          (λ (rose : FailedOnce old.device.failures mid.device.failures). inr (rose_still old.device.failures mid.device.failures last.failures idle.failures rose))
+          (λ (rose : Rose old.device.failures mid.device.failures). inr (rose_still old.device.failures mid.device.failures last.failures idle.failures rose))
           (finished.ends.calls live);
       idle = λ dead. idle_twice old.device mid.device last (finished.ends.idle dead) idle;
     }

@@ -6,7 +6,7 @@ use Rattle.std.proofs.KnownBytes.{Consumes-nil}
 use Rattle.std.specs.Io.KnownBytes.{Appends}
 use Rattle.trace_port.specs.Port.{Told}
 use Rattle.trace_message.specs.declared.event.Stamp.{Stamp}
-use Rattle.tracees.specs.Desks.{Place, Seat}
+use Rattle.tracees.specs.Desks.{DeskState, Seat}
 use Rattle.tracees.specs.PortCalls.{Finishes}
 use Rattle.tracees.specs.Effects.{Effect}
 use Rattle.trace_script.specs.Lines.{IsOfFiles}
@@ -21,7 +21,7 @@ use Rattle.script_port.specs.declared.fault.SimFault.{SimFault}
 use Rattle.script_port.specs.Texts.{line_of}
 use Rattle.script_port.specs.Sides.{DeskSide, Held, AtDesk, first_side, new_side}
 use Rattle.script_port.specs.Asked.{IsAsked}
-use Rattle.script_port.specs.Read.{Stretch, stretch, IsBrokenOff, AreTheLines}
+use Rattle.script_port.specs.Read.{Stretch, stretch, ComesNext, IsBrokenOff, AreTheLines}
 use Rattle.script_port.specs.Held.{Exchange, lines_of, ends, leaves, asks, written, IsLetGo, IsAtDesk, Ran}
 use Rattle.script_port.proofs.Running.{then_more}
 use Rattle.script_port.proofs.Written.{HasWritten, appends_none, appends_both, written-append, finished_there}
@@ -37,6 +37,17 @@ next_line of_desk here was is None line same e told = cc
 pub no_more : (here : Bool) (was is : Progress) (found : Option Line) → found ≡ None → TellsNext here was is (Ok found) → HasEnded was is
 no_more here was is None e told = told
 no_more here was is (Some line) e told = cc
+
+-- the line that comes next is the script's, and names no file that isn't there
+pub line_comes : (of_desk here : Bool) (files : ℕ) (was is : Progress) (found : Option Line) (line : Line) → here ≡ of_desk → found ≡ Some line → ComesNext here files was is (Ok found) → HasNext of_desk was is line × IsOfFiles files line
+line_comes of_desk here files was is (Some other) line same e comes =
+    let at : other ≡ line = cc in
+    subst (λ (l : Line). HasNext of_desk was is l × IsOfFiles files l) at (subst (λ (d : Bool). HasNext d was is other) same comes.0, comes.1)
+line_comes of_desk here files was is None line same e comes = cc
+
+pub none_comes : (here : Bool) (files : ℕ) (was is : Progress) (found : Option Line) → found ≡ None → ComesNext here files was is (Ok found) → HasEnded was is
+none_comes here files was is None e comes = comes
+none_comes here files was is (Some line) e comes = cc
 
 -- no line was read at the last
 pub none_read : (of_desk : Bool) (at : Progress) → HasStopped of_desk at at scripts.Read
@@ -74,7 +85,7 @@ pub reads_none : {P : Type 0} (told : P → Told) (held : Held P) (known : Optio
 reads_none told held known of_desk files from = record { run = record { done = []; asked = ends; text = appends_none known }; read = done_none of_desk files from }
 
 -- a desk before its first line
-pub reads_none_there : {P : Type 0} (told : P → Told) (place : Place P) (moment : Stamp) (seats : List Seat) (known : Option (List ℕ)) (of_desk : Bool) (files : ℕ) (from : Progress) → (let zero : Stamp = record { mega = 0; sec = 0; micro = 0; mono = pos 0 } in moment ≡ zero) → seats ≡ []
+pub reads_none_there : {P : Type 0} (told : P → Told) (place : DeskState P) (moment : Stamp) (seats : List Seat) (known : Option (List ℕ)) (of_desk : Bool) (files : ℕ) (from : Progress) → (let zero : Stamp = record { mega = 0; sec = 0; micro = 0; mono = pos 0 } in moment ≡ zero) → seats ≡ []
     → (let now : DeskSide P = record { desk = place; moment = moment; seats = seats } in HasRead told (AtDesk (first_side place)) None (AtDesk now) known known of_desk files from from)
 reads_none_there {P} told place moment seats known of_desk files from at none =
     subst (λ (m : Stamp). let now : DeskSide P = record { desk = place; moment = m; seats = seats } in HasRead told (AtDesk (first_side place)) None (AtDesk now) known known of_desk files from from) (sym at)
@@ -199,11 +210,11 @@ ran_behind told old files over (Ok leave) Stands start before now first wrote ru
 ran_behind told old files over (Err fault) Stands start before now first wrote run = record { done = run.done; end = run.end; asks = run.asks; read = run.read; stands = run.stands; text = tt }
 
 -- at a desk that then has finished its port
-pub ran_to_end : {P : Type 0} (told : P → Told) (first : Held P) (files : ℕ) (over : Stretch) (r : Result (Option Leave) SimFault) (desk : Place P) (q : P) (Writes : List ℕ → Type 0) → Finishes (told desk.port) (told q) → Ran told first files over r (IsAtDesk desk) Writes
+pub ran_to_end : {P : Type 0} (told : P → Told) (first : Held P) (files : ℕ) (over : Stretch) (r : Result (Option Leave) SimFault) (desk : DeskState P) (q : P) (Writes : List ℕ → Type 0) → Finishes (told desk.port) (told q) → Ran told first files over r (IsAtDesk desk) Writes
     → Ran told first files over r (λ end. IsLetGo told end q) Writes
 ran_to_end told first files over r desk q Writes finished run = record { done = run.done; end = run.end; asks = run.asks; read = run.read; stands = finished_there told desk q run.end finished run.stands; text = run.text }
 
 -- at a desk that has just been made
-pub ran_from_new : {P : Type 0} (told : P → Told) (p : P) (desk : Place P) (files : ℕ) (over : Stretch) (r : Result (Option Leave) SimFault) (Stands : Held P → Type 0) (Writes : List ℕ → Type 0) → first_side desk ≡ new_side p
+pub ran_from_new : {P : Type 0} (told : P → Told) (p : P) (desk : DeskState P) (files : ℕ) (over : Stretch) (r : Result (Option Leave) SimFault) (Stands : Held P → Type 0) (Writes : List ℕ → Type 0) → first_side desk ≡ new_side p
     → Ran told (AtDesk (first_side desk)) files over r Stands Writes → Ran told (AtDesk (new_side p)) files over r Stands Writes
 ran_from_new {P} told p desk files over r Stands Writes is run = subst (λ (side : DeskSide P). Ran told (AtDesk side) files over r Stands Writes) is run

@@ -4,7 +4,7 @@ use Rattle.std.proofs.lemmas.List.{append-nil}
 use Rattle.std.specs.Io.KnownBytes.{Appends}
 use Rattle.trace_port.specs.Port.{Told}
 use Rattle.tracees.specs.Books.{no_totals}
-use Rattle.tracees.specs.Desks.{Place}
+use Rattle.tracees.specs.Desks.{DeskState}
 use Rattle.tracees.specs.PortCalls.{Finishes}
 use Rattle.script_port.specs.declared.reply.Leave.{Leave}
 use Rattle.script_port.specs.Sides.{Held, Alone, AtDesk, first_side, new_side}
@@ -44,14 +44,14 @@ both_written told old mid new leave start before now one two = record {
 }
 
 -- a desk has finished its port
-pub finished_there : {P : Type 0} (told : P → Told) (desk : Place P) (q : P) (end : Held P) → Finishes (told desk.port) (told q) → IsAtDesk desk end → IsLetGo told end q
+pub finished_there : {P : Type 0} (told : P → Told) (desk : DeskState P) (q : P) (end : Held P) → Finishes (told desk.port) (told q) → IsAtDesk desk end → IsLetGo told end q
 finished_there told desk q (Alone p) finished there = absurd there
-finished_there {P} told desk q (AtDesk side) finished there = subst (λ (d : Place P). Finishes (told d.port) (told q)) (sym there) finished
+finished_there {P} told desk q (AtDesk side) finished there = subst (λ (d : DeskState P). Finishes (told d.port) (told q)) (sym there) finished
 
 -- a desk that has just been made
-pub new_desk : {P : Type 0} (p : P) (desk : Place P) → desk.number ≡ 0 → desk.port ≡ p → desk.counted ≡ no_totals → desk.attached ≡ 0 → first_side desk ≡ new_side p
+pub new_desk : {P : Type 0} (p : P) (desk : DeskState P) → desk.number ≡ 0 → desk.port ≡ p → desk.counted ≡ no_totals → desk.attached ≡ 0 → first_side desk ≡ new_side p
 new_desk {P} p desk number port counted attached =
-    ap (λ n. let place : Place P = record { number = n; port = desk.port; counted = desk.counted; attached = desk.attached } in first_side place) number
-    ∙ ap (λ q. let place : Place P = record { number = 0; port = q; counted = desk.counted; attached = desk.attached } in first_side place) port
-    ∙ ap (λ t. let place : Place P = record { number = 0; port = p; counted = t; attached = desk.attached } in first_side place) counted
-    ∙ ap (λ n. let place : Place P = record { number = 0; port = p; counted = no_totals; attached = n } in first_side place) attached
+    ap (λ n. let place : DeskState P = record { number = n; port = desk.port; counted = desk.counted; attached = desk.attached } in first_side place) number
+    ∙ ap (λ q. let place : DeskState P = record { number = 0; port = q; counted = desk.counted; attached = desk.attached } in first_side place) port
+    ∙ ap (λ t. let place : DeskState P = record { number = 0; port = p; counted = t; attached = desk.attached } in first_side place) counted
+    ∙ ap (λ n. let place : DeskState P = record { number = 0; port = p; counted = no_totals; attached = n } in first_side place) attached

@@ -1,6 +1,6 @@
 -- How what a call answered is told.
 use Rattle.std.specs.Prelude.{ℕ, Bool, true, false, length, Result, Ok, Err}
-use Rattle.trace_port.specs.declared.kinds.PortFault.{PortFault}
+use Rattle.trace_port.specs.declared.fault.PortFault.{PortFault}
 use Rattle.intake.specs.declared.fault.EmitFault.{EmitFault}
 use Rattle.intake.specs.declared.offer.Offer.{Offer}
 use Rattle.tracees.specs.declared.receipt.HandFault.{HandFault}

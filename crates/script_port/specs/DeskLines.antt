@@ -11,7 +11,7 @@ use Rattle.intake.specs.declared.fault.TraceeFault.TheVariants.{BadSpec, NoMemor
 use Rattle.intake.specs.declared.offer.Offer.{Offer}
 use Rattle.intake.specs.declared.tracee.Tracee.{Tracee}
 use Rattle.tracees.specs.Books.{no_totals}
-use Rattle.tracees.specs.Desks.{Place, Seat}
+use Rattle.tracees.specs.Desks.{DeskState, Seat}
 use Rattle.tracees.specs.Effects.{Effect, effect, no_effect}
 use Rattle.tracees.specs.Emits.{Emits}
 use Rattle.tracees.specs.Hands.{HandsOver, FlushesFor, items_moved, has_gone}
@@ -28,12 +28,12 @@ use Rattle.script_port.specs.Answers.{emit_answer, hand_answer, flush_for_answer
 use Rattle.script_port.specs.Sides.{DeskSide, place_by}
 
 -- a tracee is asked what the line says, and nothing else: what comes of it at its desk and its seat, how it is answered, and what the desk's port accepted and covered then
-pub data IsAskedFor {P : Type 0} (told : P → Told) (old : Place P) (moment : Stamp) (was : Seat) : Place P → Seat → TraceeLine → Answer → Effect → Type 0 where
+pub data IsAskedFor {P : Type 0} (told : P → Told) (old : DeskState P) (moment : Stamp) (was : Seat) : DeskState P → Seat → TraceeLine → Answer → Effect → Type 0 where
   emits : {event : Event} {tracee : Tracee} (result : Result Offer EmitFault) → Emits was.tracee tracee event moment result
       → IsAskedFor told old moment was old (record was { tracee = tracee }) (tracee_lines.Emit event) (emit_answer result) no_effect
-  hands_over : {limit : ℕ} {new : Place P} {is : Seat} (result : Result Receipt HandFault) → HandsOver told old new limit was is result
+  hands_over : {limit : ℕ} {new : DeskState P} {is : Seat} (result : Result Receipt HandFault) → HandsOver told old new limit was is result
       → IsAskedFor told old moment was new is (tracee_lines.Hand limit) (hand_answer result) (effect (items_moved result) false)
-  flushes_for : {new : Place P} {is : Seat} (result : Result Receipt HandFault) → FlushesFor told old new was is result
+  flushes_for : {new : DeskState P} {is : Seat} (result : Result Receipt HandFault) → FlushesFor told old new was is result
       → IsAskedFor told old moment was new is tracee_lines.FlushFor (flush_for_answer result) (effect (items_moved result) (has_gone result))
   counts : IsAskedFor told old moment was old was tracee_lines.Counts (answers.Counts (counts_of was.tracee)) no_effect
 
@@ -73,7 +73,7 @@ pub data IsAskedAtDesk {P : Type 0} (told : P → Told) (old : DeskSide P) : Des
       → IsAskedAtDesk told old old (desk_lines.Tracee n capacity drop_limit flags) (answers.Refused (refusals.Tracee fault)) no_effect
   -- a tracee of this number is there already
   is_there : {n capacity drop_limit : ℕ} {flags : Flags} → place_by n old.seats ≢ None → IsAskedAtDesk told old old (desk_lines.Tracee n capacity drop_limit flags) answers.OutOfOrder no_effect
-  asks_for : {n place : ℕ} {line : TraceeLine} {answer : Answer} {did : Effect} {desk : Place P} {was is : Seat} → place_by n old.seats ≡ Some place → slice_get old.seats place ≡ Some was
+  asks_for : {n place : ℕ} {line : TraceeLine} {answer : Answer} {did : Effect} {desk : DeskState P} {was is : Seat} → place_by n old.seats ≡ Some place → slice_get old.seats place ≡ Some was
       → IsAskedFor told old.desk old.moment was desk is line answer did
       → IsAskedAtDesk told old (record { desk = desk; moment = old.moment; seats = set old.seats place is }) (desk_lines.OfTracee n line) answer did
   -- no tracee of this number is there

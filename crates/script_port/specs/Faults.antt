@@ -3,7 +3,7 @@ use Rattle.std.specs.Prelude.{ℕ}
 use Rattle.recovery.specs.declared.fault.RecoverFault.TheVariants as recovering
 use Rattle.trace_port.specs.declared.create.CreateFault.TheVariants as creating
 use Rattle.trace_port.specs.declared.resume.ResumeFault.TheVariants as resuming
-use Rattle.trace_port.specs.declared.kinds.PortFault.TheVariants as porting
+use Rattle.trace_port.specs.declared.fault.PortFault.TheVariants as porting
 use Rattle.script_port.specs.declared.refusal.HandRefusal.TheVariants as handing
 use Rattle.script_port.specs.declared.refusal.Refusal.{Refusal}
 use Rattle.script_port.specs.declared.refusal.Refusal.TheVariants as refusals

@@ -3,10 +3,10 @@ use Rattle.std.specs.Prelude.{◌≡◌, ◌⊎◌, ℕ, Option, Some, None, Lis
 use Rattle.trace_store.specs.Disk.{Image}
 use Rattle.recovery.specs.Items.{Item}
 use Rattle.recovery.specs.Views.{View}
-use Rattle.trace_port.specs.Device.{Device, Leaves, IsIdle}
+use Rattle.trace_store.specs.Device.{Device, Leaves, IsIdle}
 use Rattle.trace_port.specs.Sound.{Sound}
 use Rattle.trace_port.specs.Port.{Told, Fits, Ends}
-use Rattle.tracees.specs.Desks.{Place}
+use Rattle.tracees.specs.Desks.{DeskState}
 use Rattle.tracees.specs.Effects.{Effect, items_in, covered_by}
 use Rattle.tracees.specs.PortCalls.{Finishes}
 use Rattle.tracees.specs.Lent.{IsAsOpened}
@@ -96,7 +96,7 @@ pub record Ran {P : Type 0} (told : P → Told) (first : Held P) (files : ℕ) (
   pub text : IfOk left (λ _. Writes (written done))
 
 -- a port in this desk is held
-abbrev pub IsAtDesk : {P : Type 0} → Place P → Held P → Type 0
+abbrev pub IsAtDesk : {P : Type 0} → DeskState P → Held P → Type 0
 IsAtDesk desk (Alone p) = ⊥
 IsAtDesk desk (AtDesk side) = side.desk ≡ desk
 

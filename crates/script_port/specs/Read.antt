@@ -26,10 +26,20 @@ first_lines of_desk count had has = stretch of_desk (progress 0 had) (progress c
 abbrev pub ReadsNothing : Stretch → Type 0
 ReadsNothing over = over.to ≡ over.from
 
--- why no line more was done: the script gives none; the next one names a file that isn't there, and the fault has its number; or what was answered at last couldn't be written
+-- why no line comes: the script gives none; or the next one names a file that isn't there, and the fault has its number
+pub data IsNoLine (of_desk : Bool) (files : ℕ) (from to : Progress) : SimFault → Type 0 where
+  not_given : (why : ScriptFault) → HasStopped of_desk from to why → IsNoLine of_desk files from to (script_fault why)
+  no_file : (line : Line) → HasNext of_desk from to line → (IsOfFiles files line → ⊥) → IsNoLine of_desk files from to (faults.BadCommand to.lines)
+
+-- what comes next: the end of the script, a line that names no file that isn't there, or why there is none
+abbrev pub ComesNext : Bool → ℕ → Progress → Progress → Result (Option Line) SimFault → Type 0
+ComesNext of_desk files from to (Ok None) = HasEnded from to
+ComesNext of_desk files from to (Ok (Some line)) = HasNext of_desk from to line × IsOfFiles files line
+ComesNext of_desk files from to (Err fault) = IsNoLine of_desk files from to fault
+
+-- why no line more was done: none comes; or what was answered at last couldn't be written
 pub data IsBrokenOff (of_desk : Bool) (files : ℕ) (from to : Progress) : SimFault → Type 0 where
-  no_line : (why : ScriptFault) → HasStopped of_desk from to why → IsBrokenOff of_desk files from to (script_fault why)
-  no_file : (line : Line) → HasNext of_desk from to line → (IsOfFiles files line → ⊥) → IsBrokenOff of_desk files from to (faults.BadCommand to.lines)
+  no_line : {fault : SimFault} → IsNoLine of_desk files from to fault → IsBrokenOff of_desk files from to fault
   not_written : to ≡ from → IsBrokenOff of_desk files from to faults.Write
 
 -- what was read after the lines that were done: the end of the script, nothing, or why no line more was done

@@ -3,7 +3,7 @@ use Rattle.std.specs.Prelude.{ℕ, nat_eq, pos, Option, List, [], map, position}
 use Rattle.trace_message.specs.declared.event.Stamp.{Stamp}
 use Rattle.trace_port.specs.declared.port.TracePort.{Ghosts as PortGhosts}
 use Rattle.tracees.specs.Books.{no_totals}
-use Rattle.tracees.specs.Desks.{Place, Seat}
+use Rattle.tracees.specs.Desks.{DeskState, Seat}
 use Rattle.tracees.specs.Loans.{KeepsLoans}
 use Rattle.tracees.specs.States.{place_of, seat_of}
 use Rattle.tracees.specs.declared.book.PlainBook.{PlainBook}
@@ -15,7 +15,7 @@ use Rattle.script_port.specs.declared.attached.Attached.{Attached}
 
 -- a desk, the moment of the next event, and the tracees in the order in which they were attached
 pub record DeskSide (P : Type 0) : Type 0 where
-  pub desk : Place P
+  pub desk : DeskState P
   pub moment : Stamp
   pub seats : List Seat
 
@@ -35,7 +35,7 @@ with_port (Alone p) q = Alone q
 with_port (AtDesk side) q = AtDesk (record side { desk = record side.desk { port = q } })
 
 -- a desk at which no tracee is attached yet, at the moment 0
-abbrev pub first_side : {P : Type 0} → Place P → DeskSide P
+abbrev pub first_side : {P : Type 0} → DeskState P → DeskSide P
 first_side place = record { desk = place; moment = record { mega = 0; sec = 0; micro = 0; mono = pos 0 }; seats = [] }
 
 -- a port that has just come into a desk
@@ -51,7 +51,7 @@ abbrev pub place_by : ℕ → List Seat → Option ℕ
 place_by n seats = position (λ (seat : Seat). nat_eq seat.tracee.number n) seats
 
 -- a desk in memory
-abbrev pub desk_seen : {P : Type 0} (port : PortGhosts P) → Desk P PlainBook PlainAccount port plain.ghosts → Place P
+abbrev pub desk_seen : {P : Type 0} (port : PortGhosts P) → Desk P PlainBook PlainAccount port plain.ghosts → DeskState P
 desk_seen port desk = place_of port plain.ghosts desk
 
 -- a tracee in memory

@@ -9,8 +9,8 @@ use Rattle.trace_port.specs.declared.create.CreateFault.{CreateFault}
 use Rattle.trace_port.specs.declared.create.CreateFault.TheVariants as creating
 use Rattle.trace_port.specs.declared.resume.ResumeFault.{ResumeFault}
 use Rattle.trace_port.specs.declared.resume.ResumeFault.TheVariants as resuming
-use Rattle.trace_port.specs.declared.kinds.PortFault.{PortFault}
-use Rattle.trace_port.specs.declared.kinds.PortFault.TheVariants as porting
+use Rattle.trace_port.specs.declared.fault.PortFault.{PortFault}
+use Rattle.trace_port.specs.declared.fault.PortFault.TheVariants as porting
 use Rattle.intake.specs.declared.fault.EmitFault.{EmitFault}
 use Rattle.intake.specs.declared.fault.EmitFault.TheVariants as emitting
 use Rattle.intake.specs.declared.fault.TraceeFault.{TraceeFault}

@@ -1,8 +1,8 @@
 //! What a run does while a port is held in a desk.
-ghost use Rattle.std.specs.Prelude.{◌≡◌, ◌≤◌, true, false};
+ghost use Rattle.std.specs.Prelude.{◌≡◌, ◌≤◌};
 ghost use Rattle.std.specs.Io.KnownBytes.{Appends};
 ghost use Rattle.tracees.specs.Effects.{Effect, no_effect};
-ghost use Rattle.trace_script.specs.Lines.{IsWithinLimits, IsNumbered, IsOfFiles};
+ghost use Rattle.trace_script.specs.Lines.{IsWithinLimits, IsNumbered};
 ghost use Rattle.script_port.specs.Sides.{AtDesk, first_side, desk_seen, seat_seen, side_seen, KeepsDesk};
 ghost use Rattle.script_port.specs.DeskLines.{IsAskedFor, IsAskedAtDesk};
 ghost use Rattle.script_port.specs.Asked.{IsAsked};
@@ -13,6 +13,7 @@ use crate::answer::Answer;
 use crate::answers::Answers;
 use crate::attached::{Attached, new_tracee};
 use crate::fault::SimFault;
+use crate::reading::next_line;
 use crate::refusal::Refusal;
 use crate::reply::{Leave, Reply};
 use intake::TraceeFault;
@@ -36,30 +37,15 @@ pub fn run_desk<P: TracePort, R: BufRead, W: Write>(
 {
     let mut attached = Attached::new(alloc);
     for _line in 0..u64::MAX {
-        let Some(line) = script.next_line()? else {
+        let Some(line) = next_line(script, files)? else {
             return Ok(None);
         };
-        if is_beyond(&line, files) {
-            drop(line);
-            return Err(SimFault::from(script.bad_command()));
-        }
         match ask_owned(alloc, desk, &mut attached, line) {
             Reply::Told(answer) => answers.tell(answer)?,
             Reply::Left(leave) => return Ok(Some(leave)),
         }
     }
     Err(SimFault::Read)
-}
-
-/// Whether the line names a file that isn't one of so many.
-pub fn is_beyond(line: &Line, files: u32) -> bool
-    ensures beyond { result ≡ true → IsOfFiles files line.now → ⊥ }
-    ensures within { result ≡ false → IsOfFiles files line.now }
-{
-    match line {
-        Line::Bytes(file, _) => *file >= files,
-        _ => false,
-    }
 }
 
 /// Asks a desk, or its port, what the line says, and lets go of the line.

@@ -8,14 +8,16 @@ mod desk_lines;
 mod fault;
 mod opening;
 mod port_lines;
+mod reading;
 mod refusal;
 mod reply;
 
 pub use answer::Answer;
 pub use answers::Answers;
-pub use desk_lines::{is_beyond, run_desk};
+pub use desk_lines::run_desk;
 pub use fault::SimFault;
 pub use opening::AnyOpening;
 pub use port_lines::{abandon, flush, hold_file, hold_wrap, put, seal, tick};
+pub use reading::next_line;
 pub use refusal::{HandRefusal, Refusal};
 pub use reply::{Leave, Origin, Stop};

@@ -3,9 +3,9 @@ use Rattle.std.proofs.Common.{◌≡◌, ℕ, ◌+◌, Option, List, ◌++◌, l
 use Rattle.entry_codec.specs.Seen.{views}
 use Rattle.trace_store.specs.Disk.{Image, file_of}
 use Rattle.recovery.specs.Recovery.{Recovers, Refuses}
+use Rattle.recovery.specs.CallCounts.{TellsRecover}
 use Rattle.recovery.specs.declared.window.Recovered.{Recovered}
 use Rattle.recovery.specs.declared.fault.RecoverFault.{RecoverFault}
-use Rattle.recovery.specs.declared.fault.RecoverFault.TheVariants.{Device}
 use Rattle.trace_text.specs.Lines.{IsListing}
 use Rattle.trace_text.specs.declared.style.Style.TheVariants.{Plain}
 use Rattle.script_port.specs.declared.answer.Answer.TheVariants.{Refused}
@@ -14,15 +14,15 @@ use Rattle.script_port.specs.declared.fault.SimFault.{SimFault}
 use Rattle.script_port.specs.Texts.{line_of, state_text}
 use Rattle.simulator.specs.Stored.{TellsStore, lists, refuses, AreStates, next}
 
-pub listed : (image : Image) (failed : Type 0) (found : Recovered) (Writes : List ℕ → Type 0) (result : Result Unit SimFault) → Recovers image found
-    → OnOk result ((text : List ℕ) × IsListing Plain found.first found.lost (views found.entries.items) text × Writes text) → OnOk result ((text : List ℕ) × TellsStore image failed text × Writes text)
-listed image failed found Writes (Ok done) recovers wrote = (wrote.0, lists found recovers wrote.1, wrote.2)
-listed image failed found Writes (Err fault) recovers wrote = wrote
+pub listed : (image : Image) (before now : ℕ) (found : Recovered) (Writes : List ℕ → Type 0) (result : Result Unit SimFault) → Recovers image found → now ≡ before
+    → OnOk result ((text : List ℕ) × IsListing Plain found.first found.lost (views found.entries.items) text × Writes text) → OnOk result ((text : List ℕ) × TellsStore image before now text × Writes text)
+listed image before now found Writes (Ok done) recovers same wrote = (wrote.0, lists found recovers wrote.1 same, wrote.2)
+listed image before now found Writes (Err fault) recovers same wrote = wrote
 
-pub refused : (image : Image) (failed : Type 0) (fault : RecoverFault) (Writes : List ℕ → Type 0) (result : Result Unit SimFault) → Refuses image fault → (fault ≡ Device → failed)
-    → OnOk result (Writes (line_of (Refused (Recover fault)))) → OnOk result ((text : List ℕ) × TellsStore image failed text × Writes text)
-refused image failed fault Writes (Ok done) reads cause wrote = (line_of (Refused (Recover fault)), refuses fault reads cause, wrote)
-refused image failed fault Writes (Err other) reads cause wrote = wrote
+pub refused : (image : Image) (before now : ℕ) (fault : RecoverFault) (Writes : List ℕ → Type 0) (result : Result Unit SimFault) → Refuses image fault → TellsRecover before now fault
+    → OnOk result (Writes (line_of (Refused (Recover fault)))) → OnOk result ((text : List ℕ) × TellsStore image before now text × Writes text)
+refused image before now fault Writes (Ok done) reads cause wrote = (line_of (Refused (Recover fault)), refuses fault reads cause, wrote)
+refused image before now fault Writes (Err other) reads cause wrote = wrote
 
 -- the line of the next file, as it was read
 pub next_state : (image now : Image) (file : ℕ) (text : List ℕ) (size : ℕ) (gate : Option ℕ) → now ≡ image → size ≡ length (file_of now file) → gate ≡ slice_get (file_of now file) 0 → AreStates image file text → AreStates image (file + 1) (text ++ state_text file size gate)

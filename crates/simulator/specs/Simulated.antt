@@ -12,12 +12,11 @@ use Rattle.stores.specs.declared.mem_store.MemStore.{MemStore}
 use Rattle.stores.specs.declared.pick.CrashFault.{CrashFault}
 use Rattle.stores.specs.declared.pick.CrashFault.TheVariants.{NotImage}
 use Rattle.stores.specs.contracts.mem_store.MemStoreStore.TheImpl as mem
-use Rattle.segment.specs.Pieces.{OnlyReads}
+use Rattle.trace_store.specs.Device.{OnlyReads, Device, device_of, Leaves}
 use Rattle.segment.specs.Specification.{Spec, File, Wrap, Timed}
 use Rattle.recovery.specs.Views.{empty}
 use Rattle.recovery.specs.Stores.{readings, IsBlank}
 use Rattle.recovery.specs.Wiping.{IsWiped, IsWiping}
-use Rattle.trace_port.specs.Device.{Device, device_of, Leaves}
 use Rattle.trace_port.specs.declared.create.CreateFault.TheVariants.{BadSpec}
 use Rattle.trace_port.specs.Openings.{ReadsAlike}
 use Rattle.trace_port.specs.Opened.{opened_told}
@@ -30,11 +29,9 @@ use Rattle.trace_script.specs.declared.line.Line.{Line}
 use Rattle.trace_script.specs.declared.line.Line.TheVariants as lines
 use Rattle.trace_script.specs.declared.line.Unsynced.{Unsynced}
 use Rattle.trace_script.specs.Lines.{pick_of, IsOfFiles}
-use Rattle.trace_script.specs.Reading.{Progress, HasNext, HasEnded, HasStopped}
-use Rattle.trace_script.specs.declared.fault.ScriptFault.{ScriptFault}
-use Rattle.script_port.specs.Faults.{script_fault}
+use Rattle.trace_script.specs.Reading.{Progress, HasNext, HasEnded}
 use Rattle.script_port.specs.Sides.{Alone}
-use Rattle.script_port.specs.Read.{Stretch, stretch, first_lines, ReadsNothing}
+use Rattle.script_port.specs.Read.{Stretch, stretch, first_lines, ReadsNothing, IsNoLine}
 use Rattle.script_port.specs.Held.{WasHeld}
 use Rattle.script_port.specs.PortOpenings.{first_told, GoesOnOrBegins, IsNoSpec}
 use Rattle.simulator.specs.Stored.{TellsStore, TellsFiles}
@@ -121,8 +118,8 @@ pub data Does (old new : MemStore) : Line → List ℕ → Type 0 where
   fuses : {calls : ℕ} → fuse_of new ≡ After (clock_of old) calls → SameButFuse old new → Does old new (lines.Fuse calls) (line_of answers.Done)
   fails_once : {calls : ℕ} → fuse_of new ≡ Once (clock_of old) calls → SameButFuse old new → Does old new (lines.FailOnce calls) (line_of answers.Done)
   crashes : {unsynced : Unsynced} {text : List ℕ} → Crashes unsynced old new text → Does old new (lines.Crash unsynced) text
-  lists : {text : List ℕ} → TellsStore (reads_of old) (Rose (failures_of old) (failures_of new)) text → OnlyLooked old new → Does old new lines.List text
-  tells_files : {text : List ℕ} → TellsFiles (reads_of old) (Rose (failures_of old) (failures_of new)) text → OnlyLooked old new → Does old new lines.Files text
+  lists : {text : List ℕ} → TellsStore (reads_of old) (failures_of old) (failures_of new) text → OnlyLooked old new → Does old new lines.List text
+  tells_files : {text : List ℕ} → TellsFiles (reads_of old) (failures_of old) (failures_of new) text → OnlyLooked old new → Does old new lines.Files text
   wipes : IsWiped (reads_of old) (reads_of new) → ((c : Image) → images_of new c → IsBlank (readings c)) → LeavesOnly clock_of moments_of old new (IsWiping (images_of old)) → Does old new lines.Wipe (line_of answers.Done)
   wipes_not : Rose (failures_of old) (failures_of new) → LeavesOnly clock_of moments_of old new (IsWiping (images_of old)) → Does old new lines.Wipe (line_of (answers.Refused refusals.Device))
   out_of_order : {line : Line} → new ≡ old → Does old new line (line_of answers.OutOfOrder)
@@ -161,12 +158,10 @@ pub data AreRun (of_desk : Bool) (first : MemStore) (from : Progress) (out : Opt
   more : {before : List Line} {mid new : MemStore} {at behind to : Progress} {was now : Option (List ℕ)} (line : Line) → AreRun of_desk first from out before mid at was → HasNext of_desk at behind line → IsOfFiles (length (reads_of mid)) line
       → IsRunWhole line mid new (stretch of_desk behind to) (Ok tt) was now → AreRun of_desk first from out (before ++ line ∷ []) new to now
 
--- the lines of a stretch of a script were run to its end; or the next one is none, or names a file that isn't there, which its number tells; or a fault of the line that came next ended that
+-- the lines of a stretch of a script were run to its end; or no line comes next; or a fault of the line that came next ended that
 pub data Simulates (old new : MemStore) (over : Stretch) (was now : Option (List ℕ)) : Result Unit SimFault → Type 0 where
   to_end : {last : Progress} (done : List Line) → AreRun over.of_desk old over.from was done new last now → HasEnded last over.to → Simulates old new over was now (Ok tt)
-  no_line : {last : Progress} (done : List Line) (fault : ScriptFault) → AreRun over.of_desk old over.from was done new last now → HasStopped over.of_desk last over.to fault → Simulates old new over was now (Err (script_fault fault))
-  no_file : {last : Progress} (done : List Line) (line : Line) → AreRun over.of_desk old over.from was done new last now → HasNext over.of_desk last over.to line → (IsOfFiles (length (reads_of new)) line → ⊥)
-      → Simulates old new over was now (Err (faults.BadCommand over.to.lines))
+  no_line : {last : Progress} (done : List Line) (fault : SimFault) → AreRun over.of_desk old over.from was done new last now → IsNoLine over.of_desk (length (reads_of new)) last over.to fault → Simulates old new over was now (Err fault)
   broken_off : {mid : MemStore} {last behind : Progress} {between : Option (List ℕ)} (done : List Line) (line : Line) (fault : SimFault) → AreRun over.of_desk old over.from was done mid last between → HasNext over.of_desk last behind line → IsOfFiles (length (reads_of mid)) line
       → IsRunWhole line mid new (stretch over.of_desk behind over.to) (Err fault) between now → Simulates old new over was now (Err fault)
 

@@ -1,7 +1,7 @@
 //! A store with other bytes in one of its files.
 ghost use Rattle.std.specs.Prelude.{◌≡◌, ◌+◌, ◌*◌, ◌<◌, ◌≤◌, IfOk, length, set};
 ghost use Rattle.trace_store.specs.Disk.{file_of};
-ghost use Rattle.stores.specs.Calls.{contents_of};
+ghost use Rattle.stores.specs.CallRecords.{contents_of};
 ghost use Rattle.stores.specs.MemStore.{reads_of, fuse_of, IsSettled};
 ghost use Rattle.stores.specs.declared.fuse.Fuse.TheVariants.{Whole};
 ghost use Rattle.simulator.specs.Simulated.{OnlyLooked};

@@ -1,12 +1,13 @@
 //! A script over a store in memory.
-ghost use Rattle.std.specs.Prelude.{◌≡◌, ◌≢◌, ◌<◌, ◌≤◌, ℕ, List, length, OnOk, IfErr, false};
+ghost use Rattle.std.specs.Prelude.{◌≡◌, ◌≢◌, ◌<◌, ◌≤◌, ℕ, Option, List, Result, length, OnOk, IfErr, false};
 ghost use Rattle.std.specs.Io.KnownBytes.{Appends};
 ghost use Rattle.stores.specs.MemStore.{reads_of};
 ghost use Rattle.trace_script.specs.Lines.{IsWithinLimits, IsOfFiles};
 ghost use Rattle.segment.specs.Specification.{Spec, File};
 ghost use Rattle.wrap_port.specs.WrapSpecs.{wrap_seen};
 ghost use Rattle.script_port.specs.LinesRun.{Answering, RunsLines};
-ghost use Rattle.simulator.specs.Simulated.{ended_so, ComesOf, Crashes, Does, DoesAlone, Runs, IsRunWhole, Simulates, IsOver, IsItsFault, IsRun, first_of as first_told};
+ghost use Rattle.script_port.specs.PortOpenings.{FitsStore};
+ghost use Rattle.simulator.specs.Simulated.{ended_so, RanOn, ComesOf, Crashes, Does, DoesAlone, Runs, IsRunWhole, Simulates, IsOver, IsItsFault, IsRun, first_of as first_told};
 ghost use Rattle.script_port.specs.Texts.{line_of};
 ghost use Rattle.trace_port.specs.declared.create.CreateFault.TheVariants as creating;
 ghost use Rattle.script_port.specs.declared.fault.SimFault.TheVariants as faults;
@@ -19,7 +20,8 @@ use crate::contents::with_bytes;
 use crate::store_lines::{list, list_files};
 use recovery::wipe;
 use script_port::{
-    Answer, Answers, Leave, Origin, Refusal, SimFault, Stop, hold_file, hold_wrap, is_beyond,
+    Answer, Answers, AnyOpening, Leave, Origin, Refusal, SimFault, Stop, hold_file, hold_wrap,
+    next_line,
 };
 use std::alloc::Global;
 use std::io::{BufRead, Write};
@@ -39,7 +41,7 @@ pub fn run_sim<R: BufRead, W: Write>(
     ensures { IsRun (R.remaining reader.old) (R.remaining reader.new) (W.contents writer.old) (W.contents writer.new) result }
 {
     let mut text = Vec::new(alloc);
-    let mut script = Script::new(alloc, reader, &mut text);
+    let mut script = Script::new(alloc, reader, &mut text, false);
     run_script(alloc, &mut script, writer)
 }
 
@@ -87,13 +89,9 @@ pub fn run_lines<R: BufRead, W: Write>(
     ensures simulates { RunsLines R.Read W.Write script.old script.new answers.old answers.new (λ over was now. Simulates store.old store.new over was now result) }
 {
     for _line in 0..u64::MAX {
-        let Some(line) = script.next_line()? else {
+        let Some(line) = next_line(script, store.files())? else {
             return Ok(());
         };
-        if is_beyond(&line, store.files()) {
-            drop(line);
-            return Err(SimFault::from(script.bad_command()));
-        }
         run_whole(alloc, store, line, script, answers)?;
     }
     Err(SimFault::Read)
@@ -182,6 +180,28 @@ fn ended(left: Result<Option<Leave>, SimFault>) -> Result<Option<Leave>, Stop>
     }
 }
 
+/// Runs lines on a port over an opening, until that is given up.
+fn hold<R: BufRead, W: Write>(
+    alloc: Global,
+    store: &mut MemStore,
+    opening: AnyOpening,
+    origin: Origin,
+    script: &mut Script<'_, R>,
+    answers: &mut Answers<'_, W>,
+) -> Result<Option<Leave>, Stop>
+    requires fits { FitsStore ⟦<MemStore as Store>⟧ opening store.old }
+    ensures held { RunsLines R.Read W.Write script.old script.new answers.old answers.new (λ over was now. (left : Result (Option Leave) SimFault) × (result ≡ ended_so left) × RanOn opening origin store.old store.new over left (λ text. Appends was now text)) }
+{
+    match opening {
+        AnyOpening::File(opening) => {
+            ended(hold_file(alloc, store, opening, origin, script, answers))
+        }
+        AnyOpening::Wrap(opening) => {
+            ended(hold_wrap(alloc, store, opening, origin, script, answers))
+        }
+    }
+}
+
 /// Makes a file port over a blank store, and runs lines until it is given up.
 fn create_file<R: BufRead, W: Write>(
     alloc: Global,
@@ -194,15 +214,8 @@ fn create_file<R: BufRead, W: Write>(
 {
     match begin_create(alloc, &mut *store, limit) {
         Ok(opening) => {
-            let left = hold_file(
-                alloc,
-                &mut *store,
-                opening,
-                Origin::Created,
-                script,
-                &mut *answers,
-            );
-            ended(left)
+            let opening = AnyOpening::File(opening);
+            hold(alloc, store, opening, Origin::Created, script, answers)
         }
         Err(fault) => Err(Stop::Refused(Refusal::Create(fault))),
     }
@@ -220,15 +233,8 @@ fn resume_file<R: BufRead, W: Write>(
 {
     match begin_resume(alloc, &mut *store, limit) {
         Ok(opening) => {
-            let left = hold_file(
-                alloc,
-                &mut *store,
-                opening,
-                Origin::Resumed,
-                script,
-                &mut *answers,
-            );
-            ended(left)
+            let opening = AnyOpening::File(opening);
+            hold(alloc, store, opening, Origin::Resumed, script, answers)
         }
         Err(fault) => Err(Stop::Refused(Refusal::Resume(fault))),
     }
@@ -245,15 +251,8 @@ fn resume_wrap<R: BufRead, W: Write>(
 {
     match wrap_port::begin_resume(alloc, &mut *store) {
         Ok(opening) => {
-            let left = hold_wrap(
-                alloc,
-                &mut *store,
-                opening,
-                Origin::Resumed,
-                script,
-                &mut *answers,
-            );
-            ended(left)
+            let opening = AnyOpening::Wrap(opening);
+            hold(alloc, store, opening, Origin::Resumed, script, answers)
         }
         Err(fault) => Err(Stop::Refused(Refusal::Resume(fault))),
     }
@@ -271,15 +270,8 @@ fn create_wrap<R: BufRead, W: Write>(
 {
     match wrap_port::begin_create(alloc, &mut *store, spec) {
         Ok(opening) => {
-            let left = hold_wrap(
-                alloc,
-                &mut *store,
-                opening,
-                Origin::Created,
-                script,
-                &mut *answers,
-            );
-            ended(left)
+            let opening = AnyOpening::Wrap(opening);
+            hold(alloc, store, opening, Origin::Created, script, answers)
         }
         Err(fault) => Err(Stop::Refused(Refusal::Create(fault))),
     }

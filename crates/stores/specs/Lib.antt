@@ -1,6 +1,6 @@
 pub mod Fuse
 pub mod Counts
-pub mod Calls
+pub mod CallRecords
 pub mod FileLaws
 pub mod CallLaws
 pub mod Events

@@ -1,7 +1,7 @@
 //! A trace in numbers, as one JSON object.
 
 use crate::info::{Info, Part};
-use segment::{Kind, SegHeader};
+use segment::StoreSpec;
 use serde_json::{Map, Value, json};
 use std::alloc::{AllocError, Global};
 use trace_reader::{End, WORDS};
@@ -22,12 +22,12 @@ fn text(alloc: Global, text: Option<&str>) -> Result<Value, AllocError> {
     }
 }
 
-/// What a header says of the whole trace.
-fn kind_of(header: &SegHeader) -> &'static str {
-    match header.kind {
-        Kind::File => "file",
-        Kind::Wrap => "wrap by size",
-        Kind::Timed => "wrap by time",
+/// The word for what a trace is made for.
+fn kind_of(spec: StoreSpec) -> &'static str {
+    match spec {
+        StoreSpec::File => "file",
+        StoreSpec::Wrap { .. } => "wrap by size",
+        StoreSpec::Timed { .. } => "wrap by time",
     }
 }
 
@@ -73,15 +73,14 @@ impl Info {
             return Ok(Value::Null);
         };
         let header = &newest.summary.header;
-        let (kind, version) = (kind_of(header), header.version);
-        let (count, size) = (header.wrap_count, header.wrap_size);
-        match header.kind {
-            Kind::File => json!(in alloc; {"kind": kind, "version": version}),
-            Kind::Wrap => {
+        let (kind, version) = (kind_of(header.spec), header.version);
+        match header.spec {
+            StoreSpec::File => json!(in alloc; {"kind": kind, "version": version}),
+            StoreSpec::Wrap { size, count } => {
                 json!(in alloc; {"kind": kind, "version": version, "count": count, "size": size})
             }
-            Kind::Timed => {
-                json!(in alloc; {"kind": kind, "version": version, "count": count, "time": size})
+            StoreSpec::Timed { millis, count } => {
+                json!(in alloc; {"kind": kind, "version": version, "count": count, "time": millis})
             }
         }
     }

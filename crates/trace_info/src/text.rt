@@ -2,7 +2,7 @@
 
 use crate::info::{Info, Part};
 use crate::shown::Shown;
-use segment::{Kind, SegHeader};
+use segment::{SegHeader, StoreSpec};
 use std::fmt;
 use trace_reader::{End, WORDS};
 
@@ -20,21 +20,16 @@ impl fmt::Display for Info {
 }
 
 fn tell_kind<W: fmt::Write>(f: &mut fmt::Formatter<W>, header: &SegHeader) -> fmt::Result {
-    let SegHeader {
-        version,
-        wrap_count: count,
-        wrap_size: size,
-        ..
-    } = *header;
-    match header.kind {
-        Kind::File => writeln!(f, "kind: file\nversion: {version}"),
-        Kind::Wrap => writeln!(
+    let version = header.version;
+    match header.spec {
+        StoreSpec::File => writeln!(f, "kind: file\nversion: {version}"),
+        StoreSpec::Wrap { size, count } => writeln!(
             f,
             "kind: wrap by size\nversion: {version}\ncount: {count} runs\nsize: {size} bytes"
         ),
-        Kind::Timed => writeln!(
+        StoreSpec::Timed { millis, count } => writeln!(
             f,
-            "kind: wrap by time\nversion: {version}\ncount: {count} runs\ntime: {size} ms"
+            "kind: wrap by time\nversion: {version}\ncount: {count} runs\ntime: {millis} ms"
         ),
     }
 }
@@ -86,7 +81,7 @@ fn tell_file<W: fmt::Write>(
     let name = Shown(part.name.as_str());
     let summary = &part.summary;
     write!(f, "file {name}: ")?;
-    if summary.header.kind != Kind::File {
+    if summary.header.spec != StoreSpec::File {
         write!(f, "generation {}, ", summary.header.generation)?;
     }
     let counted = &summary.counted;

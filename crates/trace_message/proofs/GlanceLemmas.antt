@@ -1,6 +1,5 @@
 -- A glance at a term tells its kind.
 use Rattle.std.proofs.Common.{◌≡◌, Bool, true, false, ◌&&◌, ◌||◌, cond, List, [], ◌∷◌, ◌++◌, Option, None, Some, refl, ap, ◌∙◌, sym}
-use Rattle.std.specs.List.{IsLastAndRest}
 use Rattle.trace_terms.specs.Data.{Data, int, atom, pid, tuple, list, binary, Members, no_members, member}
 use Rattle.trace_message.specs.declared.word.Word.{Word}
 use Rattle.trace_message.specs.declared.word.Word.TheVariants as words
@@ -9,30 +8,11 @@ use Rattle.trace_message.specs.declared.seen.Seen.TheVariants as kinds
 use Rattle.trace_message.specs.declared.glance.Glance.{Glance}
 use Rattle.trace_message.specs.Words.{word_named}
 use Rattle.trace_message.specs.Shapes as shapes
-use Rattle.trace_message.specs.Shapes.{list_of, only_if}
+use Rattle.trace_message.specs.Shapes.{list_of}
+use Rattle.trace_message.specs.Looks as looks
+use Rattle.trace_message.specs.Rows.{is_one, is_two, front_of, ends_with, only_if, kind_by}
 use Rattle.trace_message.specs.Glances as glanced
-use Rattle.trace_message.specs.Glances.{glance, glances}
-
--- ---- a row that is cut before its last
-
-ends-snoc : (gs : List Glance) (g : Glance) → glanced.ends_with_stamp (gs ++ g ∷ []) ≡ glanced.is_stamp g
-ends-snoc [] g = refl
-ends-snoc (h ∷ []) g = refl
-ends-snoc (h ∷ i ∷ gs) g = ends-snoc (i ∷ gs) g
-
-front-snoc : (gs : List Glance) (g : Glance) → glanced.front_of (gs ++ g ∷ []) ≡ gs
-front-snoc [] g = refl
-front-snoc (h ∷ []) g = refl
-front-snoc (h ∷ i ∷ gs) g = ap (λ l. h ∷ l) (front-snoc (i ∷ gs) g)
-
-pub stamped_by_last : (row : List Glance) (g : Glance) (rest : List Glance) → IsLastAndRest row g rest → glanced.stamped_row_kind row ≡ cond (glanced.is_stamp g) (glanced.row_kind rest) None
-stamped_by_last row g rest h = rw (h.0, ends-snoc rest g, front-snoc rest g) refl
-
-pub with_stamp : (row : List Glance) (g : Glance) (rest : List Glance) → IsLastAndRest row g rest → glanced.is_stamp g ≡ true → glanced.stamped_row_kind row ≡ glanced.row_kind rest
-with_stamp row g rest h is = stamped_by_last row g rest h ∙ ap (λ b. cond b (glanced.row_kind rest) None) is
-
-pub without_stamp : (row : List Glance) (g : Glance) (rest : List Glance) → IsLastAndRest row g rest → glanced.is_stamp g ≡ false → glanced.stamped_row_kind row ≡ None
-without_stamp row g rest h is = stamped_by_last row g rest h ∙ ap (λ b. cond b (glanced.row_kind rest) None) is
+use Rattle.trace_message.specs.Glances.{glance, glances, looks_of}
 
 -- ---- one term
 
@@ -51,7 +31,7 @@ same : (b : Bool) → cond b no_kind no_kind ≡ no_kind
 same true = refl
 same false = refl
 
-atom_same : (t : Data) → glanced.is_atom (glance t).sort ≡ shapes.is_atom t
+atom_same : (t : Data) → (glance t).look.is_atom ≡ shapes.is_atom t
 atom_same (int n) = refl
 atom_same (atom text) = refl
 atom_same (pid p) = refl
@@ -59,7 +39,7 @@ atom_same (tuple ts) = refl
 atom_same (list ts) = refl
 atom_same (binary bytes) = refl
 
-int_same : (t : Data) → glanced.is_int (glance t).sort ≡ shapes.is_int t
+int_same : (t : Data) → (glance t).look.is_int ≡ shapes.is_int t
 int_same (int n) = refl
 int_same (atom text) = refl
 int_same (pid p) = refl
@@ -67,7 +47,7 @@ int_same (tuple ts) = refl
 int_same (list ts) = refl
 int_same (binary bytes) = refl
 
-list_same : (t : Data) → glanced.is_list (glance t).sort ≡ shapes.is_list t
+list_same : (t : Data) → (glance t).look.is_list ≡ shapes.is_list t
 list_same (int n) = refl
 list_same (atom text) = refl
 list_same (pid p) = refl
@@ -77,27 +57,27 @@ list_same (binary bytes) = refl
 
 -- ---- members
 
-function_same : (ts : Members) → glanced.is_function (glances ts) ≡ shapes.is_function (list_of ts)
+function_same : (ts : Members) → looks.is_function (looks_of (glances ts)) ≡ shapes.is_function (list_of ts)
 function_same no_members = refl
 function_same (member a no_members) = refl
 function_same (member a (member b no_members)) = refl
 function_same (member a (member b (member c no_members))) = rw (atom_same a, atom_same b, int_same c) refl
 function_same (member a (member b (member c (member d ts)))) = refl
 
-called_same : (ts : Members) → glanced.is_called (glances ts) ≡ shapes.is_called (list_of ts)
+called_same : (ts : Members) → looks.is_called (looks_of (glances ts)) ≡ shapes.is_called (list_of ts)
 called_same no_members = refl
 called_same (member a no_members) = refl
 called_same (member a (member b no_members)) = refl
 called_same (member a (member b (member c no_members))) = rw (atom_same a, atom_same b, list_same c, int_same c) refl
 called_same (member a (member b (member c (member d ts)))) = refl
 
-reason_same : (ts : Members) → glanced.is_reason (glances ts) ≡ shapes.is_reason (list_of ts)
+reason_same : (ts : Members) → looks.is_reason (looks_of (glances ts)) ≡ shapes.is_reason (list_of ts)
 reason_same no_members = refl
 reason_same (member a no_members) = refl
 reason_same (member a (member b no_members)) = atom_same a
 reason_same (member a (member b (member c ts))) = refl
 
-integers_same : (ts : Members) → glanced.are_integers (glances ts) ≡ shapes.are_integers (list_of ts)
+integers_same : (ts : Members) → looks.are_integers (looks_of (glances ts)) ≡ shapes.are_integers (list_of ts)
 integers_same no_members = refl
 integers_same (member a no_members) = refl
 integers_same (member a (member b no_members)) = refl
@@ -106,10 +86,10 @@ integers_same (member a (member b (member c (member d ts)))) = refl
 
 -- ---- rows
 
-no_call : (g h : Glance) (gs : List Glance) → glanced.is_call (g ∷ h ∷ gs) ≡ false
+no_call : (g h : Glance) (gs : List Glance) → looks.is_call (looks_of (g ∷ h ∷ gs)) ≡ false
 no_call g h gs = refl
 
-call_same : (row : Members) → glanced.is_call (glances row) ≡ shapes.is_call (list_of row)
+call_same : (row : Members) → looks.is_call (looks_of (glances row)) ≡ shapes.is_call (list_of row)
 call_same no_members = refl
 call_same (member (int n) no_members) = refl
 call_same (member (atom text) no_members) = refl
@@ -124,12 +104,12 @@ call_same (member (tuple ts) (member u row)) = refl
 call_same (member (list ts) (member u row)) = refl
 call_same (member (binary bytes) (member u row)) = refl
 
-no_return : (g : Glance) (gs : List Glance) → g.function ≡ false → glanced.is_return (g ∷ gs) ≡ false
+no_return : (g : Glance) (gs : List Glance) → g.look.function ≡ false → looks.is_return (looks_of (g ∷ gs)) ≡ false
 no_return g [] e = refl
 no_return g (h ∷ []) e = e
 no_return g (h ∷ i ∷ gs) e = refl
 
-return_same : (row : Members) → glanced.is_return (glances row) ≡ shapes.is_return (list_of row)
+return_same : (row : Members) → looks.is_return (looks_of (glances row)) ≡ shapes.is_return (list_of row)
 return_same no_members = refl
 return_same (member (int n) row) = no_return (glance (int n)) (glances row) refl
 return_same (member (atom text) row) = no_return (glance (atom text)) (glances row) refl
@@ -140,16 +120,16 @@ return_same (member (tuple ts) no_members) = refl
 return_same (member (tuple ts) (member u no_members)) = function_same ts
 return_same (member (tuple ts) (member u (member v row))) = refl
 
-no_exception : (g : Glance) (gs : List Glance) → g.function ≡ false → glanced.is_exception (g ∷ gs) ≡ false
+no_exception : (g : Glance) (gs : List Glance) → g.look.function ≡ false → looks.is_exception (looks_of (g ∷ gs)) ≡ false
 no_exception g [] e = refl
 no_exception g (h ∷ []) e = rw e refl
 no_exception g (h ∷ i ∷ gs) e = refl
 
-no_reason : (g r : Glance) (gs : List Glance) → r.reason ≡ false → glanced.is_exception (g ∷ r ∷ gs) ≡ false
-no_reason g r [] e = rw e (and_false g.function)
+no_reason : (g r : Glance) (gs : List Glance) → r.look.reason ≡ false → looks.is_exception (looks_of (g ∷ r ∷ gs)) ≡ false
+no_reason g r [] e = rw e (and_false g.look.function)
 no_reason g r (h ∷ gs) e = refl
 
-exception_same : (row : Members) → glanced.is_exception (glances row) ≡ shapes.is_exception (list_of row)
+exception_same : (row : Members) → looks.is_exception (looks_of (glances row)) ≡ shapes.is_exception (list_of row)
 exception_same no_members = refl
 exception_same (member (int n) row) = no_exception (glance (int n)) (glances row) refl
 exception_same (member (atom text) row) = no_exception (glance (atom text)) (glances row) refl
@@ -165,18 +145,18 @@ exception_same (member (tuple ts) (member (binary bytes) row)) = no_reason (glan
 exception_same (member (tuple ts) (member (tuple us) no_members)) = rw (function_same ts, reason_same us) refl
 exception_same (member (tuple ts) (member (tuple us) (member v row))) = refl
 
-one_same : (row : Members) → glanced.is_one (glances row) ≡ shapes.is_one (list_of row)
+one_same : (row : Members) → is_one (looks_of (glances row)) ≡ is_one (list_of row)
 one_same no_members = refl
 one_same (member a no_members) = refl
 one_same (member a (member b row)) = refl
 
-two_same : (row : Members) → glanced.is_two (glances row) ≡ shapes.is_two (list_of row)
+two_same : (row : Members) → is_two (looks_of (glances row)) ≡ is_two (list_of row)
 two_same no_members = refl
 two_same (member a no_members) = refl
 two_same (member a (member b no_members)) = refl
 two_same (member a (member b (member c row))) = refl
 
-behind_same : (word : Option Word) (row : Members) → glanced.kind_behind word (glances row) ≡ shapes.kind_behind word (list_of row)
+behind_same : (word : Option Word) (row : Members) → kind_by looks.is_call looks.is_return looks.is_exception word (looks_of (glances row)) ≡ shapes.kind_behind word (list_of row)
 behind_same None row = refl
 behind_same (Some words.Trace) row = refl
 behind_same (Some words.TraceTs) row = refl
@@ -198,15 +178,15 @@ row_same (member (binary bytes) row) = refl
 
 -- ---- rows with a time stamp
 
-stamp_same : (t : Data) → glanced.is_stamp (glance t) ≡ shapes.is_stamp t
+stamp_same : (t : Data) → glanced.stamps (glance t) ≡ shapes.is_stamp t
 stamp_same (int n) = refl
 stamp_same (atom text) = refl
 stamp_same (pid p) = refl
-stamp_same (tuple ts) = or_false (glanced.are_integers (glances ts)) ∙ integers_same ts
+stamp_same (tuple ts) = or_false (looks.are_integers (looks_of (glances ts))) ∙ integers_same ts
 stamp_same (list ts) = refl
 stamp_same (binary bytes) = refl
 
-ends_same : (row : Members) → glanced.ends_with_stamp (glances row) ≡ shapes.ends_with_stamp (list_of row)
+ends_same : (row : Members) → ends_with glanced.stamps (glances row) ≡ ends_with shapes.is_stamp (list_of row)
 ends_same no_members = refl
 ends_same (member t no_members) = stamp_same t
 ends_same (member t (member u row)) = ends_same (member u row)
@@ -216,17 +196,17 @@ front no_members = no_members
 front (member t no_members) = no_members
 front (member t (member u row)) = member t (front (member u row))
 
-front_list : (row : Members) → list_of (front row) ≡ shapes.front_of (list_of row)
+front_list : (row : Members) → list_of (front row) ≡ front_of (list_of row)
 front_list no_members = refl
 front_list (member t no_members) = refl
 front_list (member t (member u row)) = ap (λ l. t ∷ l) (front_list (member u row))
 
-front_glances : (row : Members) → glances (front row) ≡ glanced.front_of (glances row)
+front_glances : (row : Members) → glances (front row) ≡ front_of (glances row)
 front_glances no_members = refl
 front_glances (member t no_members) = refl
 front_glances (member t (member u row)) = ap (λ l. glance t ∷ l) (front_glances (member u row))
 
-front_row_same : (row : Members) → glanced.row_kind (glanced.front_of (glances row)) ≡ shapes.row_kind (shapes.front_of (list_of row))
+front_row_same : (row : Members) → glanced.row_kind (front_of (glances row)) ≡ shapes.row_kind (front_of (list_of row))
 front_row_same row = ap glanced.row_kind (sym (front_glances row)) ∙ row_same (front row) ∙ ap shapes.row_kind (front_list row)
 
 stamped_same : (row : Members) → glanced.stamped_row_kind (glances row) ≡ shapes.stamped_row_kind (list_of row)

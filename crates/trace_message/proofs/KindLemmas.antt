@@ -14,11 +14,12 @@ use Rattle.trace_message.specs.Events as events
 use Rattle.trace_message.specs.Events.{EventData}
 use Rattle.trace_message.specs.Kinds.{IsRow, moment, monotonic, IsMessage, plain, stamped, calls, calls_with_arity, returns, raises, sends, sends_lost, receives, seen_of}
 use Rattle.trace_message.specs.Messages.{called_with, row_of, told_by, is_asked, message_of}
-use Rattle.trace_message.specs.Shapes.{list_of, is_atom, is_int, is_list, is_function, is_reason, is_call, is_return, is_exception, is_one, is_two, only_if, kind_behind, row_kind, ends_with_stamp, front_of, stamped_row_kind, kind_under, parts_kind, kind_of}
-use Rattle.trace_message.specs.Texts.{text_trace, text_trace_ts, text_call, text_return_from, text_exception_from, text_send, text_send_to_non_existing_process, text_receive}
+use Rattle.trace_message.specs.Shapes.{list_of, is_atom, is_int, is_list, is_function, is_reason, is_call, is_return, is_exception, is_stamp, kind_behind, row_kind, stamped_row_kind, kind_under, parts_kind, kind_of}
+use Rattle.trace_message.specs.Rows.{is_one, is_two, front_of, ends_with, only_if}
 use Rattle.trace_message.specs.Tuples.{tuple_of, pair_of, triple_of, function_of}
 use Rattle.trace_message.specs.Words.{text_of, word_named}
-use Rattle.trace_message.proofs.ShapeLemmas.{list_of-members_of, members_of-list_of, both, atom_is, int_is, is_stamp_of, ends_is, stamped_row_kind-snoc}
+use Rattle.trace_message.proofs.ShapeLemmas.{list_of-members_of, members_of-list_of, both, atom_is, int_is, is_stamp_of, ends_is}
+use Rattle.trace_message.proofs.RowLemmas.{stamped-snoc}
 
 -- ---- words
 
@@ -46,7 +47,7 @@ only : (test : Bool) (k seen : Seen) → only_if test k ≡ Some seen → (test 
 only true k seen e = (refl, cc)
 only false k seen e = absurd cc
 
-called_row : (m f : List ℕ) (c : Data) → (is_list c || is_int c) ≡ true → IsRow kinds.Call (atom text_call ∷ triple_of (atom m) (atom f) c ∷ [])
+called_row : (m f : List ℕ) (c : Data) → (is_list c || is_int c) ≡ true → IsRow kinds.Call (atom (text_of Call) ∷ triple_of (atom m) (atom f) c ∷ [])
 called_row m f (list args) e = calls m f args
 called_row m f (int n) e = calls_with_arity m f n
 called_row m f (atom text) e = absurd cc
@@ -54,7 +55,7 @@ called_row m f (pid p) e = absurd cc
 called_row m f (tuple ts) e = absurd cc
 called_row m f (binary bytes) e = absurd cc
 
-call_row : (row : List Data) → is_call row ≡ true → IsRow kinds.Call (atom text_call ∷ row)
+call_row : (row : List Data) → is_call row ≡ true → IsRow kinds.Call (atom (text_of Call) ∷ row)
 call_row (tuple (member a (member b (member c no_members))) ∷ []) e =
     let h = both (is_atom a) (is_atom b && (is_list c || is_int c)) e in
     let k = both (is_atom b) (is_list c || is_int c) h.1 in
@@ -97,7 +98,7 @@ reason_is no_members e = absurd cc
 reason_is (member a no_members) e = absurd cc
 reason_is (member a (member b (member c ts))) e = absurd cc
 
-return_row : (row : List Data) → is_return row ≡ true → IsRow kinds.Return (atom text_return_from ∷ row)
+return_row : (row : List Data) → is_return row ≡ true → IsRow kinds.Return (atom (text_of ReturnFrom) ∷ row)
 return_row (tuple ts ∷ value ∷ []) e =
     let h = function_is ts e in
     rw h.1.1.1 (returns h.0 h.1.0 h.1.1.0 value)
@@ -110,7 +111,7 @@ return_row (binary bytes ∷ row) e = absurd cc
 return_row (tuple ts ∷ []) e = absurd cc
 return_row (tuple ts ∷ u ∷ v ∷ us) e = absurd cc
 
-exception_row : (row : List Data) → is_exception row ≡ true → IsRow kinds.Exception (atom text_exception_from ∷ row)
+exception_row : (row : List Data) → is_exception row ≡ true → IsRow kinds.Exception (atom (text_of ExceptionFrom) ∷ row)
 exception_row (tuple ts ∷ tuple us ∷ []) e =
     let k = both (is_function (list_of ts)) (is_reason (list_of us)) e in
     let h = function_is ts k.0 in
@@ -130,19 +131,19 @@ exception_row (tuple ts ∷ list vs ∷ us) e = absurd cc
 exception_row (tuple ts ∷ binary bytes ∷ us) e = absurd cc
 exception_row (tuple ts ∷ tuple us ∷ v ∷ vs) e = absurd cc
 
-send_row : (row : List Data) → is_two row ≡ true → IsRow kinds.Send (atom text_send ∷ row)
+send_row : (row : List Data) → is_two row ≡ true → IsRow kinds.Send (atom (text_of Send) ∷ row)
 send_row (a ∷ b ∷ []) e = sends a b
 send_row [] e = absurd cc
 send_row (a ∷ []) e = absurd cc
 send_row (a ∷ b ∷ c ∷ row) e = absurd cc
 
-send_lost_row : (row : List Data) → is_two row ≡ true → IsRow kinds.SendLost (atom text_send_to_non_existing_process ∷ row)
+send_lost_row : (row : List Data) → is_two row ≡ true → IsRow kinds.SendLost (atom (text_of SendToNonExistingProcess) ∷ row)
 send_lost_row (a ∷ b ∷ []) e = sends_lost a b
 send_lost_row [] e = absurd cc
 send_lost_row (a ∷ []) e = absurd cc
 send_lost_row (a ∷ b ∷ c ∷ row) e = absurd cc
 
-receive_row : (row : List Data) → is_one row ≡ true → IsRow kinds.Receive (atom text_receive ∷ row)
+receive_row : (row : List Data) → is_one row ≡ true → IsRow kinds.Receive (atom (text_of Receive) ∷ row)
 receive_row (a ∷ []) e = receives a
 receive_row [] e = absurd cc
 receive_row (a ∷ b ∷ row) e = absurd cc
@@ -173,7 +174,7 @@ row_sound (binary bytes ∷ row) seen e = absurd cc
 
 -- ---- terms, as they are found
 
-stamped_if : (p : Pid) (row : List Data) (seen : Seen) (b : Bool) → ends_with_stamp row ≡ b → cond b (row_kind (front_of row)) None ≡ Some seen → IsMessage seen (tuple_of (atom text_trace_ts ∷ pid p ∷ row))
+stamped_if : (p : Pid) (row : List Data) (seen : Seen) (b : Bool) → ends_with is_stamp row ≡ b → cond b (row_kind (front_of row)) None ≡ Some seen → IsMessage seen (tuple_of (atom (text_of TraceTs) ∷ pid p ∷ row))
 stamped_if p row seen true is e =
     let h = ends_is row is in
     rw h.1.1 (stamped seen p (front_of row) h.0 (row_sound (front_of row) seen e) h.1.0)
@@ -181,7 +182,7 @@ stamped_if p row seen false is e = absurd cc
 
 under : (head : List ℕ) (w : Option Word) (p : Pid) (row : List Data) (seen : Seen) → word_named head ≡ w → kind_under w row ≡ Some seen → IsMessage seen (tuple_of (atom head ∷ pid p ∷ row))
 under head (Some Trace) p row seen is e = rw (word_named-is head Trace is) (plain seen p row (row_sound row seen e))
-under head (Some TraceTs) p row seen is e = rw (word_named-is head TraceTs is) (stamped_if p row seen (ends_with_stamp row) refl e)
+under head (Some TraceTs) p row seen is e = rw (word_named-is head TraceTs is) (stamped_if p row seen (ends_with is_stamp row) refl e)
 under head (Some Call) p row seen is e = absurd cc
 under head (Some ReturnFrom) p row seen is e = absurd cc
 under head (Some ExceptionFrom) p row seen is e = absurd cc
@@ -225,11 +226,11 @@ row_complete _ _ (sends msg target) = refl
 row_complete _ _ (sends_lost msg target) = refl
 row_complete _ _ (receives msg) = refl
 
-plain_complete : (row : List Data) → kind_under (word_named text_trace) row ≡ row_kind row
+plain_complete : (row : List Data) → kind_under (word_named (text_of Trace)) row ≡ row_kind row
 unfolding word_named
 plain_complete row = refl
 
-stamped_complete : (row : List Data) → kind_under (word_named text_trace_ts) row ≡ stamped_row_kind row
+stamped_complete : (row : List Data) → kind_under (word_named (text_of TraceTs)) row ≡ stamped_row_kind row
 unfolding word_named
 stamped_complete row = refl
 
@@ -237,7 +238,7 @@ complete : (seen : Seen) (t : Data) → IsMessage seen t → kind_of t ≡ Some 
 complete _ _ (plain seen p row h) =
     rw (list_of-members_of row) (plain_complete row ∙ row_complete seen row h)
 complete _ _ (stamped seen p row stamp h is) =
-    rw (list_of-members_of (row ++ stamp ∷ [])) (stamped_complete (row ++ stamp ∷ []) ∙ stamped_row_kind-snoc row stamp ∙ ap (λ b. cond b (row_kind row) None) (is_stamp_of stamp is) ∙ row_complete seen row h)
+    rw (list_of-members_of (row ++ stamp ∷ [])) (stamped_complete (row ++ stamp ∷ []) ∙ stamped-snoc is_stamp row_kind row stamp ∙ ap (λ b. cond b (row_kind row) None) (is_stamp_of stamp is) ∙ row_complete seen row h)
 
 pub kind_is : (t : Data) (seen : Seen) → (kind_of t ≡ Some seen) ↔ IsMessage seen t
 kind_is t seen = (sound t seen, complete seen t)
@@ -269,7 +270,7 @@ one_kind t a b h k =
 
 -- ---- messages of events
 
-called : (flags : Flags) (m f : List ℕ) (args : List Data) (b : Bool) → flags.arity ≡ b → IsRow kinds.Call (atom text_call ∷ function_of m f (called_with flags args) ∷ [])
+called : (flags : Flags) (m f : List ℕ) (args : List Data) (b : Bool) → flags.arity ≡ b → IsRow kinds.Call (atom (text_of Call) ∷ function_of m f (called_with flags args) ∷ [])
 called flags m f args true is = rw is (calls_with_arity m f _)
 called flags m f args false is = rw is (calls m f _)
 

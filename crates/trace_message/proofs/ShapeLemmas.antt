@@ -6,8 +6,10 @@ use Rattle.std.specs.List.{IsLastAndRest}
 use Rattle.trace_terms.specs.declared.term.Term.{Term}
 use Rattle.trace_terms.specs.View.{view, members_of}
 use Rattle.trace_message.specs.Kinds.{IsStamp, moment, monotonic}
-use Rattle.trace_message.specs.Shapes.{list_of, is_atom, is_int, is_stamp, ends_with_stamp, front_of, row_kind, stamped_row_kind}
+use Rattle.trace_message.specs.Shapes.{list_of, is_atom, is_int, is_stamp, row_kind, stamped_row_kind}
+use Rattle.trace_message.specs.Rows.{ends_with, front_of}
 use Rattle.trace_message.specs.Tuples.{triple_of}
+use Rattle.trace_message.proofs.RowLemmas.{stamped-snoc}
 
 -- ---- members as a list
 
@@ -66,20 +68,7 @@ pub is_stamp_of : (t : Data) → IsStamp t → is_stamp t ≡ true
 is_stamp_of _ (moment mega sec micro) = refl
 is_stamp_of _ (monotonic nanoseconds) = refl
 
-pub ends_with_stamp-snoc : (ts : List Data) (t : Data) → ends_with_stamp (ts ++ t ∷ []) ≡ is_stamp t
-ends_with_stamp-snoc [] t = refl
-ends_with_stamp-snoc (u ∷ []) t = refl
-ends_with_stamp-snoc (u ∷ v ∷ ts) t = ends_with_stamp-snoc (v ∷ ts) t
-
-pub front_of-snoc : (ts : List Data) (t : Data) → front_of (ts ++ t ∷ []) ≡ ts
-front_of-snoc [] t = refl
-front_of-snoc (u ∷ []) t = refl
-front_of-snoc (u ∷ v ∷ ts) t = ap (λ us. u ∷ us) (front_of-snoc (v ∷ ts) t)
-
-pub stamped_row_kind-snoc : (ts : List Data) (t : Data) → stamped_row_kind (ts ++ t ∷ []) ≡ cond (is_stamp t) (row_kind ts) None
-stamped_row_kind-snoc ts t = rw (ends_with_stamp-snoc ts t, front_of-snoc ts t) refl
-
-pub ends_is : (ts : List Data) → ends_with_stamp ts ≡ true → (stamp : Data) × (IsStamp stamp × (ts ≡ front_of ts ++ stamp ∷ []))
+pub ends_is : (ts : List Data) → ends_with is_stamp ts ≡ true → (stamp : Data) × (IsStamp stamp × (ts ≡ front_of ts ++ stamp ∷ []))
 ends_is [] e = absurd cc
 ends_is (t ∷ []) e = (t, (stamp_is t e, refl))
 ends_is (t ∷ u ∷ ts) e =
@@ -89,7 +78,7 @@ ends_is (t ∷ u ∷ ts) e =
 -- ---- terms that are cut before the last
 
 stamped_by_last : (xs : List Term) (x : Term) (rest : List Term) → IsLastAndRest xs x rest → stamped_row_kind (map view xs) ≡ cond (is_stamp (view x)) (row_kind (map view rest)) None
-stamped_by_last xs x rest h = rw (h.0, map-append view rest (x ∷ [])) (stamped_row_kind-snoc (map view rest) (view x))
+stamped_by_last xs x rest h = rw (h.0, map-append view rest (x ∷ [])) (stamped-snoc is_stamp row_kind (map view rest) (view x))
 
 pub with_stamp : (xs : List Term) (x : Term) (rest : List Term) → IsLastAndRest xs x rest → is_stamp (view x) ≡ true → stamped_row_kind (map view xs) ≡ row_kind (map view rest)
 with_stamp xs x rest h is = stamped_by_last xs x rest h ∙ ap (λ b. cond b (row_kind (map view rest)) None) is

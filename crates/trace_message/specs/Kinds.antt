@@ -6,18 +6,19 @@ use Rattle.trace_message.specs.declared.seen.Seen.{Seen}
 use Rattle.trace_message.specs.declared.seen.Seen.TheVariants.{Call, Return, Exception, Send, SendLost, Receive}
 use Rattle.trace_message.specs.Events as events
 use Rattle.trace_message.specs.Events.{EventData}
-use Rattle.trace_message.specs.Texts.{text_trace, text_trace_ts, text_call, text_return_from, text_exception_from, text_send, text_send_to_non_existing_process, text_receive}
+use Rattle.trace_message.specs.declared.word.Word.TheVariants as words
+use Rattle.trace_message.specs.Words.{text_of}
 use Rattle.trace_message.specs.Tuples.{tuple_of, triple_of, function_of, reason_of}
 
 -- What stands after the pid, without a time stamp: a row of the table each.
 pub data IsRow : Seen → List Data → Type 0 where
-  calls : (mod_name fun_name : List ℕ) (args : Members) → IsRow Call (atom text_call ∷ function_of mod_name fun_name (list args) ∷ [])
-  calls_with_arity : (mod_name fun_name : List ℕ) (arity : ℤ) → IsRow Call (atom text_call ∷ function_of mod_name fun_name (int arity) ∷ [])
-  returns : (mod_name fun_name : List ℕ) (arity : ℤ) (value : Data) → IsRow Return (atom text_return_from ∷ function_of mod_name fun_name (int arity) ∷ value ∷ [])
-  raises : (mod_name fun_name : List ℕ) (arity : ℤ) (class : List ℕ) (value : Data) → IsRow Exception (atom text_exception_from ∷ function_of mod_name fun_name (int arity) ∷ reason_of class value ∷ [])
-  sends : (message target : Data) → IsRow Send (atom text_send ∷ message ∷ target ∷ [])
-  sends_lost : (message target : Data) → IsRow SendLost (atom text_send_to_non_existing_process ∷ message ∷ target ∷ [])
-  receives : (message : Data) → IsRow Receive (atom text_receive ∷ message ∷ [])
+  calls : (mod_name fun_name : List ℕ) (args : Members) → IsRow Call (atom (text_of words.Call) ∷ function_of mod_name fun_name (list args) ∷ [])
+  calls_with_arity : (mod_name fun_name : List ℕ) (arity : ℤ) → IsRow Call (atom (text_of words.Call) ∷ function_of mod_name fun_name (int arity) ∷ [])
+  returns : (mod_name fun_name : List ℕ) (arity : ℤ) (value : Data) → IsRow Return (atom (text_of words.ReturnFrom) ∷ function_of mod_name fun_name (int arity) ∷ value ∷ [])
+  raises : (mod_name fun_name : List ℕ) (arity : ℤ) (class : List ℕ) (value : Data) → IsRow Exception (atom (text_of words.ExceptionFrom) ∷ function_of mod_name fun_name (int arity) ∷ reason_of class value ∷ [])
+  sends : (message target : Data) → IsRow Send (atom (text_of words.Send) ∷ message ∷ target ∷ [])
+  sends_lost : (message target : Data) → IsRow SendLost (atom (text_of words.SendToNonExistingProcess) ∷ message ∷ target ∷ [])
+  receives : (message : Data) → IsRow Receive (atom (text_of words.Receive) ∷ message ∷ [])
 
 -- A time stamp: {Mega,Sec,Micro}, or the monotonic time in nanoseconds.
 pub data IsStamp : Data → Type 0 where
@@ -26,8 +27,8 @@ pub data IsStamp : Data → Type 0 where
 
 -- The term is {trace,P,..}, or {trace_ts,P,..,Stamp}, with a row of the kind.
 pub data IsMessage : Seen → Data → Type 0 where
-  plain : (seen : Seen) (p : Pid) (row : List Data) → IsRow seen row → IsMessage seen (tuple_of (atom text_trace ∷ pid p ∷ row))
-  stamped : (seen : Seen) (p : Pid) (row : List Data) (stamp : Data) → IsRow seen row → IsStamp stamp → IsMessage seen (tuple_of (atom text_trace_ts ∷ pid p ∷ (row ++ stamp ∷ [])))
+  plain : (seen : Seen) (p : Pid) (row : List Data) → IsRow seen row → IsMessage seen (tuple_of (atom (text_of words.Trace) ∷ pid p ∷ row))
+  stamped : (seen : Seen) (p : Pid) (row : List Data) (stamp : Data) → IsRow seen row → IsStamp stamp → IsMessage seen (tuple_of (atom (text_of words.TraceTs) ∷ pid p ∷ (row ++ stamp ∷ [])))
 
 -- the kind of an event
 abbrev pub seen_of : EventData → Seen

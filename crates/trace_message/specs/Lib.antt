@@ -3,6 +3,7 @@ pub mod Glances
 pub mod Kinds
 pub mod Messages
 pub mod Shapes
-pub mod Texts
 pub mod Tuples
 pub mod Words
+pub mod Looks
+pub mod Rows

@@ -6,7 +6,8 @@ use Rattle.trace_terms.specs.View.{members_of}
 use Rattle.trace_message.specs.declared.event.Flags.{Flags}
 use Rattle.trace_message.specs.declared.event.Stamp.{Stamp}
 use Rattle.trace_message.specs.Events.{EventData, call, return_from, exception_from, send, send_lost, receive}
-use Rattle.trace_message.specs.Texts.{text_trace, text_trace_ts, text_call, text_return_from, text_exception_from, text_send, text_send_to_non_existing_process, text_receive}
+use Rattle.trace_message.specs.declared.word.Word.TheVariants as words
+use Rattle.trace_message.specs.Words.{text_of}
 use Rattle.trace_message.specs.Tuples.{tuple_of, triple_of, number, function_of, reason_of}
 
 -- whether the flags ask for an event
@@ -24,12 +25,12 @@ called_with flags args = if flags.arity then number (length args) else list (mem
 
 -- what stands after the pid
 abbrev pub row_of : Flags → EventData → List Data
-row_of flags (call mod_name fun_name args) = atom text_call ∷ function_of mod_name fun_name (called_with flags args) ∷ []
-row_of flags (return_from mod_name fun_name arity value) = atom text_return_from ∷ function_of mod_name fun_name (number arity) ∷ value ∷ []
-row_of flags (exception_from mod_name fun_name arity class value) = atom text_exception_from ∷ function_of mod_name fun_name (number arity) ∷ reason_of class value ∷ []
-row_of flags (send msg target) = atom text_send ∷ msg ∷ target ∷ []
-row_of flags (send_lost msg target) = atom text_send_to_non_existing_process ∷ msg ∷ target ∷ []
-row_of flags (receive msg) = atom text_receive ∷ msg ∷ []
+row_of flags (call mod_name fun_name args) = atom (text_of words.Call) ∷ function_of mod_name fun_name (called_with flags args) ∷ []
+row_of flags (return_from mod_name fun_name arity value) = atom (text_of words.ReturnFrom) ∷ function_of mod_name fun_name (number arity) ∷ value ∷ []
+row_of flags (exception_from mod_name fun_name arity class value) = atom (text_of words.ExceptionFrom) ∷ function_of mod_name fun_name (number arity) ∷ reason_of class value ∷ []
+row_of flags (send msg target) = atom (text_of words.Send) ∷ msg ∷ target ∷ []
+row_of flags (send_lost msg target) = atom (text_of words.SendToNonExistingProcess) ∷ msg ∷ target ∷ []
+row_of flags (receive msg) = atom (text_of words.Receive) ∷ msg ∷ []
 
 -- {Mega,Sec,Micro}
 abbrev pub moment_of : Stamp → Data
@@ -41,8 +42,8 @@ stamp_of flags stamp = if flags.timestamp then Some (moment_of stamp) else if fl
 
 -- {trace,P,..}, or {trace_ts,P,..,Stamp}
 abbrev pub told_with : Option Data → Pid → List Data → Data
-told_with None p row = tuple_of (atom text_trace ∷ pid p ∷ row)
-told_with (Some stamp) p row = tuple_of (atom text_trace_ts ∷ pid p ∷ (row ++ stamp ∷ []))
+told_with None p row = tuple_of (atom (text_of words.Trace) ∷ pid p ∷ row)
+told_with (Some stamp) p row = tuple_of (atom (text_of words.TraceTs) ∷ pid p ∷ (row ++ stamp ∷ []))
 
 -- what is told of a row, as the flags ask
 abbrev pub told_by : Flags → Pid → Stamp → List Data → Data

@@ -4,7 +4,7 @@ use Rattle.trace_terms.specs.Data.{Data, int, atom, pid, tuple, list, Members, n
 use Rattle.trace_message.specs.declared.word.Word.{Word}
 use Rattle.trace_message.specs.declared.word.Word.TheVariants as words
 use Rattle.trace_message.specs.declared.seen.Seen.{Seen}
-use Rattle.trace_message.specs.declared.seen.Seen.TheVariants as kinds
+use Rattle.trace_message.specs.Rows.{stamped, kind_by}
 use Rattle.trace_message.specs.Words.{word_named}
 
 -- members as a list
@@ -60,42 +60,14 @@ abbrev pub is_exception : List Data → Bool
 is_exception (tuple function ∷ tuple reason ∷ []) = is_function (list_of function) && is_reason (list_of reason)
 is_exception other = false
 
--- what stands after `receive`
-abbrev pub is_one : List Data → Bool
-is_one (a ∷ []) = true
-is_one other = false
-
--- what stands after `send` or `send_to_non_existing_process`
-abbrev pub is_two : List Data → Bool
-is_two (a ∷ b ∷ []) = true
-is_two other = false
-
--- the kind, if the test is passed
-abbrev pub only_if : Bool → Seen → Option Seen
-only_if test seen = if test then Some seen else None
-
 -- the kind of what stands after a word
 abbrev pub kind_behind : Option Word → List Data → Option Seen
-kind_behind None row = None
-kind_behind (Some words.Trace) row = None
-kind_behind (Some words.TraceTs) row = None
-kind_behind (Some words.Call) row = only_if (is_call row) kinds.Call
-kind_behind (Some words.ReturnFrom) row = only_if (is_return row) kinds.Return
-kind_behind (Some words.ExceptionFrom) row = only_if (is_exception row) kinds.Exception
-kind_behind (Some words.Send) row = only_if (is_two row) kinds.Send
-kind_behind (Some words.SendToNonExistingProcess) row = only_if (is_two row) kinds.SendLost
-kind_behind (Some words.Receive) row = only_if (is_one row) kinds.Receive
+kind_behind = kind_by is_call is_return is_exception
 
 -- the kind of what stands after the pid
 abbrev pub row_kind : List Data → Option Seen
 row_kind (atom text ∷ row) = kind_behind (word_named text) row
 row_kind other = None
-
--- all but the last
-abbrev pub front_of : List Data → List Data
-front_of [] = []
-front_of (t ∷ []) = []
-front_of (t ∷ u ∷ ts) = t ∷ front_of (u ∷ ts)
 
 -- {Mega,Sec,Micro}, or an integer
 abbrev pub is_stamp : Data → Bool
@@ -103,15 +75,9 @@ is_stamp (tuple parts) = are_integers (list_of parts)
 is_stamp (int n) = true
 is_stamp other = false
 
--- whether the last is a time stamp
-abbrev pub ends_with_stamp : List Data → Bool
-ends_with_stamp [] = false
-ends_with_stamp (t ∷ []) = is_stamp t
-ends_with_stamp (t ∷ u ∷ ts) = ends_with_stamp (u ∷ ts)
-
 -- the kind of a row after which a time stamp stands
 abbrev pub stamped_row_kind : List Data → Option Seen
-stamped_row_kind row = if ends_with_stamp row then row_kind (front_of row) else None
+stamped_row_kind = stamped is_stamp row_kind
 
 -- the kind of what stands after the head and the pid
 abbrev pub kind_under : Option Word → List Data → Option Seen

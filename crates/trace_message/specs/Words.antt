@@ -1,20 +1,19 @@
--- The words that trace messages are told with.
-use Rattle.std.specs.Prelude.{ℕ, List, Option, Some, None, if◌then◌else◌}
+-- The words that trace messages are told with (ERTS, erlang:trace/3).
+use Rattle.std.specs.Prelude.{ℕ, List, Option, Some, None, codes, if◌then◌else◌}
 use Rattle.std.specs.Str.{bytes_eq}
 use Rattle.trace_message.specs.declared.word.Word.{Word}
 use Rattle.trace_message.specs.declared.word.Word.TheVariants.{Trace, TraceTs, Call, ReturnFrom, ExceptionFrom, Send, SendToNonExistingProcess, Receive}
-use Rattle.trace_message.specs.Texts.{text_trace, text_trace_ts, text_call, text_return_from, text_exception_from, text_send, text_send_to_non_existing_process, text_receive}
 
 -- the text of each word
 abbrev pub text_of : Word → List ℕ
-text_of Trace = text_trace
-text_of TraceTs = text_trace_ts
-text_of Call = text_call
-text_of ReturnFrom = text_return_from
-text_of ExceptionFrom = text_exception_from
-text_of Send = text_send
-text_of SendToNonExistingProcess = text_send_to_non_existing_process
-text_of Receive = text_receive
+text_of Trace = codes "trace"
+text_of TraceTs = codes "trace_ts"
+text_of Call = codes "call"
+text_of ReturnFrom = codes "return_from"
+text_of ExceptionFrom = codes "exception_from"
+text_of Send = codes "send"
+text_of SendToNonExistingProcess = codes "send_to_non_existing_process"
+text_of Receive = codes "receive"
 
 -- the word, if the text is the word's, or else another
 abbrev pub or_else : List ℕ → Word → Option Word → Option Word

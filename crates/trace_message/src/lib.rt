@@ -4,6 +4,7 @@
 mod event;
 mod glance;
 mod laws;
+pub mod look;
 mod messages;
 mod seen;
 mod word;

@@ -2,6 +2,7 @@
 ghost use Rattle.std.specs.Prelude.{◌≡◌, ◌↔◌, Some, None, map};
 ghost use Rattle.trace_message.specs.declared.seen.Seen.{Seen as TheSeen};
 ghost use Rattle.trace_message.specs.Kinds.{IsMessage};
+ghost use Rattle.trace_message.specs.Rows as rows;
 ghost use Rattle.trace_message.specs.Shapes as shapes;
 ghost use Rattle.trace_terms.specs.View.{view};
 
@@ -123,13 +124,13 @@ fn is_exception(row: &[Term]) -> bool
 }
 
 fn is_one(row: &[Term]) -> bool
-    ensures { result ≡ shapes.is_one (map view row.now) }
+    ensures { result ≡ rows.is_one (map view row.now) }
 {
     matches!(row, [_])
 }
 
 fn is_two(row: &[Term]) -> bool
-    ensures { result ≡ shapes.is_two (map view row.now) }
+    ensures { result ≡ rows.is_two (map view row.now) }
 {
     matches!(row, [_, _])
 }

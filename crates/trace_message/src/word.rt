@@ -69,20 +69,9 @@ impl Word {
     }
 
     /// The word of this text, if it is one.
-    #[tactic(auto, unfolding(crate::specs::Words::word_named))]
     pub fn named(text: &str) -> Option<Word>
         ensures { result ≡ word_named text.now }
     {
-        match text {
-            "trace" => Some(Word::Trace),
-            "trace_ts" => Some(Word::TraceTs),
-            "call" => Some(Word::Call),
-            "return_from" => Some(Word::ReturnFrom),
-            "exception_from" => Some(Word::ExceptionFrom),
-            "send" => Some(Word::Send),
-            "send_to_non_existing_process" => Some(Word::SendToNonExistingProcess),
-            "receive" => Some(Word::Receive),
-            _ => None,
-        }
+        Word::spelled(text.as_bytes())
     }
 }

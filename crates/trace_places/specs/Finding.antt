@@ -1,11 +1,14 @@
 -- Where a trace is stored, by what is asked and what is found.
-use Rattle.std.specs.Prelude.{◌≡◌, ◌≢◌, ◌+◌, ◌%◌, ◌<◌, ℕ, min, Option, Some, None, List, [], unwrap_or}
+use Rattle.std.specs.Prelude.{◌≡◌, ◌≢◌, ◌+◌, ◌<◌, ℕ, min, Option, Some, None, List, [], unwrap_or}
 use Rattle.std.specs.Option.{option_or, option_copied}
 use Rattle.command_line.specs.declared.request.Asked.{Asked}
 use Rattle.command_line.specs.declared.request.Shape.{Shape}
 use Rattle.command_line.specs.declared.request.Shape.TheVariants as shapes
+use Rattle.segment.specs.Specification.{count_of}
+use Rattle.segment.specs.Seen.{spec_seen}
 use Rattle.segment.specs.declared.header.SegHeader.{SegHeader}
-use Rattle.segment.specs.declared.header.Kind.TheVariants as headers
+use Rattle.segment.specs.declared.specification.StoreSpec.TheVariants as stored
+use Rattle.recovery.specs.Stores.{file_for}
 use Rattle.trace_places.specs.Places.{name_of}
 use Rattle.trace_places.specs.declared.lookup.Found.{Found}
 use Rattle.trace_places.specs.declared.lookup.Found.TheVariants as found
@@ -16,7 +19,7 @@ use Rattle.trace_places.specs.declared.place.TheConstants.{MOST_RUNS, STANDARD_R
 
 -- the runs that a wrap keeps, where a file of it says so
 abbrev pub count_in : Found → Option ℕ
-count_in (found.Wrap (Some header)) = Some header.wrap_count
+count_in (found.Wrap (Some header)) = count_of (spec_seen header.spec)
 count_in _ = None
 
 -- the runs that a wrap keeps, by what a file of it says, else by what is asked
@@ -67,7 +70,7 @@ FitsShape shape (found.Wrap header) = MayBeWrap shape
 
 -- a trace with this header is a wrap that has it in this file
 abbrev pub IsInFile : SegHeader → ℕ → Type 0
-IsInFile header k = (header.kind ≢ headers.File) × (header.generation % (header.wrap_count + 1) ≡ k)
+IsInFile header k = (header.spec ≢ stored.File) × (file_for (spec_seen header.spec) header.generation ≡ k)
 
 -- it is in one of so many files, where there is one
 abbrev pub IsInOne : ℕ → Option SegHeader → Type 0

@@ -5,7 +5,8 @@ ghost use Rattle.trace_places.specs.Finding.{count_in, MayBeFile, MayBeWrap, IsI
 
 use crate::place::{MOST_RUNS, Place};
 use command_line::{Asked, Shape};
-use segment::{Kind, SegHeader};
+use recovery::file_in_turn;
+use segment::{SegHeader, StoreSpec};
 use std::alloc::AllocError;
 use std::fs;
 use stores::FolderStore;
@@ -28,7 +29,7 @@ impl Found {
         ensures { result ≡ count_in self.now }
     {
         match self {
-            Found::Wrap(Some(header)) => Some(header.wrap_count),
+            Found::Wrap(Some(header)) => header.spec.count(),
             _ => None,
         }
     }
@@ -68,8 +69,7 @@ fn header_in(rt: HostRuntime, name: String) -> Result<Option<SegHeader>, AllocEr
 fn is_in_place(header: &SegHeader, k: u32) -> bool
     ensures { IsTrue result ↔ IsInFile header.now k }
 {
-    header.kind != Kind::File
-        && header.generation % (u64::from(header.wrap_count) + 1) == u64::from(k)
+    header.spec != StoreSpec::File && file_in_turn(header.spec, header.generation) == k
 }
 
 /// The header of the first wrap file that is open and in its place.

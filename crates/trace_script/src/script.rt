@@ -30,11 +30,17 @@ pub struct Script<'r, R: BufRead> {
 }
 
 impl<'r, R: BufRead> Script<'r, R> {
-    ghost use Rattle.std.specs.Prelude.{◌≡◌, false, true};
+    ghost use Rattle.std.specs.Prelude.{◌≡◌, true};
 
-    /// A script of which nothing is read yet. Each of its lines is held in the text.
-    pub fn new(alloc: Global, reader: &'r mut R, text: &'r mut Vec<u8>) -> Script<'r, R>
-        ensures of_desk { result.is_of_desk ≡ false }
+    /// A script of which nothing is read yet. Each of its lines is held in the text. In a script that `is_of_desk` each line
+    /// that isn't for a port in a desk is a bad command.
+    pub fn new(
+        alloc: Global,
+        reader: &'r mut R,
+        text: &'r mut Vec<u8>,
+        is_of_desk: bool,
+    ) -> Script<'r, R>
+        ensures of_desk { result.is_of_desk ≡ is_of_desk }
         ensures name { result.reader.ghost_name ≡ reader.entry.ghost_name }
         ensures now { result.reader.now ≡ reader.entry.now }
         ensures number { result.number ≡ 0 }
@@ -46,25 +52,7 @@ impl<'r, R: BufRead> Script<'r, R> {
             text,
             number: 0,
             left: MOST_BYTES,
-            is_of_desk: false,
-        }
-    }
-
-    /// A script whose every line is for a port in a desk.
-    pub fn of_desk(alloc: Global, reader: &'r mut R, text: &'r mut Vec<u8>) -> Script<'r, R>
-        ensures of_desk { result.is_of_desk ≡ true }
-        ensures name { result.reader.ghost_name ≡ reader.entry.ghost_name }
-        ensures now { result.reader.now ≡ reader.entry.now }
-        ensures number { result.number ≡ 0 }
-        ensures room { result.left ≡ 1099511627776 }
-    {
-        Script {
-            alloc,
-            reader,
-            text,
-            number: 0,
-            left: MOST_BYTES,
-            is_of_desk: true,
+            is_of_desk,
         }
     }
 

@@ -4,7 +4,6 @@ pub mod Telling
 pub mod WholeDecimal
 pub mod AnyLemmas
 pub mod LeafLemmas
-pub mod SightLemmas
 pub mod KindFinding
 pub mod OtherTags
 pub mod PlainWords

@@ -15,3 +15,5 @@ pub mod Manners
 pub mod PrettyKinds
 pub mod PrettyLines
 pub mod Subset
+pub mod Shows
+pub mod Tells

@@ -18,6 +18,7 @@ mod sight;
 mod spelled;
 mod style;
 mod term_text;
+mod told;
 
 pub use any_laws::{
     one_any_reading, one_pretty_kind, one_pretty_text, read_any_is_spelled, spelled_any_is_read,

@@ -21,11 +21,11 @@ use Rattle.intake.specs.declared.fault.EmitFault.{EmitFault}
 use Rattle.intake.specs.declared.offer.Offer.{Offer}
 use Rattle.intake.specs.declared.offer.Offer.TheVariants as offers
 use Rattle.intake.specs.declared.tracee.Tracee.{Tracee}
-use Rattle.tracees.specs.Desks.{Place, Seat}
+use Rattle.tracees.specs.Desks.{DeskState, Seat}
 use Rattle.tracees.specs.Emits.{Emits}
-use Rattle.tracees.specs.Hands.{HandsOver, FlushesFor, moves, is_refused, no_memory, is_stranger, covers, flush_fails, moved_by}
+use Rattle.tracees.specs.Hands.{HandsOver, FlushesFor, moves, is_refused, no_memory, is_stranger, covers, flush_fails, moved_by, receipted}
 use Rattle.tracees.specs.Steps.{State, ActsFor, EmitsAt, IsStep, emits, hands_over, flushes_for, flushes, seals, ticks, emit_unknown, hand_unknown, flush_for_unknown, flush_unknown, seal_unknown, tick_unknown, offer_reply, hand_reply, Run, ends, goes_on}
-use Rattle.tracees.specs.Effects.{receipt_in, taken_by, is_offered, offered_too, history_by, history_after, carried_by, carried}
+use Rattle.tracees.specs.Effects.{receipt_in, is_offered, offered_too, history_by, history_after, carried_by, carried}
 use Rattle.tracees.specs.Moments.{AreCarried}
 use Rattle.tracees.specs.declared.receipt.Receipt.{Receipt}
 use Rattle.tracees.specs.declared.receipt.HandFault.{HandFault}
@@ -91,13 +91,13 @@ pub record Takes (was is : Tracee) (moved : List Entry) : Type 0 where
 none_taken : (was is : Seat) → is ≡ was → Takes was.tracee is.tracee []
 none_taken was is same = record { setup = setup_of was.tracee was.tracee is.tracee (ap (λ (s : Seat). s.tracee) same) (same_setup was.tracee); rest = ap (λ (s : Seat). waiting_of s.tracee) (sym same) }
 
-pub hand_takes : {P : Type 0} (told : P → Told) (p q : Place P) (limit : ℕ) (was is : Seat) (result : Result Receipt HandFault) → HandsOver told p q limit was is result → Takes was.tracee is.tracee (moved_by result)
+pub hand_takes : {P : Type 0} (told : P → Told) (p q : DeskState P) (limit : ℕ) (was is : Seat) (result : Result Receipt HandFault) → HandsOver told p q limit was is result → Takes was.tracee is.tracee (moved_by result)
 hand_takes told p q limit was is result (moves same m names) = record { setup = m.setup; rest = m.rest }
 hand_takes told p q limit was is result (is_refused same m names) = record { setup = m.setup; rest = m.rest }
 hand_takes told p q limit was is result (no_memory same none) = none_taken was is none.seat
 hand_takes told p q limit was is result (is_stranger other none) = none_taken was is none.seat
 
-pub flush_for_takes : {P : Type 0} (told : P → Told) (p q : Place P) (was is : Seat) (result : Result Receipt HandFault) → FlushesFor told p q was is result → Takes was.tracee is.tracee (moved_by result)
+pub flush_for_takes : {P : Type 0} (told : P → Told) (p q : DeskState P) (was is : Seat) (result : Result Receipt HandFault) → FlushesFor told p q was is result → Takes was.tracee is.tracee (moved_by result)
 flush_for_takes told p q was is result (covers {receipt = receipt} between mid same f book account) = record {
   setup = setup_of was.tracee mid.tracee is.tracee account.tracee f.all.setup;
   rest = f.all.rest ∙ ap (λ (t : Tracee). moved_by result ++ waiting_of t) (sym account.tracee);
@@ -107,14 +107,14 @@ flush_for_takes told p q was is result (is_refused same m names) = record { setu
 flush_for_takes told p q was is result (no_memory same none) = none_taken was is none.seat
 flush_for_takes told p q was is result (is_stranger other none) = none_taken was is none.seat
 
-same_moved : (result : Result Receipt HandFault) → moved_by result ≡ taken_by (receipt_in (hand_reply result))
+same_moved : (result : Result Receipt HandFault) → moved_by result ≡ receipted (receipt_in (hand_reply result))
 same_moved (Ok receipt) = refl
 same_moved (Err (hands.Port fault receipt)) = refl
 same_moved (Err hands.NoMemory) = refl
 same_moved (Err hands.Stranger) = refl
 
-takes_told : (was is : Tracee) (result : Result Receipt HandFault) (reply : Reply) → reply ≡ hand_reply result → Takes was is (moved_by result) → Takes was is (taken_by (receipt_in reply))
-takes_told was is result reply same t = subst (λ (l : List Entry). Takes was is l) (same_moved result ∙ ap (λ (r : Reply). taken_by (receipt_in r)) (sym same)) t
+takes_told : (was is : Tracee) (result : Result Receipt HandFault) (reply : Reply) → reply ≡ hand_reply result → Takes was is (moved_by result) → Takes was is (receipted (receipt_in reply))
+takes_told was is result reply same t = subst (λ (l : List Entry). Takes was is l) (same_moved result ∙ ap (λ (r : Reply). receipted (receipt_in r)) (sym same)) t
 
 -- ---- a step at one tracee
 
@@ -197,10 +197,10 @@ left_unasked {P} old new same at place was there = by_test (nat_eq at place)
     by_test true = one
     by_test false = one
 
-taking_left : {P : Type 0} (old new : State P) (at : ℕ) (a b : Seat) (reply : Reply) → ActsFor old new at a b → Takes a.tracee b.tracee (taken_by (receipt_in reply)) → (place : ℕ) (was : Seat) → slice_get old.tracees place ≡ Some was
-    → Left new place was (λ h. if nat_eq at place then Took h (length (taken_by (receipt_in reply))) else h) (if nat_eq at place then taken_by (receipt_in reply) else [])
+taking_left : {P : Type 0} (old new : State P) (at : ℕ) (a b : Seat) (reply : Reply) → ActsFor old new at a b → Takes a.tracee b.tracee (receipted (receipt_in reply)) → (place : ℕ) (was : Seat) → slice_get old.tracees place ≡ Some was
+    → Left new place was (λ h. if nat_eq at place then Took h (length (receipted (receipt_in reply))) else h) (if nat_eq at place then receipted (receipt_in reply) else [])
 taking_left old new at a b reply acts t place was there =
-    let moved = taken_by (receipt_in reply) in
+    let moved = receipted (receipt_in reply) in
     left_for old new at a b (λ h. Took h (length moved)) moved acts t.setup place was there (λ same. adds_taking a.tracee b.tracee moved t.setup t.rest)
 
 step_left : {P : Type 0} (told : P → Told) (old new : State P) (x : Step) (reply : Reply) → IsStep told old new x reply → (place : ℕ) (was : Seat) → slice_get old.tracees place ≡ Some was

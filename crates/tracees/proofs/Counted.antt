@@ -8,9 +8,9 @@ use Rattle.intake.specs.declared.offer.Counts.{Counts as CountsOf}
 use Rattle.intake.specs.declared.tracee.Tracee.{Tracee}
 use Rattle.trace_port.specs.Port.{Told}
 use Rattle.trace_port.specs.Calls.{taken, IsRefused}
-use Rattle.trace_port.specs.declared.kinds.PortFault.{PortFault}
-use Rattle.trace_port.specs.declared.kinds.PortFault.TheVariants as faults
-use Rattle.tracees.specs.Hands.{Takes, none_left, takes_one, fails_at, stops_at}
+use Rattle.trace_port.specs.declared.fault.PortFault.{PortFault}
+use Rattle.trace_port.specs.declared.fault.PortFault.TheVariants as faults
+use Rattle.tracees.specs.Hands.{TakesInOrder, none_left, takes_one, fails_at, stops_at}
 use Rattle.tracees.specs.Effects.{effect, Calls}
 use Rattle.tracees.proofs.Composed.{IsStill, accept_calls, calls_both, joins_next, no_effect_call}
 
@@ -23,7 +23,7 @@ none_taken e faults.CountFull refused = refl
 none_taken e faults.FileFull refused = refl
 
 -- the calls of a hand-over are as one that accepted what moved
-pub takes_calls : {P : Type 0} (told : P → Told) → ((p : P) → IsStill (told p)) → (p q : P) (offered moved : List Entry) (fault : Option PortFault) → Takes told p offered moved fault q
+pub takes_calls : {P : Type 0} (told : P → Told) → ((p : P) → IsStill (told p)) → (p q : P) (offered moved : List Entry) (fault : Option PortFault) → TakesInOrder told p offered moved fault q
     → Calls (told p) (told q) (effect (map Kept moved) false ∷ [])
 takes_calls told still p q offered moved fault none_left = no_effect_call (told p) (still p)
 takes_calls told still p q offered moved fault (takes_one {q = mid} {e = e} {n = n} {es = es} {moved = more} {fault = fault'} accepts rest) =
@@ -39,7 +39,7 @@ pub record HasCounted (old new : Told) (moved : List Entry) : Type 0 where
   pub covered : new.covered ≡ old.covered
 
 -- the port counts what moved
-pub takes_counts : {P : Type 0} (told : P → Told) (p q : P) (offered moved : List Entry) (fault : Option PortFault) → Takes told p offered moved fault q → HasCounted (told p) (told q) moved
+pub takes_counts : {P : Type 0} (told : P → Told) (p q : P) (offered moved : List Entry) (fault : Option PortFault) → TakesInOrder told p offered moved fault q → HasCounted (told p) (told q) moved
 takes_counts told p q offered moved fault none_left = record { total = omega arith; drops = omega arith; covered = refl }
 takes_counts told p q offered moved fault (takes_one {q = mid} {e = e} {n = n} {es = es} {moved = more} {fault = fault'} accepts rest) =
     let next = takes_counts told mid q es more fault' rest in

@@ -11,11 +11,11 @@ use Rattle.recovery.specs.Items.{Item, Kept}
 use Rattle.recovery.specs.Views.{View, extend, total}
 use Rattle.trace_port.specs.Sound.{ReadsAs, covered_of}
 use Rattle.trace_port.specs.Port.{Told, Fits}
-use Rattle.trace_port.specs.declared.kinds.PortFault.{PortFault}
+use Rattle.trace_port.specs.declared.fault.PortFault.{PortFault}
 use Rattle.intake.specs.declared.offer.Offer.{Offer}
 use Rattle.intake.specs.declared.fault.EmitFault.{EmitFault}
 use Rattle.tracees.specs.Agreement.{IsAgreed}
-use Rattle.tracees.specs.Desks.{Place, Seat}
+use Rattle.tracees.specs.Desks.{DeskState, Seat}
 use Rattle.tracees.specs.Hands.{Names, HandsOver, FlushesFor, moves, is_refused, no_memory, is_stranger, covers, flush_fails}
 use Rattle.tracees.specs.Steps.{State, ActsOn, IsStep, emits, hands_over, flushes_for, flushes, seals, ticks, emit_unknown, hand_unknown, flush_for_unknown, flush_unknown, seal_unknown, tick_unknown, offer_reply, hand_reply, flush_reply, seal_reply, tick_reply, Run, ends, goes_on}
 use Rattle.tracees.specs.Effects.{Effect, effect, no_effect, items_in, covered_by, Calls, received, receipt_in, is_receipt, effect_at, effects_at}
@@ -86,8 +86,8 @@ split_at told old new steps rs (goes_on {mid = mid} {step = x} {steps = xs} {rep
 
 -- the desk of this number before the step and after it, whose port the receipt tells of
 record Tells {P : Type 0} (told : P → Told) (old new : State P) (x : Step) (reply : Reply) (receipt : Receipt) : Type 0 where
-  desk : Place P
-  desk' : Place P
+  desk : DeskState P
+  desk' : DeskState P
   there : slice_get old.desks receipt.desk ≡ Some desk
   there' : slice_get new.desks receipt.desk ≡ Some desk'
   first : receipt.first ≡ (told desk.port).total
@@ -114,14 +114,14 @@ no_ticked_receipt (Ok cut) = refl
 no_ticked_receipt (Err fault) = refl
 
 -- the receipt that an answer has names what it should
-hand_names : {P : Type 0} (told : P → Told) (p q : Place P) (limit : ℕ) (was is : Seat) (result : Result Receipt HandFault) → HandsOver told p q limit was is result → (receipt : Receipt) → receipt_in (hand_reply result) ≡ Some receipt
+hand_names : {P : Type 0} (told : P → Told) (p q : DeskState P) (limit : ℕ) (was is : Seat) (result : Result Receipt HandFault) → HandsOver told p q limit was is result → (receipt : Receipt) → receipt_in (hand_reply result) ≡ Some receipt
     → Names (told p.port) (told q.port) was receipt
 hand_names told p q limit was is result (moves {receipt = one} same m names) receipt e = subst (λ (r : Receipt). Names (told p.port) (told q.port) was r) (same_Some one receipt e) names
 hand_names told p q limit was is result (is_refused {receipt = one} same m names) receipt e = subst (λ (r : Receipt). Names (told p.port) (told q.port) was r) (same_Some one receipt e) names
 hand_names told p q limit was is result (no_memory same none) receipt e = no_receipt receipt e
 hand_names told p q limit was is result (is_stranger other none) receipt e = no_receipt receipt e
 
-flush_for_names : {P : Type 0} (told : P → Told) (p q : Place P) (was is : Seat) (result : Result Receipt HandFault) → FlushesFor told p q was is result → (receipt : Receipt) → receipt_in (hand_reply result) ≡ Some receipt
+flush_for_names : {P : Type 0} (told : P → Told) (p q : DeskState P) (was is : Seat) (result : Result Receipt HandFault) → FlushesFor told p q was is result → (receipt : Receipt) → receipt_in (hand_reply result) ≡ Some receipt
     → Names (told p.port) (told q.port) was receipt
 flush_for_names told p q was is result (covers {receipt = one} between mid same f book account) receipt e = subst (λ (r : Receipt). Names (told p.port) (told q.port) was r) (same_Some one receipt e) f.names
 flush_for_names told p q was is result (flush_fails {receipt = one} between same f book) receipt e = subst (λ (r : Receipt). Names (told p.port) (told q.port) was r) (same_Some one receipt e) f.names
@@ -134,13 +134,13 @@ received_of flushed receipt found e =
     let one = effect (map Kept (views receipt.entries.items)) flushed in
     ap (λ (o : Option Receipt). (received receipt.desk flushed o).items) e ∙ ap (λ (x : Bool). (if x then one else no_effect).items) (eq-eqb receipt.desk receipt.desk refl)
 
-names_desk : {P : Type 0} (told : P → Told) (old new : State P) (x : Step) (reply : Reply) (was : Seat) (p q : Place P) (receipt : Receipt) → ActsOn old new was.desk p q → Names (told p.port) (told q.port) was receipt
+names_desk : {P : Type 0} (told : P → Told) (old new : State P) (x : Step) (reply : Reply) (was : Seat) (p q : DeskState P) (receipt : Receipt) → ActsOn old new was.desk p q → Names (told p.port) (told q.port) was receipt
     → (effect_at receipt.desk x reply).items ≡ map Kept (views receipt.entries.items) → Tells told old new x reply receipt
 names_desk {P} told old new x reply was p q receipt acts names items = record {
   desk = p;
   desk' = q;
   there = ap (λ (i : ℕ). slice_get old.desks i) names.desk ∙ acts.there;
-  there' = ap (λ (i : ℕ). slice_get new.desks i) names.desk ∙ ap (λ (l : List (Place P)). slice_get l was.desk) acts.others ∙ written old.desks was.desk p q acts.there;
+  there' = ap (λ (i : ℕ). slice_get new.desks i) names.desk ∙ ap (λ (l : List (DeskState P)). slice_get l was.desk) acts.others ∙ written old.desks was.desk p q acts.there;
   first = names.first;
   covered = names.covered;
   items = items;

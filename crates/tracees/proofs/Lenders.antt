@@ -7,18 +7,19 @@ use Rattle.trace_store.specs.Disk.{Image}
 use Rattle.segment.specs.Specification.{Spec}
 use Rattle.recovery.specs.Items.{Item}
 use Rattle.recovery.specs.Views.{View, extend}
-use Rattle.trace_port.specs.Device.{Device, FailedOnce}
+use Rattle.trace_store.specs.Moments.{Rose}
+use Rattle.trace_store.specs.Device.{Device}
 use Rattle.trace_port.specs.Port.{Told, AreSealed, Fits, Grows, IsSaved, Ends, has_sealed}
 use Rattle.trace_port.specs.Calls.{IsCovered, HasFailed}
-use Rattle.trace_port.specs.declared.kinds.PortState.{PortState}
-use Rattle.trace_port.specs.declared.kinds.PortState.TheVariants.{Live, Broken, Sealed}
-use Rattle.trace_port.specs.declared.kinds.PortFault.{PortFault}
+use Rattle.trace_port.specs.declared.status.PortState.{PortState}
+use Rattle.trace_port.specs.declared.status.PortState.TheVariants.{Live, Broken, Sealed}
+use Rattle.trace_port.specs.declared.fault.PortFault.{PortFault}
 use Rattle.intake.specs.Tracees.{waiting_of}
 use Rattle.intake.specs.declared.tracee.Tracee.{Tracee}
 use Rattle.tracees.specs.Books.{no_totals}
-use Rattle.tracees.specs.Desks.{Place, Seat}
+use Rattle.tracees.specs.Desks.{DeskState, Seat}
 use Rattle.tracees.specs.Effects.{effect, Calls}
-use Rattle.tracees.specs.Hands.{Takes, none_left, takes_one, fails_at, stops_at, HandsOver, moved_by, items_moved, moves, is_refused, no_memory, is_stranger}
+use Rattle.tracees.specs.Hands.{TakesInOrder, none_left, takes_one, fails_at, stops_at, HandsOver, moved_by, items_moved, moves, is_refused, no_memory, is_stranger}
 use Rattle.tracees.specs.Lent.{first_seat, HandsOne}
 use Rattle.tracees.specs.PortCalls.{Finishes}
 use Rattle.tracees.specs.declared.book.Totals.{Totals}
@@ -28,7 +29,7 @@ use Rattle.tracees.proofs.Composed.{IsStill, calls_both, finish_calls, grows_of,
 use Rattle.tracees.proofs.Answered.{hands_calls}
 
 -- a hand-over at a desk with its end
-pub hands_one : {P : Type 0} (told : P → Told) (number : ℕ) (old end new : P) (limit : ℕ) (was is : Tracee) (result : Result Receipt HandFault) (first between : Place P) (seat then : Seat)
+pub hands_one : {P : Type 0} (told : P → Told) (number : ℕ) (old end new : P) (limit : ℕ) (was is : Tracee) (result : Result Receipt HandFault) (first between : DeskState P) (seat then : Seat)
     → first.number ≡ number → first.port ≡ old → first.counted ≡ no_totals → seat.desk ≡ number → seat.tracee ≡ was → seat.sums ≡ no_totals
     → HandsOver told first between limit seat then result → is ≡ then.tracee → Finishes (told between.port) (told end) → new ≡ end → HandsOne told number old new limit was is result
 hands_one {P} told number old end new limit was is result first between seat then number_is port counted desk tracee sums hands is_then finishes back = record {
@@ -46,7 +47,7 @@ hands_one {P} told number old end new limit was is result first between seat the
 }
 
 -- what moved and what waits are what waited
-hands_rest : {P : Type 0} (told : P → Told) (old new : Place P) (limit : ℕ) (was is : Seat) (result : Result Receipt HandFault) → HandsOver told old new limit was is result → waiting_of was.tracee ≡ moved_by result ++ waiting_of is.tracee
+hands_rest : {P : Type 0} (told : P → Told) (old new : DeskState P) (limit : ℕ) (was is : Seat) (result : Result Receipt HandFault) → HandsOver told old new limit was is result → waiting_of was.tracee ≡ moved_by result ++ waiting_of is.tracee
 hands_rest told old new limit was is result (moves same m names) = m.rest
 hands_rest told old new limit was is result (is_refused same m names) = m.rest
 hands_rest told old new limit was is result (no_memory same none) = ap (λ (s : Seat). waiting_of s.tracee) (sym none.seat)
@@ -74,16 +75,16 @@ one_grows {P} told still number old new limit was is result one =
 
 -- a live port stayed live without a fault, or its device has failed
 abbrev WentOn : Told → Told → Type 0
-WentOn old new = ((new.state ≡ Live) × (new.device.failures ≡ old.device.failures)) ⊎ ((new.state ≢ Live) × FailedOnce old.device.failures new.device.failures)
+WentOn old new = ((new.state ≡ Live) × (new.device.failures ≡ old.device.failures)) ⊎ ((new.state ≢ Live) × Rose old.device.failures new.device.failures)
 
 broken_not_live : (s : PortState) → s ≡ Broken → s ≢ Live
 broken_not_live s broken live = (let bad : Broken ≡ Live = sym broken ∙ live in cc)
 
 went_both : (old mid new : Told) → mid.device.failures ≡ old.device.failures → WentOn mid new → WentOn old new
 went_both old mid new same (inl on) = inl (on.0, on.1 ∙ same)
-went_both old mid new same (inr failed) = inr (failed.0, subst (λ (n : ℕ). FailedOnce n new.device.failures) same failed.1)
+went_both old mid new same (inr failed) = inr (failed.0, subst (λ (n : ℕ). Rose n new.device.failures) same failed.1)
 
-takes_went_on : {P : Type 0} (told : P → Told) (p q : P) (offered moved : List Entry) (fault : Option PortFault) → (told p).state ≡ Live → Takes told p offered moved fault q → WentOn (told p) (told q)
+takes_went_on : {P : Type 0} (told : P → Told) (p q : P) (offered moved : List Entry) (fault : Option PortFault) → (told p).state ≡ Live → TakesInOrder told p offered moved fault q → WentOn (told p) (told q)
 takes_went_on told p q offered moved fault live none_left = inl (live, refl)
 takes_went_on told p q offered moved fault live (takes_one {q = mid} {e = e} {n = n} {es = es} {moved = more} {fault = fault'} accepts rest) =
     went_both (told p) (told mid) (told q) accepts.no_failure (takes_went_on told mid q es more fault' accepts.live rest)
@@ -94,10 +95,10 @@ takes_went_on told p q offered moved fault live (stops_at {e = e} {fault = why} 
     let same = accepts.refused refused in
     inl (same.state ∙ live, same.same.device.failures)
 
-no_change_went_on : {P : Type 0} (told : P → Told) (old new : Place P) → new ≡ old → (told old.port).state ≡ Live → WentOn (told old.port) (told new.port)
-no_change_went_on {P} told old new same live = subst (λ (p : Place P). WentOn (told old.port) (told p.port)) (sym same) (inl (live, refl))
+no_change_went_on : {P : Type 0} (told : P → Told) (old new : DeskState P) → new ≡ old → (told old.port).state ≡ Live → WentOn (told old.port) (told new.port)
+no_change_went_on {P} told old new same live = subst (λ (p : DeskState P). WentOn (told old.port) (told p.port)) (sym same) (inl (live, refl))
 
-hands_went_on : {P : Type 0} (told : P → Told) (old new : Place P) (limit : ℕ) (was is : Seat) (result : Result Receipt HandFault) → (told old.port).state ≡ Live → HandsOver told old new limit was is result → WentOn (told old.port) (told new.port)
+hands_went_on : {P : Type 0} (told : P → Told) (old new : DeskState P) (limit : ℕ) (was is : Seat) (result : Result Receipt HandFault) → (told old.port).state ≡ Live → HandsOver told old new limit was is result → WentOn (told old.port) (told new.port)
 hands_went_on told old new limit was is result live (moves {receipt = receipt} same m names) = takes_went_on told old.port new.port (take limit (waiting_of was.tracee)) (views receipt.entries.items) None live m.takes
 hands_went_on told old new limit was is result live (is_refused {fault = fault} {receipt = receipt} same m names) = takes_went_on told old.port new.port (take limit (waiting_of was.tracee)) (views receipt.entries.items) (Some fault) live m.takes
 hands_went_on told old new limit was is result live (no_memory same none) = no_change_went_on told old new none.place live
@@ -126,8 +127,8 @@ one_saved {P} told still number old new last limit was is result live one ends h
     ⊎_elim
     (λ (went : (mid.state ≡ Live) × (mid.device.failures ≡ first.device.failures)). ⊎_elim
     (λ (covered : IsCovered mid end Sealed). (end.gate, inl (sealed_still first.spec end.spec v0 items end.gate end.device.images last.images grows.spec (λ image left. idle.images.no_more image left) (goes.fits.sealed covered.state))))
-    (λ (failed : HasFailed mid end). (0, inr (subst (λ (n : ℕ). FailedOnce n last.failures) went.1 (subst (λ (n : ℕ). FailedOnce mid.device.failures n) (sym idle.failures) failed.cause))))
+    (λ (failed : HasFailed mid end). (0, inr (subst (λ (n : ℕ). Rose n last.failures) went.1 (subst (λ (n : ℕ). Rose mid.device.failures n) (sym idle.failures) failed.cause))))
     (over.was_live went.0))
-    (λ (rose : (mid.state ≢ Live) × FailedOnce first.device.failures mid.device.failures).
-    (0, inr (subst (λ (n : ℕ). FailedOnce first.device.failures n) (sym (idle.failures ∙ (over.not_live rose.0).same.device.failures)) rose.1)))
+    (λ (rose : (mid.state ≢ Live) × Rose first.device.failures mid.device.failures).
+    (0, inr (subst (λ (n : ℕ). Rose first.device.failures n) (sym (idle.failures ∙ (over.not_live rose.0).same.device.failures)) rose.1)))
     on

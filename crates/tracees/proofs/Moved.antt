@@ -13,11 +13,11 @@ use Rattle.intake.specs.declared.front.Front.{Front}
 use Rattle.intake.specs.declared.tracee.Tracee.{Tracee}
 use Rattle.trace_port.specs.Port.{Told}
 use Rattle.trace_port.specs.Accepts.{Accepts}
-use Rattle.trace_port.specs.declared.kinds.PortFault.{PortFault}
-use Rattle.trace_port.specs.declared.kinds.PortFault.TheVariants as faults
+use Rattle.trace_port.specs.declared.fault.PortFault.{PortFault}
+use Rattle.trace_port.specs.declared.fault.PortFault.TheVariants as faults
 use Rattle.intake.proofs.ListLemmas.{messages_in-append, drops_in-append}
 use Rattle.intake.proofs.TakenLemmas.{same_twice}
-use Rattle.tracees.specs.Hands.{Takes, none_left, takes_one, fails_at, stops_at}
+use Rattle.tracees.specs.Hands.{TakesInOrder, none_left, takes_one, fails_at, stops_at}
 use Rattle.tracees.specs.Moving.{Offers, HasMoved, HasStayed, MovesOne, MovesNone}
 
 -- ---- the entry at the front
@@ -47,7 +47,7 @@ length-views (x ∷ held) = omega (arith, length-views held)
 
 -- what the port takes from here on, it takes after these
 abbrev pub TakesOn : {P : Type 0} → (P → Told) → P → P → List Entry → Type 0
-TakesOn {P} told first now moved = (es ms : List Entry) (fault : Option PortFault) (q : P) → Takes told now es ms fault q → Takes told first (moved ++ es) (moved ++ ms) fault q
+TakesOn {P} told first now moved = (es ms : List Entry) (fault : Option PortFault) (q : P) → TakesInOrder told now es ms fault q → TakesInOrder told first (moved ++ es) (moved ++ ms) fault q
 
 -- so far, these have moved
 pub record MovedSoFar {P : Type 0} (told : P → Told) (first now : P) (was is : Tracee) (moved : List Entry) : Type 0 where
@@ -108,8 +108,8 @@ one_more told first now after was mid is moved moved' n so_far m =
     let shift : (xs : List Entry) → moved' ++ xs ≡ moved ++ e ∷ xs = λ xs. ap (λ (l : List Entry). l ++ xs) m.passed.behind ∙ append_assoc moved (e ∷ []) xs in
     moved_on told first now after was mid is moved moved' e so_far m.passed m.setup
     (λ es ms fault q t.
-    subst (λ (l : List Entry). Takes told first l (moved' ++ ms) fault q) (sym (shift es))
-    (subst (λ (l : List Entry). Takes told first (moved ++ e ∷ es) l fault q) (sym (shift ms)) (so_far.takes (e ∷ es) (e ∷ ms) fault q (takes_one m.offers.accepts t))))
+    subst (λ (l : List Entry). TakesInOrder told first l (moved' ++ ms) fault q) (sym (shift es))
+    (subst (λ (l : List Entry). TakesInOrder told first (moved ++ e ∷ es) l fault q) (sym (shift ms)) (so_far.takes (e ∷ es) (e ∷ ms) fault q (takes_one m.offers.accepts t))))
 
 pub count_more : (old new : Told) (was is : Tracee) (held held' : List Held) (n : ℕ) → MovesOne old new was is (views held) (views held') (Ok n) → length held' ≡ length held + 1
 count_more old new was is held held' n m =
@@ -117,15 +117,15 @@ count_more old new was is held held' n m =
 
 -- at most so many entries were to be moved, and these have: what was offered, what is left, and the counts
 pub record MovesSome {P : Type 0} (told : P → Told) (old new : P) (was is : Tracee) (most : ℕ) (moved : List Entry) (fault : Option PortFault) : Type 0 where
-  pub takes : Takes told old (take most (waiting_of was)) moved fault new
+  pub takes : TakesInOrder told old (take most (waiting_of was)) moved fault new
   pub rest : waiting_of was ≡ moved ++ waiting_of is
   pub counts : CountsGrow 0 (messages_in moved) (drops_in moved) was is
   pub setup : SameSetup was is
 
 all_taken : {P : Type 0} (told : P → Told) (first now : P) (was is : Tracee) (most : ℕ) (moved : List Entry) → MovedSoFar told first now was is moved → take most (waiting_of was) ≡ moved → MovesSome told first now was is most moved None
 all_taken told first now was is most moved so_far offered = record {
-  takes = subst (λ (l : List Entry). Takes told first l moved None now) (append-nil moved ∙ sym offered)
-      (subst (λ (l : List Entry). Takes told first (moved ++ []) l None now) (append-nil moved) (so_far.takes [] [] None now none_left));
+  takes = subst (λ (l : List Entry). TakesInOrder told first l moved None now) (append-nil moved ∙ sym offered)
+      (subst (λ (l : List Entry). TakesInOrder told first (moved ++ []) l None now) (append-nil moved) (so_far.takes [] [] None now none_left));
   rest = so_far.rest;
   counts = so_far.counts;
   setup = so_far.setup;
@@ -157,8 +157,8 @@ none_wait {P} told first now after was mid is most held held' so_far few none =
     let offered : take most (waiting_of was) ≡ moved = ap (λ (l : List Entry). take most l) all ∙ take_all most moved (omega (arith, length-views held, few)) in
     let done = all_taken told first now was mid most moved so_far offered in
     record {
-      takes = subst (λ (p : P). Takes told first (take most (waiting_of was)) (views held') None p) (sym none.port)
-          (subst (λ (l : List Entry). Takes told first (take most (waiting_of was)) l None now) (sym none.stayed.same) done.takes);
+      takes = subst (λ (p : P). TakesInOrder told first (take most (waiting_of was)) (views held') None p) (sym none.port)
+          (subst (λ (l : List Entry). TakesInOrder told first (take most (waiting_of was)) l None now) (sym none.stayed.same) done.takes);
       rest = rest_stays (waiting_of was) (waiting_of mid) (waiting_of is) moved (views held') so_far.rest none.stayed.rest none.stayed.same;
       counts = counts_stay was mid is moved (views held') none.stayed.same so_far.counts none.stayed.counts;
       setup = same_twice was mid is so_far.setup none.setup;
@@ -177,12 +177,12 @@ offered most whole waiting moved e behind lists front less =
 -- the entry was refused, and stays
 refused_there : {P : Type 0} (told : P → Told) (first now after : P) (was mid is : Tracee) (most : ℕ) (moved moved' behind : List Entry) (e : Entry) (fault : PortFault)
     → MovedSoFar told first now was mid moved → length moved < most → waiting_of mid ≡ e ∷ behind → HasStayed mid is moved moved' → SameSetup mid is
-    → ((es : List Entry) → Takes told now (e ∷ es) [] (Some fault) after) → MovesSome told first after was is most moved' (Some fault)
+    → ((es : List Entry) → TakesInOrder told now (e ∷ es) [] (Some fault) after) → MovesSome told first after was is most moved' (Some fault)
 refused_there told first now after was mid is most moved moved' behind e fault so_far less front stayed setup stop =
     let rest = take (most - (length moved + 1)) behind in
     record {
-      takes = subst (λ (l : List Entry). Takes told first l moved' (Some fault) after) (sym (offered most (waiting_of was) (waiting_of mid) moved e behind so_far.rest front less))
-          (subst (λ (l : List Entry). Takes told first (moved ++ e ∷ rest) l (Some fault) after) (append-nil moved ∙ sym stayed.same) (so_far.takes (e ∷ rest) [] (Some fault) after (stop rest)));
+      takes = subst (λ (l : List Entry). TakesInOrder told first l moved' (Some fault) after) (sym (offered most (waiting_of was) (waiting_of mid) moved e behind so_far.rest front less))
+          (subst (λ (l : List Entry). TakesInOrder told first (moved ++ e ∷ rest) l (Some fault) after) (append-nil moved ∙ sym stayed.same) (so_far.takes (e ∷ rest) [] (Some fault) after (stop rest)));
       rest = rest_stays (waiting_of was) (waiting_of mid) (waiting_of is) moved moved' so_far.rest stayed.rest stayed.same;
       counts = counts_stay was mid is moved moved' stayed.same so_far.counts stayed.counts;
       setup = same_twice was mid is so_far.setup setup;
@@ -195,8 +195,8 @@ failed_there told first now after was mid is most moved moved' so_far less m =
     let e = m.entry in
     let rest = take (most - (length moved + 1)) m.offers.behind in
     record {
-      takes = subst (λ (l : List Entry). Takes told first l moved' (Some faults.Device) after) (sym (offered most (waiting_of was) (waiting_of mid) moved e m.offers.behind so_far.rest m.offers.front less))
-          (subst (λ (l : List Entry). Takes told first (moved ++ e ∷ rest) l (Some faults.Device) after) (sym m.passed.behind) (so_far.takes (e ∷ rest) (e ∷ []) (Some faults.Device) after (fails_at m.offers.accepts)));
+      takes = subst (λ (l : List Entry). TakesInOrder told first l moved' (Some faults.Device) after) (sym (offered most (waiting_of was) (waiting_of mid) moved e m.offers.behind so_far.rest m.offers.front less))
+          (subst (λ (l : List Entry). TakesInOrder told first (moved ++ e ∷ rest) l (Some faults.Device) after) (sym m.passed.behind) (so_far.takes (e ∷ rest) (e ∷ []) (Some faults.Device) after (fails_at m.offers.accepts)));
       rest = rest_more (waiting_of was) (waiting_of mid) (waiting_of is) moved moved' e so_far.rest m.passed.rest m.passed.behind;
       counts = counts_more was mid is moved moved' e m.passed.behind so_far.counts m.passed.counts;
       setup = same_twice was mid is so_far.setup m.setup;

@@ -7,19 +7,19 @@ use Rattle.entry_codec.specs.Seen.{views}
 use Rattle.trace_store.specs.Disk.{Image}
 use Rattle.recovery.specs.Items.{Item, Kept, Cut}
 use Rattle.recovery.specs.Views.{View}
-use Rattle.trace_port.specs.Device.{Leaves}
+use Rattle.trace_store.specs.Device.{Leaves}
 use Rattle.trace_port.specs.Sound.{Sound}
 use Rattle.trace_port.specs.Port.{Told, Fits}
 use Rattle.trace_port.specs.Ticks.{due, ticked, cut_if}
 use Rattle.trace_port.specs.Calls.{went}
-use Rattle.trace_port.specs.declared.kinds.PortFault.{PortFault}
-use Rattle.trace_port.specs.declared.kinds.PortFault.TheVariants as faults
-use Rattle.tracees.specs.Desks.{Place, Seat}
+use Rattle.trace_port.specs.declared.fault.PortFault.{PortFault}
+use Rattle.trace_port.specs.declared.fault.PortFault.TheVariants as faults
+use Rattle.tracees.specs.Desks.{DeskState, Seat}
 use Rattle.tracees.specs.PortCalls.{Ticks}
 use Rattle.tracees.specs.Hands.{HandsOver, FlushesFor, moves, is_refused, no_memory, is_stranger, covers, flush_fails, items_moved, has_gone}
 use Rattle.tracees.specs.Steps.{State, ActsOn, IsStep, emits, hands_over, flushes_for, flushes, seals, ticks, emit_unknown, hand_unknown, flush_for_unknown, flush_unknown, seal_unknown, tick_unknown, hand_reply, flush_reply, seal_reply, tick_reply, Run, ends, goes_on}
 use Rattle.tracees.specs.Effects.{Effect, effect, no_effect, items_in, covered_by, Calls, received, receipt_in, is_receipt, is_acknowledged, has_cut, effect_at, effects_at}
-use Rattle.tracees.specs.Moments.{AreGrown, AreSound, Parts, EachMoment}
+use Rattle.tracees.specs.Moments.{AreGrown, AroundStep, AreSound, Parts, EachMoment}
 use Rattle.tracees.specs.declared.receipt.Receipt.{Receipt}
 use Rattle.tracees.specs.declared.receipt.HandFault.{HandFault}
 use Rattle.tracees.specs.declared.receipt.HandFault.TheVariants as hands
@@ -53,13 +53,13 @@ IsOf place (Err (hands.Port fault receipt)) = receipt.desk ≡ place
 IsOf place (Err hands.NoMemory) = Unit {0}
 IsOf place (Err hands.Stranger) = Unit {0}
 
-hand_is_of : {P : Type 0} (told : P → Told) (p q : Place P) (limit : ℕ) (was is : Seat) (result : Result Receipt HandFault) → HandsOver told p q limit was is result → IsOf was.desk result
+hand_is_of : {P : Type 0} (told : P → Told) (p q : DeskState P) (limit : ℕ) (was is : Seat) (result : Result Receipt HandFault) → HandsOver told p q limit was is result → IsOf was.desk result
 hand_is_of told p q limit was is result (moves same m names) = names.desk
 hand_is_of told p q limit was is result (is_refused same m names) = names.desk
 hand_is_of told p q limit was is result (no_memory same none) = tt
 hand_is_of told p q limit was is result (is_stranger other none) = tt
 
-flush_for_is_of : {P : Type 0} (told : P → Told) (p q : Place P) (was is : Seat) (result : Result Receipt HandFault) → FlushesFor told p q was is result → IsOf was.desk result
+flush_for_is_of : {P : Type 0} (told : P → Told) (p q : DeskState P) (was is : Seat) (result : Result Receipt HandFault) → FlushesFor told p q was is result → IsOf was.desk result
 flush_for_is_of told p q was is result (covers between mid same f book account) = f.names.desk
 flush_for_is_of told p q was is result (flush_fails between same f book) = f.names.desk
 flush_for_is_of told p q was is result (is_refused same m names) = names.desk
@@ -121,46 +121,46 @@ tick_items old new now (Err faults.FileFull) t = refl
 -- ---- a step at one desk
 
 -- the desk that was at this place has made calls with these effects
-pub record Went {P : Type 0} (told : P → Told) (new : State P) (place : ℕ) (p : Place P) (effects : List Effect) : Type 0 where
-  pub desk : Place P
+pub record Went {P : Type 0} (told : P → Told) (new : State P) (place : ℕ) (p : DeskState P) (effects : List Effect) : Type 0 where
+  pub desk : DeskState P
   pub there : slice_get new.desks place ≡ Some desk
   pub calls : Calls (told p.port) (told desk.port) effects
 
 -- a step that touches no desk
-stayed : {P : Type 0} (told : P → Told) → ((p : P) → IsStill (told p)) → (old new : State P) → new.desks ≡ old.desks → (place : ℕ) (p : Place P) → slice_get old.desks place ≡ Some p → (e : Effect) → e ≡ no_effect
+stayed : {P : Type 0} (told : P → Told) → ((p : P) → IsStill (told p)) → (old new : State P) → new.desks ≡ old.desks → (place : ℕ) (p : DeskState P) → slice_get old.desks place ≡ Some p → (e : Effect) → e ≡ no_effect
     → Went told new place p (e ∷ [])
 stayed {P} told still old new same place p at e none = record {
   desk = p;
-  there = ap (λ (l : List (Place P)). slice_get l place) same ∙ at;
+  there = ap (λ (l : List (DeskState P)). slice_get l place) same ∙ at;
   calls = subst (λ (x : Effect). Calls (told p.port) (told p.port) (x ∷ [])) (sym none) (no_effect_call (told p.port) (still p.port));
 }
 
 -- a step at this desk or at another
-acted : {P : Type 0} (told : P → Told) → ((p : P) → IsStill (told p)) → (old new : State P) (at : ℕ) (a b : Place P) (effect_of : ℕ → Effect) → ActsOn old new at a b
+acted : {P : Type 0} (told : P → Told) → ((p : P) → IsStill (told p)) → (old new : State P) (at : ℕ) (a b : DeskState P) (effect_of : ℕ → Effect) → ActsOn old new at a b
     → Calls (told a.port) (told b.port) (effect_of at ∷ []) → ((place : ℕ) → at ≢ place → effect_of place ≡ no_effect)
-    → (place : ℕ) (p : Place P) → slice_get old.desks place ≡ Some p → Went told new place p (effect_of place ∷ [])
+    → (place : ℕ) (p : DeskState P) → slice_get old.desks place ≡ Some p → Went told new place p (effect_of place ∷ [])
 acted {P} told still old new at a b effect_of acts calls others place p there = ⊎_elim
     (λ (is : at ≡ place).
     let same : a ≡ p = same_Some a p (sym acts.there ∙ ap (λ (i : ℕ). slice_get old.desks i) is ∙ there) in
-    let one : Went told new at a (effect_of at ∷ []) = record { desk = b; there = ap (λ (l : List (Place P)). slice_get l at) acts.others ∙ written old.desks at a b acts.there; calls = calls } in
-    subst (λ (i : ℕ). Went told new i p (effect_of i ∷ [])) is (subst (λ (x : Place P). Went told new at x (effect_of at ∷ [])) same one))
+    let one : Went told new at a (effect_of at ∷ []) = record { desk = b; there = ap (λ (l : List (DeskState P)). slice_get l at) acts.others ∙ written old.desks at a b acts.there; calls = calls } in
+    subst (λ (i : ℕ). Went told new i p (effect_of i ∷ [])) is (subst (λ (x : DeskState P). Went told new at x (effect_of at ∷ [])) same one))
     (λ (isnt : at ≢ place). record {
       desk = p;
-      there = ap (λ (l : List (Place P)). slice_get l place) acts.others ∙ not_written old.desks at place b isnt ∙ there;
+      there = ap (λ (l : List (DeskState P)). slice_get l place) acts.others ∙ not_written old.desks at place b isnt ∙ there;
       calls = subst (λ (x : Effect). Calls (told p.port) (told p.port) (x ∷ [])) (sym (others place isnt)) (no_effect_call (told p.port) (still p.port));
     })
     (cases_eq at place)
 
 -- a step at a desk alone, with this effect there
-acted_alone : {P : Type 0} (told : P → Told) → ((p : P) → IsStill (told p)) → (old new : State P) (at : ℕ) (a b : Place P) (e : Effect) → ActsOn old new at a b → Calls (told a.port) (told b.port) (e ∷ [])
-    → (place : ℕ) (p : Place P) → slice_get old.desks place ≡ Some p → Went told new place p ((if nat_eq at place then e else no_effect) ∷ [])
+acted_alone : {P : Type 0} (told : P → Told) → ((p : P) → IsStill (told p)) → (old new : State P) (at : ℕ) (a b : DeskState P) (e : Effect) → ActsOn old new at a b → Calls (told a.port) (told b.port) (e ∷ [])
+    → (place : ℕ) (p : DeskState P) → slice_get old.desks place ≡ Some p → Went told new place p ((if nat_eq at place then e else no_effect) ∷ [])
 acted_alone told still old new at a b e acts calls =
     acted told still old new at a b (λ place. if nat_eq at place then e else no_effect) acts
     (subst (λ (x : Effect). Calls (told a.port) (told b.port) (x ∷ [])) (sym (here at at e no_effect refl)) calls)
     (λ place isnt. elsewhere at place e no_effect isnt)
 
 pub step_went : {P : Type 0} (told : P → Told) → ((p : P) → IsStill (told p)) → (old new : State P) (x : Step) (reply : Reply) → IsStep told old new x reply
-    → (place : ℕ) (p : Place P) → slice_get old.desks place ≡ Some p → Went told new place p (effect_at place x reply ∷ [])
+    → (place : ℕ) (p : DeskState P) → slice_get old.desks place ≡ Some p → Went told new place p (effect_at place x reply ∷ [])
 step_went told still old new x reply (emits result was is e same) place p at = stayed told still old new e.desks place p at no_effect refl
 step_went told still old new x reply (hands_over {limit = limit} result was is a b for on number h same) place p at =
     let of = hand_is_of told a b limit was is result h in
@@ -191,7 +191,7 @@ step_went {P} told still old new x reply (tick_unknown {desk = desk} none same) 
 -- ---- a run at one desk
 
 pub run_went : {P : Type 0} (told : P → Told) → ((p : P) → IsStill (told p)) → (old new : State P) (steps : List Step) (rs : List Reply) → Run told old steps rs new
-    → (place : ℕ) (p : Place P) → slice_get old.desks place ≡ Some p → Went told new place p (effects_at place steps rs)
+    → (place : ℕ) (p : DeskState P) → slice_get old.desks place ≡ Some p → Went told new place p (effects_at place steps rs)
 run_went told still old new steps rs ends place p at = record { desk = p; there = at; calls = no_call (told p.port) (still p.port) }
 run_went told still old new steps rs (goes_on {mid = mid} {step = x} {steps = xs} {reply = reply} {replies = more} one rest) place p at =
     let first = step_went told still old mid x reply one place p at in
@@ -199,15 +199,15 @@ run_went told still old new steps rs (goes_on {mid = mid} {step = x} {steps = xs
     record { desk = later.desk; there = later.there; calls = calls_both (told p.port) (told first.desk.port) (told later.desk.port) (effect_at place x reply ∷ []) (effects_at place xs more) first.calls later.calls }
 
 -- to the desk that is there
-calls_to : {P : Type 0} (told : P → Told) (new : State P) (place : ℕ) (p q : Place P) (effects : List Effect) → Went told new place p effects → slice_get new.desks place ≡ Some q → Calls (told p.port) (told q.port) effects
-calls_to {P} told new place p q effects went at = subst (λ (d : Place P). Calls (told p.port) (told d.port) effects) (same_Some went.desk q (sym went.there ∙ at)) went.calls
+calls_to : {P : Type 0} (told : P → Told) (new : State P) (place : ℕ) (p q : DeskState P) (effects : List Effect) → Went told new place p effects → slice_get new.desks place ≡ Some q → Calls (told p.port) (told q.port) effects
+calls_to {P} told new place p q effects went at = subst (λ (d : DeskState P). Calls (told p.port) (told d.port) effects) (same_Some went.desk q (sym went.there ∙ at)) went.calls
 
 pub step_calls : {P : Type 0} (told : P → Told) → ((p : P) → IsStill (told p)) → (old new : State P) (x : Step) (reply : Reply) → IsStep told old new x reply
-    → (place : ℕ) (p q : Place P) → slice_get old.desks place ≡ Some p → slice_get new.desks place ≡ Some q → Calls (told p.port) (told q.port) (effect_at place x reply ∷ [])
+    → (place : ℕ) (p q : DeskState P) → slice_get old.desks place ≡ Some p → slice_get new.desks place ≡ Some q → Calls (told p.port) (told q.port) (effect_at place x reply ∷ [])
 step_calls told still old new x reply is place p q at later = calls_to told new place p q (effect_at place x reply ∷ []) (step_went told still old new x reply is place p at) later
 
 pub run_calls : {P : Type 0} (told : P → Told) → ((p : P) → IsStill (told p)) → (old new : State P) (steps : List Step) (rs : List Reply) → Run told old steps rs new
-    → (place : ℕ) (p q : Place P) → slice_get old.desks place ≡ Some p → slice_get new.desks place ≡ Some q → Calls (told p.port) (told q.port) (effects_at place steps rs)
+    → (place : ℕ) (p q : DeskState P) → slice_get old.desks place ≡ Some p → slice_get new.desks place ≡ Some q → Calls (told p.port) (told q.port) (effects_at place steps rs)
 run_calls told still old new steps rs run place p q at later = calls_to told new place p q (effects_at place steps rs) (run_went told still old new steps rs run place p at) later
 
 pub are_grown : {P : Type 0} (told : P → Told) → ((p : P) → IsStill (told p)) → (first : State P) (steps : List Step) (rs : List Reply) (last : State P) → Run told first steps rs last → AreGrown told first steps rs last
@@ -231,7 +231,7 @@ parted_effects told first now mid last steps steps_before rs before x reply part
 -- three runs of calls: before a step, in it, and after it
 parted : (first now mid last : Told) (v0 : View) (ys : List Item) (c : ℕ) (before after : List Effect) (e : Effect) → Stands now
     → Calls first now before → Calls now mid (e ∷ []) → Calls mid last after → last.device.honest → Fits first v0 ys c
-    → AreSound now mid last v0 (ys ++ items_in before) ((ys ++ items_in before) ++ e.items) ((ys ++ items_in before) ++ items_in (e ∷ after)) (covered_by v0 ys c before)
+    → AreSound (record { now = now; then = mid; last = last; began = v0; before = ys ++ items_in before; after = (ys ++ items_in before) ++ e.items; all = (ys ++ items_in before) ++ items_in (e ∷ after); covered = covered_by v0 ys c before })
 parted first now mid last v0 ys c before after e stands one two three h f =
     let h_mid = three.was_honest h in
     let h_now = two.was_honest h_mid in
@@ -266,4 +266,5 @@ each_moment {P} told stands first steps rs last now mid steps_before before x re
     let whole : (ys ++ items_in effects) ++ items_in (e ∷ after) ≡ ys ++ items_in (effects_at place steps rs) =
     append_assoc ys (items_in effects) (items_in (e ∷ after))
     ∙ ap (λ (l : List Item). ys ++ l) (sym (items_in-append effects (e ∷ after)) ∙ ap items_in (sym (parted_effects told first now mid last steps steps_before rs before x reply parts place))) in
-    subst (λ (l : List Item). AreSound (told b.port) (told c.port) (told d.port) v0 (ys ++ items_in effects) ((ys ++ items_in effects) ++ e.items) l (covered_by v0 ys n effects)) whole sound
+    let around : List Item → AroundStep = λ l. record { now = told b.port; then = told c.port; last = told d.port; began = v0; before = ys ++ items_in effects; after = (ys ++ items_in effects) ++ e.items; all = l; covered = covered_by v0 ys n effects } in
+    subst (λ (l : List Item). AreSound (around l)) whole sound

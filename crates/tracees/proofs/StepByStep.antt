@@ -4,7 +4,7 @@ use Rattle.std.proofs.lemmas.List.{append-nil, drop_more, drop_all}
 use Rattle.std.proofs.lemmas.Bool.{cases_eq}
 use Rattle.std.proofs.lemmas.Option.{same_Some}
 use Rattle.trace_port.specs.Port.{Told}
-use Rattle.tracees.specs.Desks.{Place, Seat}
+use Rattle.tracees.specs.Desks.{DeskState, Seat}
 use Rattle.tracees.specs.Hands.{HandsOver, FlushesFor, moves, is_refused, no_memory, is_stranger, covers, flush_fails}
 use Rattle.tracees.specs.Steps.{State, ActsOn, AreNumbered, IsStep, emits, hands_over, flushes_for, flushes, seals, ticks, emit_unknown, hand_unknown, flush_for_unknown, flush_unknown, seal_unknown, tick_unknown, Run, ends, goes_on}
 use Rattle.tracees.specs.declared.receipt.Receipt.{Receipt}
@@ -37,34 +37,34 @@ runs_all told first now steps i replies past so_far =
 
 -- ---- the desks keep their numbers
 
-numbered_on : {P : Type 0} (old new : State P) (place : ℕ) (p q : Place P) → ActsOn old new place p q → q.number ≡ p.number → AreNumbered old → AreNumbered new
+numbered_on : {P : Type 0} (old new : State P) (place : ℕ) (p q : DeskState P) → ActsOn old new place p q → q.number ≡ p.number → AreNumbered old → AreNumbered new
 numbered_on {P} old new place p q acts same numbered i r at =
-    let now : slice_get (set old.desks place q) i ≡ Some r = ap (λ (l : List (Place P)). slice_get l i) (sym acts.others) ∙ at in
+    let now : slice_get (set old.desks place q) i ≡ Some r = ap (λ (l : List (DeskState P)). slice_get l i) (sym acts.others) ∙ at in
     ⊎_elim
     (λ (here : place ≡ i).
     let there : slice_get (set old.desks place q) i ≡ Some q = ap (λ (k : ℕ). slice_get (set old.desks place q) k) (sym here) ∙ written old.desks place p q acts.there in
-    ap (λ (d : Place P). d.number) (same_Some r q (sym now ∙ there)) ∙ same ∙ numbered place p acts.there ∙ here)
+    ap (λ (d : DeskState P). d.number) (same_Some r q (sym now ∙ there)) ∙ same ∙ numbered place p acts.there ∙ here)
     (λ (isnt : place ≢ i). numbered i r (sym (not_written old.desks place i q isnt) ∙ now))
     (cases_eq place i)
 
 numbered_beside : {P : Type 0} (old new : State P) → new.desks ≡ old.desks → AreNumbered old → AreNumbered new
-numbered_beside {P} old new same numbered i p at = numbered i p (ap (λ (l : List (Place P)). slice_get l i) (sym same) ∙ at)
+numbered_beside {P} old new same numbered i p at = numbered i p (ap (λ (l : List (DeskState P)). slice_get l i) (sym same) ∙ at)
 
 numbered_still : {P : Type 0} (old new : State P) → new ≡ old → AreNumbered old → AreNumbered new
 numbered_still {P} old new same numbered = numbered_beside old new (ap (λ (s : State P). s.desks) same) numbered
 
-hand_number : {P : Type 0} (told : P → Told) (p q : Place P) (limit : ℕ) (was is : Seat) (result : Result Receipt HandFault) → HandsOver told p q limit was is result → q.number ≡ p.number
+hand_number : {P : Type 0} (told : P → Told) (p q : DeskState P) (limit : ℕ) (was is : Seat) (result : Result Receipt HandFault) → HandsOver told p q limit was is result → q.number ≡ p.number
 hand_number told p q limit was is result (moves same m names) = m.number
 hand_number told p q limit was is result (is_refused same m names) = m.number
-hand_number {P} told p q limit was is result (no_memory same none) = ap (λ (d : Place P). d.number) none.place
-hand_number {P} told p q limit was is result (is_stranger other none) = ap (λ (d : Place P). d.number) none.place
+hand_number {P} told p q limit was is result (no_memory same none) = ap (λ (d : DeskState P). d.number) none.place
+hand_number {P} told p q limit was is result (is_stranger other none) = ap (λ (d : DeskState P). d.number) none.place
 
-flush_for_number : {P : Type 0} (told : P → Told) (p q : Place P) (was is : Seat) (result : Result Receipt HandFault) → FlushesFor told p q was is result → q.number ≡ p.number
+flush_for_number : {P : Type 0} (told : P → Told) (p q : DeskState P) (was is : Seat) (result : Result Receipt HandFault) → FlushesFor told p q was is result → q.number ≡ p.number
 flush_for_number told p q was is result (covers between mid same f book account) = book.number ∙ f.all.number
 flush_for_number told p q was is result (flush_fails between same f book) = book.number ∙ f.all.number
 flush_for_number told p q was is result (is_refused same m names) = m.number
-flush_for_number {P} told p q was is result (no_memory same none) = ap (λ (d : Place P). d.number) none.place
-flush_for_number {P} told p q was is result (is_stranger other none) = ap (λ (d : Place P). d.number) none.place
+flush_for_number {P} told p q was is result (no_memory same none) = ap (λ (d : DeskState P). d.number) none.place
+flush_for_number {P} told p q was is result (is_stranger other none) = ap (λ (d : DeskState P). d.number) none.place
 
 pub step_numbered : {P : Type 0} (told : P → Told) (old new : State P) (x : Step) (reply : Reply) → IsStep told old new x reply → AreNumbered old → AreNumbered new
 step_numbered told old new x reply (emits result was is e same) numbered = numbered_beside old new e.desks numbered

@@ -7,7 +7,7 @@ use Rattle.entry_codec.specs.Seen.{views}
 use Rattle.trace_message.specs.declared.event.Event.{Event}
 use Rattle.trace_message.specs.declared.event.Stamp.{Stamp}
 use Rattle.trace_port.specs.Port.{Told}
-use Rattle.trace_port.specs.declared.kinds.PortFault.{PortFault}
+use Rattle.trace_port.specs.declared.fault.PortFault.{PortFault}
 use Rattle.trace_terms.specs.Data.{Data}
 use Rattle.intake.specs.Emitting.{message_for}
 use Rattle.intake.specs.Histories.{History, Begun, Took, carried_of}
@@ -21,11 +21,11 @@ use Rattle.intake.specs.declared.tracee.Tracee.{Tracee}
 use Rattle.intake.proofs.HistoryLemmas.{carried_and_waiting}
 use Rattle.intake.proofs.ListLemmas.{messages_in-append, drops_in-append}
 use Rattle.tracees.specs.Books.{totals, added}
-use Rattle.tracees.specs.Desks.{Place, Seat}
+use Rattle.tracees.specs.Desks.{DeskState, Seat}
 use Rattle.tracees.specs.Effects.{offered_too}
 use Rattle.tracees.specs.Emits.{Emits}
 use Rattle.tracees.specs.Hands as hand
-use Rattle.tracees.specs.Hands.{Takes, Moves, Names, HandsOver, FlushesFor, moved_by}
+use Rattle.tracees.specs.Hands.{TakesInOrder, Moves, Names, HandsOver, FlushesFor, moved_by}
 use Rattle.tracees.specs.Jobs.{HandsThere, FlushesThere, EmitsThere, Does, emits, hands, flushes, Fails, emit_fails, hand_fails, flush_fails, Acts, begin, go_on, left_after, then_act, then_acts, history_of, entries_of, AreReceipts, flushed_after, HasGrown, Did, entries_in, FailedAt, AreLetThrough}
 use Rattle.tracees.specs.declared.book.Totals.{Totals}
 use Rattle.tracees.specs.declared.job.Act.{Act}
@@ -160,7 +160,7 @@ emit_adds was mid is h event stamp offer setup e = record {
 -- ---- a hand-over and a flush
 
 -- where none was refused all that was offered has moved
-all_moved : {P : Type 0} (told : P → Told) (p q : P) (offered moved : List Entry) (fault : Option PortFault) → Takes told p offered moved fault q → fault ≡ None → moved ≡ offered
+all_moved : {P : Type 0} (told : P → Told) (p q : P) (offered moved : List Entry) (fault : Option PortFault) → TakesInOrder told p offered moved fault q → fault ≡ None → moved ≡ offered
 all_moved told p q offered moved fault hand.none_left none = refl
 all_moved told p q offered moved fault (hand.takes_one {q = mid} {e = e} {es = es} {moved = more} {fault = fault'} accepts rest) none = ap (λ (l : List Entry). e ∷ l) (all_moved told mid q es more fault' rest none)
 all_moved told p q offered moved fault (hand.fails_at accepts) none = absurd (cc)
@@ -180,11 +180,11 @@ drops_alone : (moved : List Entry) → drops_in (moved ++ []) ≡ drops_in moved
 drops_alone moved = ap (λ (l : List Entry). drops_in l) (append-nil moved)
 
 -- a hand-over that answered Ok
-record HandedAll {P : Type 0} (told : P → Told) (p q : Place P) (limit : ℕ) (was is : Seat) (receipt : Receipt) : Type 0 where
+record HandedAll {P : Type 0} (told : P → Told) (p q : DeskState P) (limit : ℕ) (was is : Seat) (receipt : Receipt) : Type 0 where
   moved : Moves told p q was is (take limit (waiting_of was.tracee)) (views receipt.entries.items) None
   names : Names (told p.port) (told q.port) was receipt
 
-handed_all : {P : Type 0} (told : P → Told) (p q : Place P) (limit : ℕ) (was is : Seat) (receipt : Receipt) → HandsOver told p q limit was is (Ok receipt) → HandedAll told p q limit was is receipt
+handed_all : {P : Type 0} (told : P → Told) (p q : DeskState P) (limit : ℕ) (was is : Seat) (receipt : Receipt) → HandsOver told p q limit was is (Ok receipt) → HandedAll told p q limit was is receipt
 handed_all told p q limit was is receipt (hand.moves same m names) = record { moved = m; names = names }
 
 hand_adds : {P : Type 0} (told : P → Told) (was mid is : Seat) (h : History) (taken : List Entry) (limit : ℕ) (receipt : Receipt) → SameSetup was.tracee mid.tracee → mid.desk ≡ was.desk → waiting_of mid.tracee ≡ left_after was.tracee h
@@ -217,7 +217,7 @@ record FlushedAll {P : Type 0} (told : P → Told) (was is : Seat) (receipt : Re
   drops : is.sums.drops ≡ was.sums.drops + drops_in (views receipt.entries.items)
   flushed : is.sums.flushed ≡ was.sums.messages + messages_in (views receipt.entries.items)
 
-flushed_all : {P : Type 0} (told : P → Told) (p q : Place P) (was is : Seat) (receipt : Receipt) → FlushesFor told p q was is (Ok receipt) → FlushedAll told was is receipt
+flushed_all : {P : Type 0} (told : P → Told) (p q : DeskState P) (was is : Seat) (receipt : Receipt) → FlushesFor told p q was is (Ok receipt) → FlushedAll told was is receipt
 flushed_all told p q was is receipt (hand.covers {n = n} between mid same f book account) =
     let moved = views receipt.entries.items in
     let counts = takes_counts told p.port between.port (waiting_of was.tracee) moved None f.all.takes in
@@ -290,12 +290,12 @@ none_added sums =
 unchanged : (was is : Seat) → is ≡ was → is.sums ≡ added was.sums []
 unchanged was is same = ap (λ (s : Seat). s.sums) same ∙ sym (none_added was.sums)
 
-hand_left : {P : Type 0} (told : P → Told) (p q : Place P) (limit : ℕ) (was is : Seat) (fault : HandFault) → HandsOver told p q limit was is (Err fault) → (is.desk ≡ was.desk) × (is.sums ≡ added was.sums (moved_by (Err fault)))
+hand_left : {P : Type 0} (told : P → Told) (p q : DeskState P) (limit : ℕ) (was is : Seat) (fault : HandFault) → HandsOver told p q limit was is (Err fault) → (is.desk ≡ was.desk) × (is.sums ≡ added was.sums (moved_by (Err fault)))
 hand_left told p q limit was is fault (hand.is_refused same m names) = (m.desk, m.account)
 hand_left told p q limit was is fault (hand.no_memory same none) = (ap (λ (s : Seat). s.desk) none.seat, unchanged was is none.seat)
 hand_left told p q limit was is fault (hand.is_stranger other none) = (ap (λ (s : Seat). s.desk) none.seat, unchanged was is none.seat)
 
-flush_left : {P : Type 0} (told : P → Told) (p q : Place P) (was is : Seat) (fault : HandFault) → FlushesFor told p q was is (Err fault) → (is.desk ≡ was.desk) × (is.sums ≡ added was.sums (moved_by (Err fault)))
+flush_left : {P : Type 0} (told : P → Told) (p q : DeskState P) (was is : Seat) (fault : HandFault) → FlushesFor told p q was is (Err fault) → (is.desk ≡ was.desk) × (is.sums ≡ added was.sums (moved_by (Err fault)))
 flush_left told p q was is fault (hand.flush_fails between same f book) = (f.all.desk, f.all.account)
 flush_left told p q was is fault (hand.is_refused same m names) = (m.desk, m.account)
 flush_left told p q was is fault (hand.no_memory same none) = (ap (λ (s : Seat). s.desk) none.seat, unchanged was is none.seat)

@@ -4,7 +4,7 @@ use Rattle.intake.specs.declared.tracee.Tracee.{Tracee}
 use Rattle.tracees.specs.declared.book.Totals.{Totals}
 
 -- a desk: its number, its port, what its book counts, and how many tracees were attached
-pub record Place (P : Type 0) : Type 0 where
+pub record DeskState (P : Type 0) : Type 0 where
   pub number : ℕ
   pub port : P
   pub counted : Totals
@@ -17,13 +17,13 @@ pub record Seat : Type 0 where
   pub sums : Totals
 
 -- the desk's book stays
-pub record SameBook {P : Type 0} (old new : Place P) : Type 0 where
+pub record SameBook {P : Type 0} (old new : DeskState P) : Type 0 where
   pub number : new.number ≡ old.number
   pub counted : new.counted ≡ old.counted
   pub attached : new.attached ≡ old.attached
 
 -- the messages of an account are flushed: what the book counts as flushed is at most its messages
-pub record BookCovers {P : Type 0} (old new : Place P) : Type 0 where
+pub record BookCovers {P : Type 0} (old new : DeskState P) : Type 0 where
   pub number : new.number ≡ old.number
   pub messages : new.counted.messages ≡ old.counted.messages
   pub drops : new.counted.drops ≡ old.counted.drops

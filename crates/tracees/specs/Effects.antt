@@ -1,5 +1,5 @@
 -- What the replies of a run tell of one desk, and of one tracee.
-use Rattle.std.specs.Prelude.{◌≡◌, ◌≢◌, ℕ, Bool, true, false, nat_eq, if◌then◌else◌, List, [], ◌∷◌, ◌++◌, length, map, Option, Some, None}
+use Rattle.std.specs.Prelude.{◌≡◌, ◌≢◌, ℕ, Bool, true, false, nat_eq, if◌then◌else◌, List, [], ◌∷◌, ◌++◌, length, map, Option, Some, None, Ok, Err}
 use Rattle.ext_format.specs.Canonical.{canonical}
 use Rattle.entry_codec.specs.Entries.{Entry}
 use Rattle.entry_codec.specs.Seen.{views}
@@ -7,14 +7,14 @@ use Rattle.recovery.specs.Items.{Item, Kept, Cut}
 use Rattle.recovery.specs.Views.{View}
 use Rattle.trace_terms.specs.Data.{Data}
 use Rattle.trace_port.specs.Port.{Told, Fits, Goes, covered_to}
-use Rattle.trace_port.specs.declared.kinds.PortState.TheVariants.{Live}
-use Rattle.trace_port.specs.declared.kinds.PortFault.TheVariants as faults
+use Rattle.trace_port.specs.declared.status.PortState.TheVariants.{Live}
+use Rattle.trace_port.specs.declared.fault.PortFault.TheVariants as faults
 use Rattle.intake.specs.Emitting.{message_for}
 use Rattle.intake.specs.Histories.{History, Offered, Took}
 use Rattle.intake.specs.declared.offer.Offer.TheVariants as offers
 use Rattle.intake.specs.declared.tracee.Tracee.{Tracee}
+use Rattle.tracees.specs.Hands.{receipt_of, receipted}
 use Rattle.tracees.specs.declared.receipt.Receipt.{Receipt}
-use Rattle.tracees.specs.declared.receipt.HandFault.TheVariants as hands
 use Rattle.tracees.specs.declared.step.Step.{Step}
 use Rattle.tracees.specs.declared.step.Step.TheVariants as steps
 use Rattle.tracees.specs.declared.step.Reply.{Reply}
@@ -53,8 +53,8 @@ pub record Calls (old new : Told) (effects : List Effect) : Type 0 where
 
 -- the receipt of a reply, also that inside a refusal
 abbrev pub receipt_in : Reply → Option Receipt
-receipt_in (replies.Receipt receipt) = Some receipt
-receipt_in (replies.HandRefused (hands.Port fault receipt)) = Some receipt
+receipt_in (replies.Receipt receipt) = receipt_of (Ok receipt)
+receipt_in (replies.HandRefused fault) = receipt_of (Err fault)
 receipt_in _ = None
 
 -- what a receipt says of the desk of this number
@@ -93,11 +93,6 @@ abbrev pub effects_at : ℕ → List Step → List Reply → List Effect
 effects_at place (step ∷ steps) (reply ∷ replies) = effect_at place step reply ∷ effects_at place steps replies
 effects_at place _ _ = []
 
--- the entries that a reply says were taken from the tracee of its step
-abbrev pub taken_by : Option Receipt → List Entry
-taken_by None = []
-taken_by (Some receipt) = views receipt.entries.items
-
 -- a message was kept or dropped
 abbrev pub is_offered : Reply → Bool
 is_offered (replies.Offer offers.Kept) = true
@@ -113,8 +108,8 @@ offered_too h (Some message) = Offered h (canonical message)
 abbrev pub history_by : ℕ → Tracee → History → Step → Reply → History
 history_by place tracee h (steps.Emit at event stamp) reply =
     if nat_eq at place then (if is_offered reply then offered_too h (message_for tracee event stamp) else h) else h
-history_by place tracee h (steps.HandOver at limit) reply = if nat_eq at place then Took h (length (taken_by (receipt_in reply))) else h
-history_by place tracee h (steps.FlushFor at) reply = if nat_eq at place then Took h (length (taken_by (receipt_in reply))) else h
+history_by place tracee h (steps.HandOver at limit) reply = if nat_eq at place then Took h (length (receipted (receipt_in reply))) else h
+history_by place tracee h (steps.FlushFor at) reply = if nat_eq at place then Took h (length (receipted (receipt_in reply))) else h
 history_by place tracee h _ reply = h
 
 -- its history after all steps
@@ -124,8 +119,8 @@ history_after place tracee h _ _ = h
 
 -- the entries that were taken from it
 abbrev pub carried_by : ℕ → Step → Reply → List Entry
-carried_by place (steps.HandOver at limit) reply = if nat_eq at place then taken_by (receipt_in reply) else []
-carried_by place (steps.FlushFor at) reply = if nat_eq at place then taken_by (receipt_in reply) else []
+carried_by place (steps.HandOver at limit) reply = if nat_eq at place then receipted (receipt_in reply) else []
+carried_by place (steps.FlushFor at) reply = if nat_eq at place then receipted (receipt_in reply) else []
 carried_by place _ reply = []
 
 -- in the order of the steps

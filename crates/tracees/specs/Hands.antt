@@ -6,12 +6,12 @@ use Rattle.recovery.specs.Items.{Item, Kept}
 use Rattle.trace_port.specs.Port.{Told}
 use Rattle.trace_port.specs.Calls.{IsRefused}
 use Rattle.trace_port.specs.Accepts.{Accepts}
-use Rattle.trace_port.specs.declared.kinds.PortFault.{PortFault}
-use Rattle.trace_port.specs.declared.kinds.PortFault.TheVariants as faults
+use Rattle.trace_port.specs.declared.fault.PortFault.{PortFault}
+use Rattle.trace_port.specs.declared.fault.PortFault.TheVariants as faults
 use Rattle.intake.specs.WaitingLists.{messages_in}
 use Rattle.intake.specs.Tracees.{waiting_of, CountsGrow, SameSetup}
 use Rattle.tracees.specs.Books.{added, all_flushed, IsWithin}
-use Rattle.tracees.specs.Desks.{Place, Seat, SameBook, BookCovers}
+use Rattle.tracees.specs.Desks.{DeskState, Seat, SameBook, BookCovers}
 use Rattle.tracees.specs.PortCalls.{Flushes}
 use Rattle.tracees.specs.declared.book.Totals.{Totals}
 use Rattle.tracees.specs.declared.receipt.Receipt.{Receipt}
@@ -19,19 +19,19 @@ use Rattle.tracees.specs.declared.receipt.HandFault.{HandFault}
 use Rattle.tracees.specs.declared.receipt.HandFault.TheVariants as hands
 
 -- of these entries, offered in order, the port takes those moved, and refuses the one after them for this fault
-pub data Takes {P : Type 0} (told : P → Told) : P → (offered moved : List Entry) → Option PortFault → P → Type 0 where
-  none_left : {p : P} → Takes told p [] [] None p
+pub data TakesInOrder {P : Type 0} (told : P → Told) : P → (offered moved : List Entry) → Option PortFault → P → Type 0 where
+  none_left : {p : P} → TakesInOrder told p [] [] None p
   takes_one : {p q r : P} {e : Entry} {n : ℕ} {es moved : List Entry} {fault : Option PortFault}
-      → Accepts (told p) (told q) e (Ok n) → Takes told q es moved fault r → Takes told p (e ∷ es) (e ∷ moved) fault r
+      → Accepts (told p) (told q) e (Ok n) → TakesInOrder told q es moved fault r → TakesInOrder told p (e ∷ es) (e ∷ moved) fault r
   -- an entry that the device failed to keep has moved
-  fails_at : {p q : P} {e : Entry} {es : List Entry} → Accepts (told p) (told q) e (Err faults.Device) → Takes told p (e ∷ es) (e ∷ []) (Some faults.Device) q
+  fails_at : {p q : P} {e : Entry} {es : List Entry} → Accepts (told p) (told q) e (Err faults.Device) → TakesInOrder told p (e ∷ es) (e ∷ []) (Some faults.Device) q
   -- every other that is refused stays
   stops_at : {p q : P} {e : Entry} {es : List Entry} {fault : PortFault}
-      → Accepts (told p) (told q) e (Err fault) → IsRefused {T = ℕ} (Err fault) → Takes told p (e ∷ es) [] (Some fault) q
+      → Accepts (told p) (told q) e (Err fault) → IsRefused {T = ℕ} (Err fault) → TakesInOrder told p (e ∷ es) [] (Some fault) q
 
 -- of what was offered, these entries went from the front of what waits into the port, and the book and the account count them and nothing else
-pub record Moves {P : Type 0} (told : P → Told) (old new : Place P) (was is : Seat) (offered moved : List Entry) (fault : Option PortFault) : Type 0 where
-  pub takes : Takes told old.port offered moved fault new.port
+pub record Moves {P : Type 0} (told : P → Told) (old new : DeskState P) (was is : Seat) (offered moved : List Entry) (fault : Option PortFault) : Type 0 where
+  pub takes : TakesInOrder told old.port offered moved fault new.port
   pub rest : waiting_of was.tracee ≡ moved ++ waiting_of is.tracee
   pub counts : CountsGrow 0 (messages_in moved) (drops_in moved) was.tracee is.tracee
   pub setup : SameSetup was.tracee is.tracee
@@ -49,12 +49,12 @@ pub record Names (old new : Told) (was : Seat) (receipt : Receipt) : Type 0 wher
   pub covered : receipt.covered ≡ new.covered
 
 -- and nothing has changed
-pub record NoChange {P : Type 0} (old new : Place P) (was is : Seat) : Type 0 where
+pub record NoChange {P : Type 0} (old new : DeskState P) (was is : Seat) : Type 0 where
   pub place : new ≡ old
   pub seat : is ≡ was
 
 -- a hand-over of at most so many entries
-pub data HandsOver {P : Type 0} (told : P → Told) (old new : Place P) (limit : ℕ) (was is : Seat) : Result Receipt HandFault → Type 0 where
+pub data HandsOver {P : Type 0} (told : P → Told) (old new : DeskState P) (limit : ℕ) (was is : Seat) : Result Receipt HandFault → Type 0 where
   moves : {receipt : Receipt} → was.desk ≡ old.number → Moves told old new was is (take limit (waiting_of was.tracee)) (views receipt.entries.items) None
       → Names (told old.port) (told new.port) was receipt → HandsOver told old new limit was is (Ok receipt)
   is_refused : {fault : PortFault} {receipt : Receipt} → was.desk ≡ old.number → Moves told old new was is (take limit (waiting_of was.tracee)) (views receipt.entries.items) (Some fault)
@@ -69,28 +69,37 @@ pub record AccountCovers (was is : Seat) : Type 0 where
   pub tracee : is.tracee ≡ was.tracee
 
 -- the port was flushed after a hand-over of all that waited
-pub record FlushedAfter {P : Type 0} (told : P → Told) (old new : Place P) (was : Seat) (receipt : Receipt) (between : Place P) (mid : Seat) (answer : Result ℕ PortFault) : Type 0 where
+pub record FlushedAfter {P : Type 0} (told : P → Told) (old new : DeskState P) (was : Seat) (receipt : Receipt) (between : DeskState P) (mid : Seat) (answer : Result ℕ PortFault) : Type 0 where
   pub all : Moves told old between was mid (waiting_of was.tracee) (views receipt.entries.items) None
   pub flush : Flushes (told between.port) (told new.port) answer
   pub names : Names (told old.port) (told new.port) was receipt
 
 -- a flush for a tracee: all that waits is handed over, and then, where nothing was refused, the port is flushed
-pub data FlushesFor {P : Type 0} (told : P → Told) (old new : Place P) (was is : Seat) : Result Receipt HandFault → Type 0 where
-  covers : {receipt : Receipt} {n : ℕ} (between : Place P) (mid : Seat) → was.desk ≡ old.number → FlushedAfter told old new was receipt between mid (Ok n)
+pub data FlushesFor {P : Type 0} (told : P → Told) (old new : DeskState P) (was is : Seat) : Result Receipt HandFault → Type 0 where
+  covers : {receipt : Receipt} {n : ℕ} (between : DeskState P) (mid : Seat) → was.desk ≡ old.number → FlushedAfter told old new was receipt between mid (Ok n)
       → BookCovers between new → AccountCovers mid is → FlushesFor told old new was is (Ok receipt)
-  flush_fails : {fault : PortFault} {receipt : Receipt} (between : Place P) → was.desk ≡ old.number → FlushedAfter told old new was receipt between is (Err fault)
+  flush_fails : {fault : PortFault} {receipt : Receipt} (between : DeskState P) → was.desk ≡ old.number → FlushedAfter told old new was receipt between is (Err fault)
       → SameBook between new → FlushesFor told old new was is (Err (hands.Port fault receipt))
   is_refused : {fault : PortFault} {receipt : Receipt} → was.desk ≡ old.number → Moves told old new was is (waiting_of was.tracee) (views receipt.entries.items) (Some fault)
       → Names (told old.port) (told new.port) was receipt → FlushesFor told old new was is (Err (hands.Port fault receipt))
   no_memory : was.desk ≡ old.number → NoChange old new was is → FlushesFor told old new was is (Err hands.NoMemory)
   is_stranger : was.desk ≢ old.number → NoChange old new was is → FlushesFor told old new was is (Err hands.Stranger)
 
--- the entries that a hand-over's answer says were moved, also inside a refusal
+-- the receipt of a hand-over's answer, also that inside a refusal
+abbrev pub receipt_of : Result Receipt HandFault → Option Receipt
+receipt_of (Ok receipt) = Some receipt
+receipt_of (Err (hands.Port fault receipt)) = Some receipt
+receipt_of (Err hands.NoMemory) = None
+receipt_of (Err hands.Stranger) = None
+
+-- the entries that a receipt tells, where there is one
+abbrev pub receipted : Option Receipt → List Entry
+receipted None = []
+receipted (Some receipt) = views receipt.entries.items
+
+-- the entries that a hand-over's answer says were moved
 abbrev pub moved_by : Result Receipt HandFault → List Entry
-moved_by (Ok receipt) = views receipt.entries.items
-moved_by (Err (hands.Port fault receipt)) = views receipt.entries.items
-moved_by (Err hands.NoMemory) = []
-moved_by (Err hands.Stranger) = []
+moved_by result = receipted (receipt_of result)
 
 -- the port's items that they are
 abbrev pub items_moved : Result Receipt HandFault → List Item
@@ -106,13 +115,6 @@ fault_number hands.Stranger = 3
 abbrev pub has_gone : Result Receipt HandFault → Bool
 has_gone (Ok receipt) = true
 has_gone (Err fault) = false
-
--- the receipt of a hand-over's answer, also that inside a refusal
-abbrev pub receipt_of : Result Receipt HandFault → Option Receipt
-receipt_of (Ok receipt) = Some receipt
-receipt_of (Err (hands.Port fault receipt)) = Some receipt
-receipt_of (Err hands.NoMemory) = None
-receipt_of (Err hands.Stranger) = None
 
 -- before the hand-over of this receipt the book counted no less than the account, and the port had at least the account's messages
 pub record IsBacked (account book : Totals) (receipt : Receipt) : Type 0 where

@@ -13,7 +13,7 @@ use Rattle.intake.specs.declared.fault.EmitFault.{EmitFault}
 use Rattle.intake.specs.declared.offer.Offer.{Offer}
 use Rattle.intake.specs.declared.tracee.Tracee.{Tracee}
 use Rattle.tracees.specs.Books.{added}
-use Rattle.tracees.specs.Desks.{Place, Seat}
+use Rattle.tracees.specs.Desks.{DeskState, Seat}
 use Rattle.tracees.specs.Effects.{offered_too}
 use Rattle.tracees.specs.Emits.{Emits}
 use Rattle.tracees.specs.Hands.{HandsOver, FlushesFor, IsBacked, moved_by, receipt_of}
@@ -34,16 +34,16 @@ use Rattle.tracees.specs.declared.receipt.HandFault.{HandFault}
 
 -- a hand-over of at most so many entries at a desk in some state, of the tracee's own number, whose book counts no less than the tracee's account
 pub record HandsThere {P : Type 0} (told : P → Told) (limit : ℕ) (was is : Seat) (result : Result Receipt HandFault) : Type 0 where
-  pub before : Place P
-  pub after : Place P
+  pub before : DeskState P
+  pub after : DeskState P
   pub number : before.number ≡ was.desk
   pub hands : HandsOver told before after limit was is result
   pub backed : IfSome (receipt_of result) (IsBacked was.sums before.counted)
 
 -- the same of a flush for a tracee
 pub record FlushesThere {P : Type 0} (told : P → Told) (was is : Seat) (result : Result Receipt HandFault) : Type 0 where
-  pub before : Place P
-  pub after : Place P
+  pub before : DeskState P
+  pub after : DeskState P
   pub number : before.number ≡ was.desk
   pub flushes : FlushesFor told before after was is result
   pub backed : IfSome (receipt_of result) (IsBacked was.sums before.counted)

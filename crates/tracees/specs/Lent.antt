@@ -1,11 +1,11 @@
 -- What a lender knows of a port that went through a desk.
 use Rattle.std.specs.Prelude.{◌≡◌, ℕ, [], Result}
 use Rattle.segment.specs.Specification.{File}
-use Rattle.trace_port.specs.Device.{Device, IsIdle}
+use Rattle.trace_store.specs.Device.{Device, IsIdle}
 use Rattle.trace_port.specs.Port.{Told, Ends}
 use Rattle.intake.specs.declared.tracee.Tracee.{Tracee}
 use Rattle.tracees.specs.Books.{no_totals}
-use Rattle.tracees.specs.Desks.{Place, Seat}
+use Rattle.tracees.specs.Desks.{DeskState, Seat}
 use Rattle.tracees.specs.Hands.{HandsOver}
 use Rattle.tracees.specs.PortCalls.{Finishes}
 use Rattle.tracees.specs.declared.receipt.Receipt.{Receipt}
@@ -17,8 +17,8 @@ first_seat number tracee = record { desk = number; tracee = tracee; sums = no_to
 
 -- a desk of this number over the port handed over at most so many entries of a tracee, and its end was the port's end
 pub record HandsOne {P : Type 0} (told : P → Told) (number : ℕ) (old new : P) (limit : ℕ) (was is : Tracee) (result : Result Receipt HandFault) : Type 0 where
-  pub first : Place P
-  pub between : Place P
+  pub first : DeskState P
+  pub between : DeskState P
   pub seat : Seat
   pub number_is : first.number ≡ number
   pub port : first.port ≡ old
@@ -36,7 +36,7 @@ pub record IsAsOpened (opening port : Told) : Type 0 where
   pub total : port.total ≡ opening.total
   pub drops : port.drops ≡ opening.drops
   pub gate : port.gate ≡ opening.gate
-  pub opened : port.opened ≡ opening.opened
+  pub period_start : port.period_start ≡ opening.period_start
   pub pending : port.pending ≡ []
 
 -- a port was made of an opening, the desk 0 over it handed over at most so many entries of a tracee, and then the port was dropped

@@ -4,13 +4,13 @@ use Rattle.entry_codec.specs.Entries.{Entry, joined}
 use Rattle.trace_store.specs.Disk.{Image}
 use Rattle.recovery.specs.Items.{Item}
 use Rattle.recovery.specs.Views.{View}
-use Rattle.trace_port.specs.Device.{Leaves}
+use Rattle.trace_store.specs.Device.{Leaves}
 use Rattle.trace_port.specs.Sound.{Sound, ReadsAs}
 use Rattle.trace_port.specs.Port.{Told, Fits}
 use Rattle.intake.specs.Histories.{History}
 use Rattle.intake.specs.Passed.{HasPassed}
 use Rattle.tracees.specs.Agreement.{IsAgreed}
-use Rattle.tracees.specs.Desks.{Place, Seat}
+use Rattle.tracees.specs.Desks.{DeskState, Seat}
 use Rattle.tracees.specs.Steps.{State, IsStep, Run}
 use Rattle.tracees.specs.Effects.{items_in, covered_by, Calls, receipt_in, effect_at, effects_at, history_after, carried}
 use Rattle.tracees.specs.declared.receipt.Receipt.{Receipt}
@@ -20,7 +20,7 @@ use Rattle.tracees.specs.declared.step.Reply.{Reply}
 -- each desk's port made calls with the effects that the replies tell
 abbrev pub AreGrown : {P : Type 0} → (P → Told) → State P → List Step → List Reply → State P → Type 0
 AreGrown {P} told first steps replies last =
-    (place : ℕ) (a d : Place P) → slice_get first.desks place ≡ Some a → slice_get last.desks place ≡ Some d → Calls (told a.port) (told d.port) (effects_at place steps replies)
+    (place : ℕ) (a d : DeskState P) → slice_get first.desks place ≡ Some a → slice_get last.desks place ≡ Some d → Calls (told a.port) (told d.port) (effects_at place steps replies)
 
 -- what was taken from each tracee, and what waits, are what its history tells, grown by its steps
 abbrev pub AreCarried : {P : Type 0} → State P → List Step → List Reply → State P → Type 0
@@ -28,17 +28,30 @@ AreCarried first steps replies last = (place : ℕ) (was is : Seat) → slice_ge
     → (before : List Entry) (h : History) (taken : List Entry) → HasPassed before h taken was.tracee
     → HasPassed before (history_after place was.tracee h steps replies) (taken ++ carried place steps replies) is.tracee
 
--- a desk's port before a step, after it and at the end of a run; it had accepted ys before it, ys' after it and zs at the end, and c was covered before it
-pub record AreSound (now then last : Told) (v0 : View) (ys ys' zs : List Item) (c : ℕ) : Type 0 where
-  pub fits : Fits now v0 ys c
-  pub later : now.device.clock ≤ then.device.clock
-  pub end : then.device.clock ≤ last.device.clock
+-- a desk's port before a step of a run, after it and at the end of the run; the view that the port began with; what it had accepted
+-- before the step, after it and at the end; and how much was covered before the step
+pub record AroundStep : Type 1 where
+  pub now : Told
+  pub then : Told
+  pub last : Told
+  pub began : View
+  pub before : List Item
+  pub after : List Item
+  pub all : List Item
+  pub covered : ℕ
+
+-- the moments since the step are sound
+pub record AreSound (step : AroundStep) : Type 0 where
+  pub fits : Fits step.now step.began step.before step.covered
+  pub later : step.now.device.clock ≤ step.then.device.clock
+  pub end : step.then.device.clock ≤ step.last.device.clock
   -- the images of now are among the moments since
-  pub counts : (image : Image) → now.device.images image → last.device.moments now.device.clock image
-  -- each moment since is sound for the last list, by what was covered then
-  pub since : Leaves now.device last.device (Sound now.spec v0 zs c)
-  -- and one that isn't a moment since the next state is sound for that state's list
-  pub inside : (image : Image) → last.device.moments now.device.clock image → last.device.moments then.device.clock image ⊎ Sound now.spec v0 ys' c image
+  pub counts : (image : Image) → step.now.device.images image → step.last.device.moments step.now.device.clock image
+  -- each moment since is sound for all that was accepted, by what was covered before the step
+  pub since : Leaves step.now.device step.last.device (Sound step.now.spec step.began step.all step.covered)
+  -- and one that isn't a moment since the next state is sound for what was accepted by then
+  pub inside : (image : Image) → step.last.device.moments step.now.device.clock image
+      → step.last.device.moments step.then.device.clock image ⊎ Sound step.now.spec step.began step.after step.covered image
 
 -- a run parted at a step
 pub record Parts {P : Type 0} (told : P → Told) (first : State P) (steps : List Step) (replies : List Reply) (last now then : State P)
@@ -56,18 +69,23 @@ abbrev pub EachMoment : {P : Type 0} → (P → Told) → State P → List Step 
 EachMoment {P} told first steps replies last =
     (now then : State P) (steps_before : List Step) (before : List Reply) (step : Step) (reply : Reply)
     → Parts told first steps replies last now then steps_before before step reply
-    → (place : ℕ) (a b c d : Place P) → slice_get first.desks place ≡ Some a → slice_get now.desks place ≡ Some b → slice_get then.desks place ≡ Some c → slice_get last.desks place ≡ Some d
+    → (place : ℕ) (a b c d : DeskState P) → slice_get first.desks place ≡ Some a → slice_get now.desks place ≡ Some b → slice_get then.desks place ≡ Some c → slice_get last.desks place ≡ Some d
     → (told d.port).device.honest → (v0 : View) (ys : List Item) (n : ℕ) → Fits (told a.port) v0 ys n
-    → AreSound (told b.port) (told c.port) (told d.port) v0
-    (ys ++ items_in (effects_at place steps_before before))
-    ((ys ++ items_in (effects_at place steps_before before)) ++ (effect_at place step reply).items)
-    (ys ++ items_in (effects_at place steps replies))
-    (covered_by v0 ys n (effects_at place steps_before before))
+    → AreSound (record {
+      now = told b.port;
+      then = told c.port;
+      last = told d.port;
+      began = v0;
+      before = ys ++ items_in (effects_at place steps_before before);
+      after = (ys ++ items_in (effects_at place steps_before before)) ++ (effect_at place step reply).items;
+      all = ys ++ items_in (effects_at place steps replies);
+      covered = covered_by v0 ys n (effects_at place steps_before before);
+    })
 
 -- each receipt for a desk, also one inside a refusal, agrees with the window of every image that the desk's store has at the end
 abbrev pub AreReceiptsKept : {P : Type 0} → (P → Told) → State P → List Reply → State P → Type 0
 AreReceiptsKept {P} told first replies last =
-    (place : ℕ) (a d : Place P) → slice_get first.desks place ≡ Some a → slice_get last.desks place ≡ Some d → (told d.port).device.honest
+    (place : ℕ) (a d : DeskState P) → slice_get first.desks place ≡ Some a → slice_get last.desks place ≡ Some d → (told d.port).device.honest
     → (v0 : View) (ys : List Item) (c : ℕ) → Fits (told a.port) v0 ys c
     → (before after : List Reply) (reply : Reply) (receipt : Receipt) → replies ≡ before ++ reply ∷ after → receipt_in reply ≡ Some receipt → receipt.desk ≡ place
     → (image : Image) (window : View) (sealed : Bool) → (told d.port).device.images image → ReadsAs (told d.port).spec window sealed image

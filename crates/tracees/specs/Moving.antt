@@ -3,8 +3,8 @@ use Rattle.std.specs.Prelude.{◌≡◌, ◌≢◌, ℕ, List, [], ◌∷◌, �
 use Rattle.entry_codec.specs.Entries.{Entry, lost_by}
 use Rattle.trace_port.specs.Port.{Told}
 use Rattle.trace_port.specs.Accepts.{Accepts}
-use Rattle.trace_port.specs.declared.kinds.PortFault.{PortFault}
-use Rattle.trace_port.specs.declared.kinds.PortFault.TheVariants as faults
+use Rattle.trace_port.specs.declared.fault.PortFault.{PortFault}
+use Rattle.trace_port.specs.declared.fault.PortFault.TheVariants as faults
 use Rattle.intake.specs.WaitingLists.{messages_in}
 use Rattle.intake.specs.Tracees.{waiting_of, CountsGrow, SameSetup}
 use Rattle.intake.specs.declared.tracee.Tracee.{Tracee}

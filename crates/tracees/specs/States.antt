@@ -1,14 +1,14 @@
 -- The desks and tracees in memory, as the state of a run.
 use Rattle.std.specs.Prelude.{◌≡◌, ℕ, ◌<◌, List, get_or, length, map}
 use Rattle.trace_port.specs.declared.port.TracePort.{Ghosts as PortGhosts}
-use Rattle.tracees.specs.Desks.{Place, Seat}
+use Rattle.tracees.specs.Desks.{DeskState, Seat}
 use Rattle.tracees.specs.Steps.{State}
 use Rattle.tracees.specs.declared.book.Bookkeeping.{Ghosts as BookGhosts}
 use Rattle.tracees.specs.declared.desk.Desk.{Desk}
 use Rattle.tracees.specs.declared.traced.Traced.{Traced}
 
 -- a desk in memory
-abbrev pub place_of : {P K S : Type 0} (port : PortGhosts P) (keep : BookGhosts K S) → Desk P K S port keep → Place P
+abbrev pub place_of : {P K S : Type 0} (port : PortGhosts P) (keep : BookGhosts K S) → Desk P K S port keep → DeskState P
 place_of port keep d = record { number = d.number; port = d.port.now; counted = keep.totals_of d.book; attached = keep.attached_of d.book }
 
 -- a tracee in memory

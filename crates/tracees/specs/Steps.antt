@@ -3,10 +3,10 @@ use Rattle.std.specs.Prelude.{◌≡◌, ℕ, Bool, List, [], ◌∷◌, set, sl
 use Rattle.trace_message.specs.declared.event.Event.{Event}
 use Rattle.trace_message.specs.declared.event.Stamp.{Stamp}
 use Rattle.trace_port.specs.Port.{Told}
-use Rattle.trace_port.specs.declared.kinds.PortFault.{PortFault}
+use Rattle.trace_port.specs.declared.fault.PortFault.{PortFault}
 use Rattle.intake.specs.declared.offer.Offer.{Offer}
 use Rattle.intake.specs.declared.fault.EmitFault.{EmitFault}
-use Rattle.tracees.specs.Desks.{Place, Seat, SameBook}
+use Rattle.tracees.specs.Desks.{DeskState, Seat, SameBook}
 use Rattle.tracees.specs.Emits.{Emits}
 use Rattle.tracees.specs.PortCalls.{Flushes, Seals, Ticks}
 use Rattle.tracees.specs.Hands.{HandsOver, FlushesFor}
@@ -19,7 +19,7 @@ use Rattle.tracees.specs.declared.step.Reply.TheVariants as replies
 
 -- each desk and each tracee, by its index
 pub record State (P : Type 0) : Type 0 where
-  pub desks : List (Place P)
+  pub desks : List (DeskState P)
   pub tracees : List Seat
 
 -- how the answers of calls are told
@@ -44,7 +44,7 @@ tick_reply (Ok cut) = replies.Ticked cut
 tick_reply (Err fault) = replies.PortRefused fault
 
 -- the desk of this index goes from one value to another, and the others stay
-pub record ActsOn {P : Type 0} (old new : State P) (place : ℕ) (p q : Place P) : Type 0 where
+pub record ActsOn {P : Type 0} (old new : State P) (place : ℕ) (p q : DeskState P) : Type 0 where
   pub there : slice_get old.desks place ≡ Some p
   pub others : new.desks ≡ set old.desks place q
 
@@ -62,7 +62,7 @@ pub record EmitsAt {P : Type 0} (old new : State P) (tracee : ℕ) (event : Even
   pub sums : is.sums ≡ was.sums
 
 -- a step at a desk alone
-pub record ActsAlone {P : Type 0} (old new : State P) (place : ℕ) (p q : Place P) : Type 0 where
+pub record ActsAlone {P : Type 0} (old new : State P) (place : ℕ) (p q : DeskState P) : Type 0 where
   pub acts : ActsOn old new place p q
   pub tracees : new.tracees ≡ old.tracees
   pub book : SameBook p q
@@ -83,17 +83,17 @@ pub data NoSeat {P : Type 0} (state : State P) (place : ℕ) : Type 0 where
 pub data IsStep {P : Type 0} (told : P → Told) (old new : State P) : Step → Reply → Type 0 where
   emits : {tracee : ℕ} {event : Event} {stamp : Stamp} {reply : Reply} (result : Result Offer EmitFault) (was is : Seat) → EmitsAt old new tracee event stamp result was is
       → reply ≡ offer_reply result → IsStep told old new (steps.Emit tracee event stamp) reply
-  hands_over : {tracee limit : ℕ} {reply : Reply} (result : Result Receipt HandFault) (was is : Seat) (p q : Place P)
+  hands_over : {tracee limit : ℕ} {reply : Reply} (result : Result Receipt HandFault) (was is : Seat) (p q : DeskState P)
       → ActsFor old new tracee was is → ActsOn old new was.desk p q → p.number ≡ was.desk → HandsOver told p q limit was is result
       → reply ≡ hand_reply result → IsStep told old new (steps.HandOver tracee limit) reply
-  flushes_for : {tracee : ℕ} {reply : Reply} (result : Result Receipt HandFault) (was is : Seat) (p q : Place P)
+  flushes_for : {tracee : ℕ} {reply : Reply} (result : Result Receipt HandFault) (was is : Seat) (p q : DeskState P)
       → ActsFor old new tracee was is → ActsOn old new was.desk p q → p.number ≡ was.desk → FlushesFor told p q was is result
       → reply ≡ hand_reply result → IsStep told old new (steps.FlushFor tracee) reply
-  flushes : {desk : ℕ} {reply : Reply} (result : Result ℕ PortFault) (p q : Place P) → ActsAlone old new desk p q → Flushes (told p.port) (told q.port) result
+  flushes : {desk : ℕ} {reply : Reply} (result : Result ℕ PortFault) (p q : DeskState P) → ActsAlone old new desk p q → Flushes (told p.port) (told q.port) result
       → reply ≡ flush_reply result → IsStep told old new (steps.Flush desk) reply
-  seals : {desk : ℕ} {reply : Reply} (result : Result Unit PortFault) (p q : Place P) → ActsAlone old new desk p q → Seals (told p.port) (told q.port) result
+  seals : {desk : ℕ} {reply : Reply} (result : Result Unit PortFault) (p q : DeskState P) → ActsAlone old new desk p q → Seals (told p.port) (told q.port) result
       → reply ≡ seal_reply result → IsStep told old new (steps.Seal desk) reply
-  ticks : {desk now : ℕ} {reply : Reply} (result : Result Bool PortFault) (p q : Place P) → ActsAlone old new desk p q → Ticks (told p.port) (told q.port) now result
+  ticks : {desk now : ℕ} {reply : Reply} (result : Result Bool PortFault) (p q : DeskState P) → ActsAlone old new desk p q → Ticks (told p.port) (told q.port) now result
       → reply ≡ tick_reply result → IsStep told old new (steps.Tick desk now) reply
   -- an index that isn't there
   emit_unknown : {tracee : ℕ} {event : Event} {stamp : Stamp} → NoTracee old tracee → new ≡ old → IsStep told old new (steps.Emit tracee event stamp) replies.Unknown
@@ -111,4 +111,4 @@ pub data Run {P : Type 0} (told : P → Told) : State P → List Step → List R
 
 -- the desk of index i has the number i
 abbrev pub AreNumbered : {P : Type 0} → State P → Type 0
-AreNumbered {P} state = (i : ℕ) (p : Place P) → slice_get state.desks i ≡ Some p → p.number ≡ i
+AreNumbered {P} state = (i : ℕ) (p : DeskState P) → slice_get state.desks i ≡ Some p → p.number ≡ i

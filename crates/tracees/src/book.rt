@@ -57,7 +57,7 @@ pub trait Bookkeeping: Send + Drop {
         ensures within { IsTrue shared → IsWithin (sums_of slip.old) (totals_of self.old) };
 
     /// All messages of the account are flushed.
-    fn settle(&mut self, slip: &mut Self::Slip)
+    fn flush_account(&mut self, slip: &mut Self::Slip)
         ensures messages { (totals_of self.new).messages ≡ (totals_of self.old).messages }
         ensures drops { (totals_of self.new).drops ≡ (totals_of self.old).drops }
         ensures flushed { (totals_of self.new).flushed ≤ (totals_of self.new).messages }
@@ -137,7 +137,7 @@ impl Bookkeeping for PlainBook {
         slip.drops += drops;
     }
 
-    fn settle(&mut self, slip: &mut PlainAccount) {
+    fn flush_account(&mut self, slip: &mut PlainAccount) {
         slip.flushed = slip.messages;
     }
 

@@ -233,7 +233,7 @@ impl<F: Ledger, U: Ledger, D: Ledger, N: Ledger + Numbered> Bookkeeping for Ledg
         dropped.add(&mut slip.drops, drops);
     }
 
-    fn settle(&mut self, slip: &mut LedgerAccount<F, U, D, N>) {
+    fn flush_account(&mut self, slip: &mut LedgerAccount<F, U, D, N>) {
         let LedgerBook {
             flushed,
             unflushed,

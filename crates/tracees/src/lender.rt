@@ -4,7 +4,7 @@ ghost use Rattle.std.specs.Prelude.{◌≡◌, ◌++◌, ℕ, []};
 ghost use Rattle.segment.specs.Specification.{File};
 ghost use Rattle.recovery.specs.Views.{View, total};
 ghost use Rattle.intake.specs.Tracees.{waiting_of};
-ghost use Rattle.trace_port.specs.Device.{device_of, Leaves};
+ghost use Rattle.trace_store.specs.Device.{device_of, Leaves};
 ghost use Rattle.trace_port.specs.Places.{HasGate};
 ghost use Rattle.trace_port.specs.Sound.{Sound};
 ghost use Rattle.trace_port.specs.Port.{Fits, IsSaved};

@@ -1,5 +1,5 @@
 use Rattle.std.proofs.Common.{rules, ◌≡◌, refl, sym, subst}
-use Rattle.trace_port.specs.Device.{device_of}
+use Rattle.trace_store.specs.Device.{device_of}
 use Rattle.trace_port.specs.Port.{Ends}
 use Rattle.trace_port.specs.FilePort.{file_told}
 use Rattle.script_port.specs.Texts.{greeting}
@@ -21,7 +21,7 @@ returns g c =
             reader = c.run_port-left.ensures.run.reader;
             did = was_held told (λ p honest image left. laws.only_now p.store.now image honest left) Alone (λ p. refl) _ (greeting c.args.origin) c.over-port.result c.run_port-left.new.port (device c.store-1.given.0) _ _ c.run_port-left.result _
                 (λ Q q. subst (λ s. Q (device s)) over.now q)
-                (record { state = over.live; spec = refl; limit = λ file. over.limit; covered = over.covered; total = over.total; drops = over.drops; gate = over.gate; opened = refl; pending = over.pending }) over.fits
+                (record { state = over.live; spec = refl; limit = λ file. over.limit; covered = over.covered; total = over.total; drops = over.drops; gate = over.gate; period_start = refl; pending = over.pending }) over.fits
                 (subst (λ s. Ends (told c.run_port-left.new.port) (device s)) (sym back) c.drop.ensures) (rw c.files-files.ensures at c.run_port-left.ensures.run.did.did);
           };
     }

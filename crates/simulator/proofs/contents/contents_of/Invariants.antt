@@ -1,6 +1,6 @@
 use Rattle.std.proofs.Common.{◌≡◌, ◌+◌, ◌*◌, ◌≤◌, take, length}
-use Rattle.stores.specs.Calls.{contents_of}
-use Rattle.segment.specs.Pieces.{OnlyReads}
+use Rattle.stores.specs.CallRecords.{contents_of}
+use Rattle.trace_store.specs.Device.{OnlyReads}
 use Rattle.simulator.proofs.contents.contents_of.Given as goal
 
 abbrev pub invariant-loop-file : goal.invariant-loop-file

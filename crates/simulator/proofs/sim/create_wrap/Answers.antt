@@ -12,15 +12,15 @@ returns-in-Ok g c =
     record {
       comes = let e = c.in-Ok.ensures in
           record {
-            name = c.hold_wrap-left.ensures.held.name;
-            of_desk = c.hold_wrap-left.ensures.held.of_desk;
-            reader = c.hold_wrap-left.ensures.held.reader;
-            did = rw c.ended.ensures (was_run Created _ c.args.store.now c.hold_wrap-left.new.store _ c.hold_wrap-left.result _ (record {
+            name = c.hold.ensures.held.name;
+            of_desk = c.hold.ensures.held.of_desk;
+            reader = c.hold.ensures.held.reader;
+            did = rw c.hold.ensures.held.did.1 (was_run Created _ c.args.store.now c.hold.new.store _ c.hold.ensures.held.did.0 _ (record {
               mid = c.begin_create.new.store;
               opening = openings.Wrap c.in-Ok.opening;
               opens = begins (is_blank (e.created.blank tt)) (ap wrap_seen e.spec) (e.fits tt);
               moments = (c.begin_create.ensures.creates.any_moment tt, c.begin_create.ensures.creates.not_blank_stays tt);
-              ran = c.hold_wrap-left.ensures.held.did;
+              ran = c.hold.ensures.held.did.2;
             }));
           };
     }

@@ -13,15 +13,15 @@ returns-in-Ok g c =
       comes = let e = c.in-Ok.ensures in
           let found = e.fits tt in
           record {
-            name = c.hold_file-left.ensures.held.name;
-            of_desk = c.hold_file-left.ensures.held.of_desk;
-            reader = c.hold_file-left.ensures.held.reader;
-            did = rw c.ended.ensures (was_run Resumed File c.args.store.now c.hold_file-left.new.store _ c.hold_file-left.result _ (record {
+            name = c.hold.ensures.held.name;
+            of_desk = c.hold.ensures.held.of_desk;
+            reader = c.hold.ensures.held.reader;
+            did = rw c.hold.ensures.held.did.1 (was_run Resumed File c.args.store.now c.hold.new.store _ c.hold.ensures.held.did.0 _ (record {
               mid = c.begin_resume.new.store;
               opening = openings.File c.in-Ok.opening;
               opens = goes_on found.0 found.1 found.2;
               moments = only_kept File c.args.store.now c.begin_resume.new.store c.begin_resume.ensures.device.kept;
-              ran = c.hold_file-left.ensures.held.did;
+              ran = c.hold.ensures.held.did.2;
             }));
           };
     }

@@ -8,18 +8,18 @@ pub returns-in-Ok : goal.returns-in-Ok
 returns-in-Ok g c =
     record {
       comes = record {
-        name = c.hold_wrap-left.ensures.held.name;
-        of_desk = c.hold_wrap-left.ensures.held.of_desk;
-        reader = c.hold_wrap-left.ensures.held.reader;
+        name = c.hold.ensures.held.name;
+        of_desk = c.hold.ensures.held.of_desk;
+        reader = c.hold.ensures.held.reader;
         did = λ spec.
             let e = c.in-Ok.ensures in
             let found = e.fits tt in
-            rw c.ended.ensures (was_run Resumed spec c.args.store.now c.hold_wrap-left.new.store _ c.hold_wrap-left.result _ (record {
+            rw c.hold.ensures.held.did.1 (was_run Resumed spec c.args.store.now c.hold.new.store _ c.hold.ensures.held.did.0 _ (record {
               mid = c.begin_resume.new.store;
               opening = openings.Wrap c.in-Ok.opening;
               opens = goes_on found.0 found.1 found.2;
               moments = c.begin_resume.ensures.any_moment tt;
-              ran = c.hold_wrap-left.ensures.held.did;
+              ran = c.hold.ensures.held.did.2;
             }));
       };
     }

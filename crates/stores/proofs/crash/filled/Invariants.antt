@@ -1,5 +1,5 @@
 use Rattle.std.proofs.Common.{◌≡◌, map, take}
-use Rattle.stores.specs.Calls.{states_of, contents_of}
+use Rattle.stores.specs.CallRecords.{states_of, contents_of}
 use Rattle.stores.specs.Crashes.{filled}
 use Rattle.stores.proofs.crash.filled.Given as goal
 

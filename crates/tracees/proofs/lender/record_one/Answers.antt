@@ -1,7 +1,7 @@
 use Rattle.std.proofs.Common.{rules, ◌≡◌, [], refl, subst, sym}
 use Rattle.segment.specs.Specification.{File}
 use Rattle.recovery.specs.Views.{total}
-use Rattle.trace_port.specs.Device.{device_of, Leaves, IsIdle}
+use Rattle.trace_store.specs.Device.{device_of, Leaves, IsIdle}
 use Rattle.trace_port.specs.Sound.{Sound}
 use Rattle.trace_port.specs.Port.{IsSaved, Ends, has_sealed}
 use Rattle.trace_port.specs.Opened.{opened_told}
@@ -22,7 +22,7 @@ returns-clause-hands g c =
     record {
       port = port;
       end = c.hand_one-done.new.port;
-      as_opened = record { state = over.live; spec = refl; limit = λ file. over.limit; covered = over.covered; total = over.total; drops = over.drops; gate = over.gate; opened = refl; pending = over.pending };
+      as_opened = record { state = over.live; spec = refl; limit = λ file. over.limit; covered = over.covered; total = over.total; drops = over.drops; gate = over.gate; period_start = refl; pending = over.pending };
       at_first = subst (λ s. IsIdle (device s) (told port).device) over.now (stays_idle (told port).device);
       hands = c.hand_one-done.ensures.hands.did;
       drops = subst (λ s. Ends (told c.hand_one-done.new.port) (device s)) (sym back) c.drop.ensures;
