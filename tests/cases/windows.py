@@ -53,7 +53,7 @@ def a_large_wrap_that_is_written_is_listed_and_exported_in_8_too(program):
 def written_in_8(program, wrap, size, count):
     """A wrap that is written is listed and exported in 8 MB, as its entries are kept."""
     entries = [message(bytes(95 + number % 3)) for number in range(60_000)]
-    with program.start("import", "t", *wrap, "--flush", "always") as importer:
+    with program.start("import", "t", *wrap) as importer:
         same(importer.line(), "created")
         importer.write(b"".join(entries))
         deadline = time.monotonic() + PATIENCE
