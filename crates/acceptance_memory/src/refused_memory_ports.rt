@@ -1,7 +1,6 @@
 //! Ports that are created, or go on, while memory is refused.
 
-ghost use Rattle.entry_codec.specs.Entries.{IsLawful};
-ghost use Rattle.entry_codec.specs.Seen.{view};
+ghost use Rattle.entry_codec.specs.{Entries.IsLawful, Seen.view};
 
 use crate::fixed_store::FixedStore;
 use acceptance_scenes::{TRIES, is_refused_for_good};

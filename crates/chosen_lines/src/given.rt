@@ -1,7 +1,6 @@
 //! What a writer held, and what was given after that. It takes no memory, and only clauses read it.
 ghost use Rattle.std.specs.Prelude.{◌≡◌, ◌++◌, ℕ, List, [], Option};
-ghost use Rattle.std.specs.Borrow.{ftrue};
-ghost use Rattle.std.specs.Coded.{coded_list, coded_option, coded_ℕ};
+ghost use Rattle.std.specs.{Borrow.ftrue, Coded.coded_list, Coded.coded_option, Coded.coded_ℕ};
 
 use std::marker::{Model, PhantomData};
 

@@ -1,12 +1,7 @@
 //! A writer that hands on the lines that are chosen.
 ghost use Rattle.std.specs.Prelude.{◌≡◌, ◌<◌, ◌≤◌, ℕ, Option, List, [], ◌∷◌, ◌++◌, take, vec_len, length, true, OnOk, IfOk};
 ghost use Rattle.std.specs.Io.KnownBytes.{Appends, WriteAppends};
-ghost use Rattle.chosen_lines.specs.Lines.{lines_after, rest_after, chosen};
-ghost use Rattle.chosen_lines.specs.Lets.{lets};
-ghost use Rattle.chosen_lines.specs.Asks.{asks_of};
-ghost use Rattle.chosen_lines.specs.Sifted.{sieve_contents};
-ghost use Rattle.chosen_lines.specs.Growth.{Appends-prop};
-ghost use Rattle.chosen_lines.specs.Taking.{Takes};
+ghost use Rattle.chosen_lines.specs.{Lines.lines_after, Lines.rest_after, Lines.chosen, Lets.lets, Asks.asks_of, Sifted.sieve_contents, Growth.Appends-prop, Taking.Takes};
 
 use crate::choice::Choice;
 use crate::given::Given;

@@ -1,7 +1,6 @@
 //! An entry stream, listed and shown.
 ghost use Rattle.std.specs.Prelude.{◌≡◌, Some, None, true, false};
-ghost use Rattle.dbgrec.specs.Choosing.{ListsStream};
-ghost use Rattle.dbgrec.specs.Serving.{Shows};
+ghost use Rattle.dbgrec.specs.{Choosing.ListsStream, Serving.Shows};
 
 use crate::choosing::choose_of_stream;
 use crate::outlet::Output;

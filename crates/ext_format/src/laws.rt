@@ -2,11 +2,8 @@
 
 ghost use Rattle.std.specs.Prelude.{◌≡◌, ◌<◌, ◌≤◌, ℕ, List, ◌++◌, Ok, Err, length};
 ghost use Rattle.trace_terms.specs.Data.{Data, depth};
-ghost use Rattle.ext_format.specs.Canonical.{canonical};
+ghost use Rattle.ext_format.specs.{Canonical.canonical, Fits.Fits, Reading.whole_at, Spelling.Spells};
 ghost use Rattle.ext_format.specs.declared.fault.DecodeFault.TheVariants.{Truncated};
-ghost use Rattle.ext_format.specs.Fits.{Fits};
-ghost use Rattle.ext_format.specs.Reading.{whole_at};
-ghost use Rattle.ext_format.specs.Spelling.{Spells};
 
 /// No spelling begins another, so bytes have one reading, whatever follows it.
 pub fn one_reading()

@@ -1,8 +1,7 @@
 //! How much room canonical forms take.
 
 ghost use Rattle.std.specs.Prelude.{◌≡◌, length, MatchOption, true, false};
-ghost use Rattle.trace_terms.specs.Data.{list, pid as pid_data};
-ghost use Rattle.trace_terms.specs.View.{view, members_view};
+ghost use Rattle.trace_terms.specs.{Data.list, Data.pid as pid_data, View.view, View.members_view};
 ghost use Rattle.ext_format.specs.Canonical as forms;
 ghost use Rattle.ext_format.specs.Canonical.{integer_form, atom_form, arity_form, is_byte, byte_value, are_bytes, canonical_form, canonical_forms};
 ghost use Rattle.ext_format.specs.Room.{LeavesRoom};

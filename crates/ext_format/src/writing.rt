@@ -2,14 +2,10 @@
 //! a form may be written.
 
 ghost use Rattle.std.specs.Prelude.{◌≡◌, ◌<◌, ◌≤◌, ◌^◌, ◌↔◌, ◌∷◌, ◌++◌, length, true, OnOk, IfOk};
-ghost use Rattle.trace_terms.specs.Data.{depth, list, pid as pid_data};
-ghost use Rattle.trace_terms.specs.View.{view, members_view};
+ghost use Rattle.trace_terms.specs.{Data.depth, Data.list, Data.pid as pid_data, View.view, View.members_view};
 ghost use Rattle.ext_format.specs.Canonical.{integer_form, big_form, atom_form, arity_form, are_bytes, byte_values, canonical_form, canonical_forms, canonical};
-ghost use Rattle.ext_format.specs.Fits.{Fits, AllFit, FitsPidFields};
-ghost use Rattle.ext_format.specs.Spelling.{sized, Spells};
-ghost use Rattle.std.specs.Int.{w32, w64};
-ghost use Rattle.std.specs.Str.{chars};
-ghost use Rattle.std.specs.Int.RustNames.{FitsSigned};
+ghost use Rattle.ext_format.specs.{Fits.Fits, Fits.AllFit, Fits.FitsPidFields, Spelling.sized, Spelling.Spells};
+ghost use Rattle.std.specs.{Int.w32, Int.w64, Str.chars, Int.RustNames.FitsSigned};
 
 use crate::fault::EncodeFault;
 use crate::limits::{MAX_DEPTH, MAX_SIZE, VERSION};

@@ -1,7 +1,6 @@
 //! Texts and numbers as JSON has them.
 ghost use Rattle.std.specs.Prelude.{◌≡◌, ◌<◌, ◌/◌, ◌%◌, ◌++◌, ◌∷◌, [], OnOk};
-ghost use Rattle.std.specs.Char.{digit_char};
-ghost use Rattle.std.specs.Fmt.{decimal};
+ghost use Rattle.std.specs.{Char.digit_char, Fmt.decimal};
 ghost use Rattle.json.specs.Print.{escape_byte, escape, quoted};
 
 use itoa::Buffer;

@@ -1,8 +1,7 @@
 //! What the definitions of objects come to.
 
 ghost use Rattle.std.specs.Prelude.{◌≡◌, ℕ, ◌<◌, ◌^◌, true, List, ◌∷◌, [], ◌++◌, codes, Some, Option};
-ghost use Rattle.std.specs.Fmt.{decimal};
-ghost use Rattle.std.specs.Io.KnownBytes.{Appends};
+ghost use Rattle.std.specs.{Fmt.decimal, Io.KnownBytes.Appends};
 ghost use Rattle.json.specs.Json.{document};
 ghost use Rattle.json_lines.specs.Listed.{has_no_blank, entry_line, before_line};
 ghost use Rattle.json_lines.specs.Members.{of_number, of_text, of_told, of_entry, members_of_line};

@@ -1,11 +1,8 @@
 //! A writer that hands on an object for each line.
 ghost use Rattle.std.specs.Prelude.{◌≡◌, ◌<◌, ◌≤◌, ℕ, Option, List, [], ◌∷◌, ◌++◌, take, vec_len, length, OnOk, IfOk};
 ghost use Rattle.std.specs.Io.KnownBytes.{Appends, WriteAppends};
-ghost use Rattle.chosen_lines.specs.Growth.{Appends-prop};
-ghost use Rattle.chosen_lines.specs.Taking.{Takes};
-ghost use Rattle.chosen_lines.specs.Lines.{lines_after, rest_after};
-ghost use Rattle.json_lines.specs.Held.{objects_contents};
-ghost use Rattle.json_lines.specs.Objects.{object_line, objects_of};
+ghost use Rattle.chosen_lines.specs.{Growth.Appends-prop, Taking.Takes, Lines.lines_after, Lines.rest_after};
+ghost use Rattle.json_lines.specs.{Held.objects_contents, Objects.object_line, Objects.objects_of};
 
 use crate::object::put_object_line;
 use chosen_lines::{Given, index_of};

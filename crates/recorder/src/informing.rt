@@ -3,9 +3,8 @@ ghost use Rattle.std.specs.Prelude.{◌≡◌, OnOk, IfErr};
 ghost use Rattle.stores.specs.FolderStore.{reads_of};
 ghost use Rattle.trace_files.specs.Standing.{IsStanding};
 ghost use Rattle.trace_files.specs.declared.standing.Standing.TheVariants as standings;
-ghost use Rattle.recorder.specs.Complaints.{status_told};
+ghost use Rattle.recorder.specs.{Complaints.status_told, Files.OnlyLooks, Files.LooksOver};
 ghost use Rattle.script_port.specs.Faults.{status_of};
-ghost use Rattle.recorder.specs.Files.{OnlyLooks, LooksOver};
 
 use crate::complaint::Complaint;
 use crate::fault::fault_of_reading;

@@ -1,7 +1,6 @@
 //! The lock of a trace.
 ghost use Rattle.std.specs.Prelude.{◌<◌, length, IfErr};
-ghost use Rattle.stores.specs.FolderStore.{reads_of, IsSame};
-ghost use Rattle.stores.specs.LockFault.{file_of};
+ghost use Rattle.stores.specs.{FolderStore.reads_of, FolderStore.IsSame, LockFault.file_of};
 
 use stores::{FolderStore, LockFault};
 

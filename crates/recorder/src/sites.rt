@@ -2,9 +2,7 @@
 ghost use Rattle.std.specs.Prelude.{◌≡◌, IfOk, IfErr, IsSome};
 ghost use Rattle.stores.specs.Events.{World};
 ghost use Rattle.trace_places.specs.Finding.{IsFound};
-ghost use Rattle.recorder.specs.Commands.{Changes, IsUntouched, IsLocked};
-ghost use Rattle.recorder.specs.Complaints.{status_told};
-ghost use Rattle.recorder.specs.Sites.{asked_in, IsAtPlace, HasFiles};
+ghost use Rattle.recorder.specs.{Commands.Changes, Commands.IsUntouched, Commands.IsLocked, Complaints.status_told, Sites.asked_in, Sites.IsAtPlace, Sites.HasFiles};
 
 use crate::complaint::{Complaint, FAILED_DISK};
 use crate::files::Files;

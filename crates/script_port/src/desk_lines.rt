@@ -4,10 +4,7 @@ ghost use Rattle.std.specs.Io.KnownBytes.{Appends};
 ghost use Rattle.tracees.specs.Effects.{Effect, no_effect};
 ghost use Rattle.trace_script.specs.Lines.{IsWithinLimits, IsNumbered};
 ghost use Rattle.script_port.specs.Sides.{AtDesk, first_side, desk_seen, seat_seen, side_seen, KeepsDesk};
-ghost use Rattle.script_port.specs.DeskLines.{IsAskedFor, IsAskedAtDesk};
-ghost use Rattle.script_port.specs.Asked.{IsAsked};
-ghost use Rattle.script_port.specs.LinesRun.{RunsLines};
-ghost use Rattle.script_port.specs.Held.{Ran, IsAtDesk};
+ghost use Rattle.script_port.specs.{DeskLines.IsAskedFor, DeskLines.IsAskedAtDesk, Asked.IsAsked, LinesRun.RunsLines, Held.Ran, Held.IsAtDesk};
 
 use crate::answer::Answer;
 use crate::answers::Answers;

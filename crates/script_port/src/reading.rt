@@ -1,7 +1,6 @@
 //! The next line of a script.
 ghost use Rattle.std.specs.Prelude.{◌≡◌, true, false, IfOk, IfSome};
-ghost use Rattle.trace_script.specs.Lines.{IsWithinLimits, IsOfFiles};
-ghost use Rattle.trace_script.specs.Reading.{progress};
+ghost use Rattle.trace_script.specs.{Lines.IsWithinLimits, Lines.IsOfFiles, Reading.progress};
 ghost use Rattle.script_port.specs.Read.{ComesNext};
 
 use crate::fault::SimFault;

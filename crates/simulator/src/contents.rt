@@ -1,12 +1,10 @@
 //! A store with other bytes in one of its files.
 ghost use Rattle.std.specs.Prelude.{◌≡◌, ◌+◌, ◌*◌, ◌<◌, ◌≤◌, IfOk, length, set};
 ghost use Rattle.trace_store.specs.Disk.{file_of};
-ghost use Rattle.stores.specs.CallRecords.{contents_of};
-ghost use Rattle.stores.specs.MemStore.{reads_of, fuse_of, IsSettled};
+ghost use Rattle.stores.specs.{CallRecords.contents_of, MemStore.reads_of, MemStore.fuse_of, MemStore.IsSettled};
 ghost use Rattle.stores.specs.declared.fuse.Fuse.TheVariants.{Whole};
-ghost use Rattle.simulator.specs.Simulated.{OnlyLooked};
+ghost use Rattle.simulator.specs.{Simulated.OnlyLooked, Stored.TellsRefusal};
 ghost use Rattle.segment.specs.DeviceCalls.{DeviceReads};
-ghost use Rattle.simulator.specs.Stored.{TellsRefusal};
 
 use script_port::Refusal;
 use std::alloc::Global;

@@ -4,10 +4,7 @@ ghost use Rattle.std.specs.Prelude.{◌≡◌, ◌↔◌, Option, Some};
 ghost use Rattle.trace_message.specs.declared.event.Flags.{Flags as TheFlags};
 ghost use Rattle.trace_message.specs.declared.event.Stamp.{Stamp as TheStamp};
 ghost use Rattle.trace_message.specs.declared.seen.Seen.{Seen as TheSeen};
-ghost use Rattle.trace_message.specs.Events.{EventData};
-ghost use Rattle.trace_message.specs.Glances.{glance};
-ghost use Rattle.trace_message.specs.Kinds.{IsMessage, seen_of};
-ghost use Rattle.trace_message.specs.Messages.{message_of};
+ghost use Rattle.trace_message.specs.{Events.EventData, Glances.glance, Kinds.IsMessage, Kinds.seen_of, Messages.message_of};
 ghost use Rattle.trace_terms.specs.declared.term.Pid.{Pid as ThePid};
 ghost use Rattle.trace_terms.specs.Data.{Data};
 

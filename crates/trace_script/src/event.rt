@@ -1,7 +1,6 @@
 //! The events of a script.
 ghost use Rattle.std.specs.Prelude.{ℕ, List, IfOk, map};
-ghost use Rattle.trace_terms.specs.Data.{Data};
-ghost use Rattle.trace_terms.specs.View.{view};
+ghost use Rattle.trace_terms.specs.{Data.Data, View.view};
 ghost use Rattle.trace_message.specs.Events.{event_view};
 ghost use Rattle.ext_format.specs.Spelling.{Spells as SpellsTerm};
 ghost use Rattle.trace_script.specs.Keywords.{Behind};

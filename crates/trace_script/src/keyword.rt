@@ -1,7 +1,6 @@
 //! The words of a script that mean the same in each line.
 ghost use Rattle.std.specs.Prelude.{◌≡◌, ◌∷◌, ℕ, List};
-ghost use Rattle.trace_script.specs.Keywords.{text_of, all_keywords, keyword_among};
-ghost use Rattle.trace_script.specs.Spellings.{IsFoundAs, texts};
+ghost use Rattle.trace_script.specs.{Keywords.text_of, Keywords.all_keywords, Keywords.keyword_among, Spellings.IsFoundAs, Spellings.texts};
 
 /// What a line or an event begins with, and what kind it is of.
 #[derive(Clone, Copy, Debug, PartialEq, Eq)]

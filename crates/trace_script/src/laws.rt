@@ -1,7 +1,6 @@
 //! What holds of the table alone.
 ghost use Rattle.std.specs.Prelude.{ℕ, List};
-ghost use Rattle.trace_script.specs.Lines.{SaysSame};
-ghost use Rattle.trace_script.specs.Table.{Spells};
+ghost use Rattle.trace_script.specs.{Lines.SaysSame, Table.Spells};
 ghost use Rattle.trace_script.specs.declared.line.Line.{Line};
 
 /// No text spells two lines that say different things.

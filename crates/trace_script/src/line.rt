@@ -1,7 +1,6 @@
 //! What a line of a script says.
 ghost use Rattle.std.specs.Prelude.{◌≡◌, [], ◌≤◌, IfOk, IfSome};
-ghost use Rattle.trace_script.specs.Keywords.{Behind};
-ghost use Rattle.trace_script.specs.Lines.{IsWithinLimits, pick_of};
+ghost use Rattle.trace_script.specs.{Keywords.Behind, Lines.IsWithinLimits, Lines.pick_of};
 ghost use Rattle.trace_script.specs.Spellings.{IsFound, Sole, Two, texts};
 ghost use Rattle.trace_script.specs.Table.{IsAlone, IsByte, IsLong, IsShort, Creates, Resumes, Crashes, PlainRow, HeldRow, IsOfDesk, Row, Spells};
 ghost use Rattle.trace_script.specs.declared.keyword.Keyword.TheVariants as keywords;

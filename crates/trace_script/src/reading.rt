@@ -1,8 +1,7 @@
 //! A line of a script, taken off its reader.
 ghost use Rattle.std.specs.Prelude.{◌≡◌, ◌≢◌, ◌≤◌, ◌<◌, ◌-◌, All, Ok, OnOk, IfErr, true, length, take};
 ghost use Rattle.std.specs.Io.{StartsWith, StopsAt, IsEmptyOrEndsWith, appended_bytes};
-ghost use Rattle.std.specs.Io.BufRead.{strip_last};
-ghost use Rattle.std.specs.Io.KnownBytes.{Consumes};
+ghost use Rattle.std.specs.{Io.BufRead.strip_last, Io.KnownBytes.Consumes};
 ghost use Rattle.trace_script.specs.Reading.{IsReadLine, IsUsedUp, IsUnread};
 
 use crate::fault::ScriptFault;

@@ -1,9 +1,7 @@
 //! The lines of a script, read one at a time.
 ghost use Rattle.std.specs.Prelude.{IfOk, IfSome, ◌≤◌, length, IsUtf8};
-ghost use Rattle.trace_script.specs.Lines.{IsWithinLimits, IsOfRecord};
+ghost use Rattle.trace_script.specs.{Lines.IsWithinLimits, Lines.IsOfRecord, Spellings.IsFound, Table.Spells};
 ghost use Rattle.trace_script.specs.Reading.{progress, Advances, IsSilent, TellsLine, TellsNext, TellsRoom};
-ghost use Rattle.trace_script.specs.Spellings.{IsFound};
-ghost use Rattle.trace_script.specs.Table.{Spells};
 
 use crate::fault::ScriptFault;
 use crate::line::{Line, parse};

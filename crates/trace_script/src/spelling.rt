@@ -1,7 +1,6 @@
 //! Numbers and bytes, as the words of a script spell them.
 ghost use Rattle.std.specs.Prelude.{◌≡◌, ◌<◌, ◌≤◌, ◌%◌, ◌/◌, ◌↔◌, ◌∷◌, [], IsTrue, IfOk, length, slice_index};
-ghost use Rattle.std.specs.Char.{is_ascii_digit};
-ghost use Rattle.std.specs.List.{list_all};
+ghost use Rattle.std.specs.{Char.is_ascii_digit, List.list_all};
 ghost use Rattle.trace_script.specs.Spellings.{IsFound, IsFoundAs, IsNumber, IsNumberIn, IsDigit, IsHex, IsBytes, texts, words};
 
 use std::alloc::{AllocError, Global};

@@ -1,9 +1,7 @@
 //! Atoms.
 ghost use Rattle.std.specs.Prelude.{◌≡◌, ◌<◌, ◌≤◌, ◌*◌, ◌↔◌, length, IfOk, IsTrue};
-ghost use Rattle.std.specs.Str.{chars};
+ghost use Rattle.std.specs.{Str.chars, Cmp.partial_equiv_from_equiv, Cmp.Lexicographic.nat_list_eq_equiv, Cmp.Lexicographic.pointwise};
 ghost use Rattle.std.specs.Prelude.{nat_eq};
-ghost use Rattle.std.specs.Cmp.{partial_equiv_from_equiv};
-ghost use Rattle.std.specs.Cmp.Lexicographic.{nat_list_eq_equiv, pointwise};
 
 use crate::fault::{AtomFault, NoMemory};
 use std::alloc::Global;

@@ -1,7 +1,6 @@
 //! Terms, and the names of processes.
 ghost use Rattle.std.specs.Prelude.{◌≡◌, IfOk, min};
-ghost use Rattle.trace_terms.specs.Data.{depth, greatest_depth};
-ghost use Rattle.trace_terms.specs.View.{view, members_view};
+ghost use Rattle.trace_terms.specs.{Data.depth, Data.greatest_depth, View.view, View.members_view};
 
 use crate::atom::Atom;
 use crate::fault::NoMemory;

@@ -2,9 +2,7 @@
 
 ghost use Rattle.std.specs.Prelude.{◌≡◌, IfOk, IfSome, IsNone, OnErr, List, map};
 ghost use Rattle.tracees.specs.Moments.{AreGrown, AreCarried, AreReceiptsKept, EachMoment};
-ghost use Rattle.tracees.specs.Desks.{Seat};
-ghost use Rattle.tracees.specs.Loans.{KeepAllLoans};
-ghost use Rattle.tracees.specs.States.{IsDeskOf, places_with, state_of};
+ghost use Rattle.tracees.specs.{Desks.Seat, Loans.KeepAllLoans, States.IsDeskOf, States.places_with, States.state_of};
 ghost use Rattle.tracees.specs.Steps.{AreNumbered, NoSeat, IsStep, Run};
 ghost use Rattle.tracees.specs.declared.step.Step.TheVariants as steps;
 

@@ -5,15 +5,8 @@ ghost use Rattle.segment.specs.Specification.{File};
 ghost use Rattle.recovery.specs.Views.{View, total};
 ghost use Rattle.intake.specs.Tracees.{waiting_of};
 ghost use Rattle.trace_store.specs.Device.{device_of, Leaves};
-ghost use Rattle.trace_port.specs.Places.{HasGate};
-ghost use Rattle.trace_port.specs.Sound.{Sound};
-ghost use Rattle.trace_port.specs.Port.{Fits, IsSaved};
-ghost use Rattle.trace_port.specs.Opened.{opened_told};
-ghost use Rattle.trace_port.specs.FilePort.{file_told};
-ghost use Rattle.tracees.specs.Hands.{moved_by, items_moved};
-ghost use Rattle.tracees.specs.Lent.{HandsOne, RecordsOne};
-ghost use Rattle.tracees.specs.Loans.{KeepsLoan};
-ghost use Rattle.tracees.specs.Meanings.{MayStand};
+ghost use Rattle.trace_port.specs.{Places.HasGate, Sound.Sound, Port.Fits, Port.IsSaved, Opened.opened_told, FilePort.file_told};
+ghost use Rattle.tracees.specs.{Hands.moved_by, Hands.items_moved, Lent.HandsOne, Lent.RecordsOne, Loans.KeepsLoan, Meanings.MayStand};
 
 use crate::book::{Bookkeeping, PlainBook};
 use crate::desk::Desk;
