@@ -9,10 +9,10 @@ use Rattle.trace_files.specs.Standing.{IsStanding}
 use Rattle.trace_files.specs.declared.standing.Standing.TheVariants as standings
 use Rattle.trace_reader.specs.declared.wiping.Clearing.{Clearing}
 use Rattle.recorder.specs.Commands.{IsRead, whole, not_written_out, IsCleared, Clears, done, not_told}
-use Rattle.recorder.specs.Complaints.{status_told}
+use Rattle.trace_advice.specs.Complaints.{status_told}
 use Rattle.script_port.specs.Texts.{line_of}
 use Rattle.script_port.specs.declared.answer.Answer.TheVariants.{Done}
-use Rattle.recorder.specs.declared.complaint.Complaint.{Complaint}
+use Rattle.trace_advice.specs.declared.complaint.Complaint.{Complaint}
 
 -- a trace was written whole, and then written out or not
 pub is_read : (Tells : Image → List ℕ → Type 0) (form : Form) (image : Image) (was now : Option (List ℕ)) (result : Result Unit Complaint) (mid : Option (List ℕ)) → ((text : List ℕ) × Tells image text × Appends was mid text) → IsStanding standings.Ours image → Keeps mid now

@@ -3,10 +3,10 @@ use Rattle.std.proofs.Common.{◌≡◌, refl, ap, ◌∙◌, inl, inr}
 use Rattle.trace_reader.specs.declared.fault.ReadFault.{ReadFault}
 use Rattle.trace_reader.specs.declared.fault.ReadFault.TheVariants as reads
 use Rattle.recorder.specs.Commands.{IsToldOf}
-use Rattle.recorder.specs.Complaints.{status_told}
-use Rattle.recorder.specs.Faults.{read_fault}
+use Rattle.trace_advice.specs.Complaints.{status_told}
+use Rattle.trace_advice.specs.Faults.{read_fault}
 use Rattle.script_port.specs.Faults.{status_of}
-use Rattle.recorder.specs.declared.complaint.Complaint.{Complaint}
+use Rattle.trace_advice.specs.declared.complaint.Complaint.{Complaint}
 use Rattle.script_port.specs.declared.fault.SimFault.{SimFault}
 
 status_of_read : (fault : ReadFault) → status_of (read_fault fault) ≡ 1

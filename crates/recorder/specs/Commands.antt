@@ -30,9 +30,9 @@ use Rattle.trace_reader.specs.declared.wiping.Clearing.TheVariants.{Own, Any}
 use Rattle.command_line.specs.declared.request.Rules.{Rules}
 use Rattle.command_line.specs.declared.request.TraceRequest.{TraceRequest}
 use Rattle.command_line.specs.declared.request.TraceRequest.TheVariants as requests
-use Rattle.recorder.specs.Complaints.{status_told}
+use Rattle.trace_advice.specs.Complaints.{status_told}
 use Rattle.script_port.specs.Faults.{status_of, run_fault}
-use Rattle.recorder.specs.Faults.{read_fault, wipe_fault}
+use Rattle.trace_advice.specs.Faults.{read_fault, wipe_fault}
 use Rattle.recorder.specs.Files.{OnlyLooks, LooksOver, WasRecorded, WasFed}
 use Rattle.trace_recording.specs.Incoming.{Outside, outside}
 use Rattle.script_port.specs.PortOpenings.{first_told, FitsStore, GoesOnOrBegins}
@@ -40,8 +40,8 @@ use Rattle.trace_recording.specs.Openings.{wanted, KeepsTrace, IsWhyNotOpened}
 use Rattle.trace_places.specs.Places.{file_count, turn_of}
 use Rattle.script_port.specs.Texts.{line_of}
 use Rattle.script_port.specs.declared.answer.Answer.TheVariants.{Done}
-use Rattle.recorder.specs.declared.complaint.Complaint.{Complaint}
-use Rattle.recorder.specs.declared.complaint.Complaint.TheVariants as complaints
+use Rattle.trace_advice.specs.declared.complaint.Complaint.{Complaint}
+use Rattle.trace_advice.specs.declared.complaint.Complaint.TheVariants as complaints
 use Rattle.script_port.specs.declared.fault.SimFault.{SimFault}
 use Rattle.script_port.specs.declared.fault.SimFault.TheVariants as faults
 use Rattle.recorder.specs.declared.files.Files.{Files}

@@ -14,12 +14,12 @@ use Rattle.trace_follower.specs.Sections.{HasTold, IsStopped}
 use Rattle.trace_follower.specs.declared.follower.Follower.{Follower}
 use Rattle.trace_follower.specs.declared.place.Look.{Look}
 use Rattle.trace_follower.specs.declared.place.Look.TheVariants as looks
-use Rattle.recorder.specs.Faults.{read_fault}
-use Rattle.recorder.specs.Complaints.{status_told}
+use Rattle.trace_advice.specs.Faults.{read_fault}
+use Rattle.trace_advice.specs.Complaints.{status_told}
 use Rattle.trace_places.specs.Places.{file_count}
 use Rattle.recorder.specs.Commands.{IsToldOf, style_of}
 use Rattle.recorder.specs.Files.{OnlyLooks}
-use Rattle.recorder.specs.declared.complaint.Complaint.{Complaint}
+use Rattle.trace_advice.specs.declared.complaint.Complaint.{Complaint}
 use Rattle.recorder.specs.declared.files.Files.{Files}
 use Rattle.recorder.specs.declared.following.Seen.{Seen}
 use Rattle.recorder.specs.declared.following.Seen.TheVariants as seen

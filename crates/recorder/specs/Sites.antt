@@ -3,8 +3,8 @@ use Rattle.std.specs.Prelude.{◌≡◌, Result, IfOk, IfErr}
 use Rattle.command_line.specs.declared.request.Asked.{Asked}
 use Rattle.command_line.specs.declared.request.TraceRequest.{TraceRequest}
 use Rattle.command_line.specs.declared.request.TraceRequest.TheVariants as requests
-use Rattle.recorder.specs.Complaints.{status_told}
-use Rattle.recorder.specs.declared.complaint.Complaint.{Complaint}
+use Rattle.trace_advice.specs.Complaints.{status_told}
+use Rattle.trace_advice.specs.declared.complaint.Complaint.{Complaint}
 use Rattle.recorder.specs.declared.files.Files.{Files}
 use Rattle.trace_places.specs.Finding.{IsFound, IsPlaceFor}
 use Rattle.trace_places.specs.declared.lookup.Found.{Found}

@@ -3,15 +3,15 @@ ghost use Rattle.std.specs.Prelude.{◌≡◌, OnOk, IfErr};
 ghost use Rattle.stores.specs.FolderStore.{reads_of};
 ghost use Rattle.trace_files.specs.Standing.{IsStanding};
 ghost use Rattle.trace_files.specs.declared.standing.Standing.TheVariants as standings;
-ghost use Rattle.recorder.specs.{Complaints.status_told, Files.OnlyLooks, Files.LooksOver};
+ghost use Rattle.trace_advice.specs.Complaints.{status_told};
+ghost use Rattle.recorder.specs.{Files.OnlyLooks, Files.LooksOver};
 ghost use Rattle.script_port.specs.Faults.{status_of};
 
-use crate::complaint::Complaint;
-use crate::fault::fault_of_reading;
 use crate::files::{Doing, Files};
 use script_port::SimFault;
 use std::alloc::{AllocError, Global};
 use std::io::{self, Write};
+use trace_advice::{Complaint, fault_of_reading};
 use trace_info::Info;
 use trace_reader::{FileFound, Host, ReadFault, Watched};
 

@@ -2,18 +2,14 @@
 #![tactic(auto)]
 
 mod commands;
-mod complaint;
-mod fault;
 mod files;
 mod following;
 mod informing;
 mod live;
 mod locked;
-mod notices;
 mod sites;
 
 pub use commands::{serve_stream, serve_trace, told};
-pub use complaint::{Advice, Complaint};
 pub use files::Files;
 pub use following::serve_following;
 pub use sites::files_for;

@@ -2,12 +2,12 @@
 ghost use Rattle.std.specs.Prelude.{◌≡◌, IfOk, IfErr, IsSome};
 ghost use Rattle.stores.specs.Events.{World};
 ghost use Rattle.trace_places.specs.Finding.{IsFound};
-ghost use Rattle.recorder.specs.{Commands.Changes, Commands.IsUntouched, Commands.IsLocked, Complaints.status_told, Sites.asked_in, Sites.IsAtPlace, Sites.HasFiles};
+ghost use Rattle.trace_advice.specs.Complaints.{status_told};
+ghost use Rattle.recorder.specs.{Commands.Changes, Commands.IsUntouched, Commands.IsLocked, Sites.asked_in, Sites.IsAtPlace, Sites.HasFiles};
 
-use crate::complaint::{Complaint, FAILED_DISK};
 use crate::files::Files;
-use crate::notices::{tell_idle, tell_idle_on_file};
 use command_line::{Asked, TraceRequest, Wanted};
+use trace_advice::{Complaint, FAILED_DISK, tell_idle, tell_idle_on_file};
 use trace_places::{Found, Place, find};
 
 /// The files of the trace that is asked for: locked, where they are to be changed. Standard error says what is worth

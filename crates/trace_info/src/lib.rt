@@ -3,8 +3,6 @@
 
 mod info;
 mod json;
-mod shown;
 mod text;
 
 pub use info::{Info, Part, Totals};
-pub use shown::Shown;

@@ -1,9 +1,9 @@
 //! A trace in numbers, as text for a person.
 
 use crate::info::{Info, Part};
-use crate::shown::Shown;
 use segment::{SegHeader, StoreSpec};
 use std::fmt;
+use trace_places::Shown;
 use trace_reader::{End, WORDS};
 
 impl fmt::Display for Info {

@@ -3,6 +3,8 @@
 
 mod lookup;
 mod place;
+mod shown;
 
 pub use lookup::{Found, find, first_wrap_file, has_bytes};
 pub use place::{Kind, Place, Turn};
+pub use shown::Shown;

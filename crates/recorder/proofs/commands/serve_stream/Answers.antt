@@ -1,7 +1,7 @@
 use Rattle.std.proofs.Common.{None, ap, ◌∙◌}
 use Rattle.std.proofs.KnownBytes.{Keeps-refl, prepend_known-nil}
 use Rattle.recorder.specs.Commands.{stopped, no_room}
-use Rattle.recorder.specs.declared.complaint.Complaint.TheVariants as complaints
+use Rattle.trace_advice.specs.declared.complaint.Complaint.TheVariants as complaints
 use Rattle.script_port.specs.declared.fault.SimFault.{SimFault}
 use Rattle.recorder.proofs.commands.serve_stream.Goals as goal
 

@@ -1,7 +1,7 @@
 -- What is told of a command that ended before its end.
 use Rattle.std.specs.Prelude.{ℕ}
-use Rattle.recorder.specs.declared.complaint.Complaint.{Complaint}
-use Rattle.recorder.specs.declared.complaint.Complaint.TheVariants as complaints
+use Rattle.trace_advice.specs.declared.complaint.Complaint.{Complaint}
+use Rattle.trace_advice.specs.declared.complaint.Complaint.TheVariants as complaints
 use Rattle.script_port.specs.Faults.{status_of}
 
 -- the exit status

@@ -1,14 +1,14 @@
 //! What is told of a fault on standard error: a line, and after it what to do next.
 ghost use Rattle.std.specs.Prelude.{◌≡◌, None, IsTrue};
-ghost use Rattle.recorder.specs.Complaints.{status_told};
-ghost use Rattle.recorder.specs.declared.complaint.Complaint.TheVariants as complaints;
+ghost use Rattle.trace_advice.specs.Complaints.{status_told};
+ghost use Rattle.trace_advice.specs.declared.complaint.Complaint.TheVariants as complaints;
 ghost use Rattle.script_port.specs.declared.fault.SimFault.TheVariants as faults;
 
 use recovery::RecoverFault;
 use script_port::{Refusal, SimFault};
 use std::alloc::AllocError;
 use std::{fmt, io};
-use trace_info::Shown;
+use trace_places::Shown;
 use trace_port::{PortFault, ResumeFault};
 
 /// What a person can do next, or has to know.

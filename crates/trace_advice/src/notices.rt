@@ -3,8 +3,7 @@
 use command_line::{Asked, Wanted};
 use script_port::Origin;
 use segment::StoreSpec;
-use trace_info::Shown;
-use trace_places::{Found, Kind};
+use trace_places::{Found, Kind, Shown};
 
 /// Names the options that mean nothing to a trace of one file.
 pub fn tell_idle_on_file(rt: &HostRuntime, asked: &Asked<'_>) {

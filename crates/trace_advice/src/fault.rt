@@ -1,6 +1,6 @@
 //! What the fault of a reading is among those that end a run.
 ghost use Rattle.std.specs.Prelude.{◌≡◌};
-ghost use Rattle.recorder.specs.Faults.{read_fault};
+ghost use Rattle.trace_advice.specs.Faults.{read_fault};
 
 use script_port::{Refusal, SimFault};
 use trace_reader::ReadFault;
