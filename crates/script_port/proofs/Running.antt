@@ -10,10 +10,10 @@ use Rattle.trace_store.specs.Device.{Device, Leaves, IsIdle}
 use Rattle.trace_port.specs.Clocks.{clock_sealed}
 use Rattle.trace_port.specs.Sound.{Sound}
 use Rattle.trace_port.specs.Port.{Told, Fits, AreSealed, gate_behind, has_sealed, Ends}
+use Rattle.trace_port.specs.PortCalls.{Finishes}
 use Rattle.trace_port.proofs.Leaving.{both, stays_idle}
 use Rattle.trace_port.proofs.Lending.{ends_after}
 use Rattle.tracees.specs.Effects.{Effect, items_in, covered_by, Calls}
-use Rattle.tracees.specs.PortCalls.{Finishes}
 use Rattle.tracees.specs.Lent.{IsAsOpened}
 use Rattle.tracees.proofs.Composed.{IsStill, items_in-append, covered_more, behind, calls_both, no_call}
 use Rattle.script_port.specs.declared.answer.Answer.{Answer}

@@ -5,9 +5,9 @@ use Rattle.std.proofs.lemmas.List.Elements.{All-nil, All-append, All-push}
 use Rattle.std.proofs.KnownBytes.{Consumes-nil}
 use Rattle.std.specs.Io.KnownBytes.{Appends}
 use Rattle.trace_port.specs.Port.{Told}
+use Rattle.trace_port.specs.PortCalls.{Finishes}
 use Rattle.trace_message.specs.declared.event.Stamp.{Stamp}
 use Rattle.tracees.specs.Desks.{DeskState, Seat}
-use Rattle.tracees.specs.PortCalls.{Finishes}
 use Rattle.tracees.specs.Effects.{Effect}
 use Rattle.trace_script.specs.Lines.{IsOfFiles}
 use Rattle.trace_script.specs.Reading.{Progress, HasNext, HasEnded, HasStopped, Breaks, AreTaken, AreGiven, TellsNext, IsSilent}

@@ -3,9 +3,9 @@ use Rattle.std.proofs.Common.{◌≡◌, ℕ, Option, Some, None, List, [], ◌�
 use Rattle.std.proofs.lemmas.List.{append-nil}
 use Rattle.std.specs.Io.KnownBytes.{Appends}
 use Rattle.trace_port.specs.Port.{Told}
+use Rattle.trace_port.specs.PortCalls.{Finishes}
 use Rattle.tracees.specs.Books.{no_totals}
 use Rattle.tracees.specs.Desks.{DeskState}
-use Rattle.tracees.specs.PortCalls.{Finishes}
 use Rattle.script_port.specs.declared.reply.Leave.{Leave}
 use Rattle.script_port.specs.Sides.{Held, Alone, AtDesk, first_side, new_side}
 use Rattle.script_port.specs.Held.{Exchange, AreAsked, ends, reply_text, written, IsLetGo, IsAtDesk}

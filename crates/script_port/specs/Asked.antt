@@ -6,10 +6,9 @@ use Rattle.trace_script.specs.declared.line.Unsynced.{Unsynced}
 use Rattle.trace_port.specs.Port.{Told}
 use Rattle.trace_port.specs.Ticks.{due, ticked}
 use Rattle.trace_port.specs.Calls.{taken, went}
-use Rattle.trace_port.specs.Accepts.{Accepts}
+use Rattle.trace_port.specs.PortCalls.{Accepts, Flushes, Seals, Ticks, Abandons}
 use Rattle.trace_port.specs.declared.fault.PortFault.{PortFault}
 use Rattle.tracees.specs.Effects.{Effect, effect, no_effect}
-use Rattle.tracees.specs.PortCalls.{Flushes, Seals, Ticks, Abandons}
 use Rattle.trace_script.specs.declared.line.Line.{Line}
 use Rattle.trace_script.specs.declared.line.Line.TheVariants as lines
 use Rattle.trace_script.specs.declared.desk_line.DeskLine.{DeskLine}

@@ -6,9 +6,9 @@ use Rattle.recovery.specs.Views.{View}
 use Rattle.trace_store.specs.Device.{Device, Leaves, IsIdle}
 use Rattle.trace_port.specs.Sound.{Sound}
 use Rattle.trace_port.specs.Port.{Told, Fits, Ends}
+use Rattle.trace_port.specs.PortCalls.{Finishes}
 use Rattle.tracees.specs.Desks.{DeskState}
 use Rattle.tracees.specs.Effects.{Effect, items_in, covered_by}
-use Rattle.tracees.specs.PortCalls.{Finishes}
 use Rattle.tracees.specs.Lent.{IsAsOpened}
 use Rattle.trace_script.specs.declared.line.Line.{Line}
 use Rattle.script_port.specs.declared.answer.Answer.{Answer}

@@ -93,7 +93,7 @@ pub fn new_tracee(
 ) -> Result<Tracee, TraceeFault>
     requires { number ≤ 999 }
     ensures made { IfOk result (IsNew number capacity drop_limit flags) }
-    ensures fits { OnOk result (IsBadSpec capacity drop_limit → ⊥) }
+    ensures good_spec { OnOk result (IsBadSpec capacity drop_limit → ⊥) }
     ensures due { IfErr result (λ fault. IsDue fault capacity drop_limit) }
 {
     let pid = pid(alloc, number)?;

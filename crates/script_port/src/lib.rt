@@ -17,7 +17,7 @@ pub use answers::Answers;
 pub use desk_lines::run_desk;
 pub use fault::SimFault;
 pub use opening::AnyOpening;
-pub use port_lines::{abandon, flush, hold_file, hold_wrap, put, seal, tick};
+pub use port_lines::{hold_file, hold_wrap};
 pub use reading::next_line;
 pub use refusal::{HandRefusal, Refusal};
 pub use reply::{Leave, Origin, Stop};

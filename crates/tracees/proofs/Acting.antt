@@ -10,7 +10,7 @@ use Rattle.intake.specs.declared.fault.EmitFault.{EmitFault}
 use Rattle.tracees.specs.Desks.{Seat, SameBook}
 use Rattle.tracees.specs.Emits.{Emits}
 use Rattle.tracees.specs.Hands.{HandsOver, FlushesFor}
-use Rattle.tracees.specs.PortCalls.{Flushes, Seals, Ticks}
+use Rattle.trace_port.specs.PortCalls.{Flushes, Seals, Ticks}
 use Rattle.tracees.specs.States.{place_of, seat_of, places_with, state_of}
 use Rattle.tracees.specs.Steps.{ActsOn, ActsFor, ActsAlone, NoSeat, NoTracee, NoDesk, nowhere, AreNumbered, IsStep, emits, hands_over, flushes_for, flushes, seals, ticks, offer_reply, hand_reply, flush_reply, seal_reply, tick_reply}
 use Rattle.tracees.specs.declared.book.Bookkeeping.{Ghosts as BookGhosts}

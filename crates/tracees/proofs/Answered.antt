@@ -10,13 +10,13 @@ use Rattle.intake.specs.declared.tracee.Tracee.{Tracee}
 use Rattle.intake.proofs.ListLemmas.{few_entries}
 use Rattle.trace_port.specs.Port.{Told, Grows}
 use Rattle.trace_port.specs.Calls.{went}
+use Rattle.trace_port.specs.PortCalls.{Flushes}
 use Rattle.trace_port.specs.declared.fault.PortFault.{PortFault}
 use Rattle.trace_port.specs.declared.fault.PortFault.TheVariants as faults
 use Rattle.tracees.specs.Desks.{DeskState, Seat}
 use Rattle.tracees.specs.Effects.{effect, Calls}
 use Rattle.tracees.specs.Hands.{TakesInOrder, Moves, HandsOver, FlushesFor, items_moved, has_gone, receipt_of, moves, is_refused, no_memory, is_stranger, covers, flush_fails}
 use Rattle.tracees.specs.Moving.{HasNoRoom}
-use Rattle.tracees.specs.PortCalls.{Flushes}
 use Rattle.tracees.specs.declared.receipt.Receipt.{Receipt}
 use Rattle.tracees.specs.declared.receipt.HandFault.{HandFault}
 use Rattle.tracees.specs.declared.receipt.HandFault.TheVariants as hands

@@ -11,6 +11,7 @@ use Rattle.trace_store.specs.Moments.{Rose}
 use Rattle.trace_store.specs.Device.{Device}
 use Rattle.trace_port.specs.Port.{Told, AreSealed, Fits, Grows, IsSaved, Ends, has_sealed}
 use Rattle.trace_port.specs.Calls.{IsCovered, HasFailed}
+use Rattle.trace_port.specs.PortCalls.{Finishes}
 use Rattle.trace_port.specs.declared.status.PortState.{PortState}
 use Rattle.trace_port.specs.declared.status.PortState.TheVariants.{Live, Broken, Sealed}
 use Rattle.trace_port.specs.declared.fault.PortFault.{PortFault}
@@ -21,7 +22,6 @@ use Rattle.tracees.specs.Desks.{DeskState, Seat}
 use Rattle.tracees.specs.Effects.{effect, Calls}
 use Rattle.tracees.specs.Hands.{TakesInOrder, none_left, takes_one, fails_at, stops_at, HandsOver, moved_by, items_moved, moves, is_refused, no_memory, is_stranger}
 use Rattle.tracees.specs.Lent.{first_seat, HandsOne}
-use Rattle.tracees.specs.PortCalls.{Finishes}
 use Rattle.tracees.specs.declared.book.Totals.{Totals}
 use Rattle.tracees.specs.declared.receipt.Receipt.{Receipt}
 use Rattle.tracees.specs.declared.receipt.HandFault.{HandFault}

@@ -12,7 +12,7 @@ use Rattle.intake.specs.Tracees.{waiting_of, CountsGrow, SameSetup}
 use Rattle.intake.specs.declared.front.Front.{Front}
 use Rattle.intake.specs.declared.tracee.Tracee.{Tracee}
 use Rattle.trace_port.specs.Port.{Told}
-use Rattle.trace_port.specs.Accepts.{Accepts}
+use Rattle.trace_port.specs.PortCalls.{Accepts}
 use Rattle.trace_port.specs.declared.fault.PortFault.{PortFault}
 use Rattle.trace_port.specs.declared.fault.PortFault.TheVariants as faults
 use Rattle.intake.proofs.ListLemmas.{messages_in-append, drops_in-append}

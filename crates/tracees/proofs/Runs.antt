@@ -12,10 +12,10 @@ use Rattle.trace_port.specs.Sound.{Sound}
 use Rattle.trace_port.specs.Port.{Told, Fits}
 use Rattle.trace_port.specs.Ticks.{due, ticked, cut_if}
 use Rattle.trace_port.specs.Calls.{went}
+use Rattle.trace_port.specs.PortCalls.{Ticks}
 use Rattle.trace_port.specs.declared.fault.PortFault.{PortFault}
 use Rattle.trace_port.specs.declared.fault.PortFault.TheVariants as faults
 use Rattle.tracees.specs.Desks.{DeskState, Seat}
-use Rattle.tracees.specs.PortCalls.{Ticks}
 use Rattle.tracees.specs.Hands.{HandsOver, FlushesFor, moves, is_refused, no_memory, is_stranger, covers, flush_fails, items_moved, has_gone}
 use Rattle.tracees.specs.Steps.{State, ActsOn, IsStep, emits, hands_over, flushes_for, flushes, seals, ticks, emit_unknown, hand_unknown, flush_for_unknown, flush_unknown, seal_unknown, tick_unknown, hand_reply, flush_reply, seal_reply, tick_reply, Run, ends, goes_on}
 use Rattle.tracees.specs.Effects.{Effect, effect, no_effect, items_in, covered_by, Calls, received, receipt_in, is_receipt, is_acknowledged, has_cut, effect_at, effects_at}

@@ -5,14 +5,13 @@ use Rattle.entry_codec.specs.Seen.{views}
 use Rattle.recovery.specs.Items.{Item, Kept}
 use Rattle.trace_port.specs.Port.{Told}
 use Rattle.trace_port.specs.Calls.{IsRefused}
-use Rattle.trace_port.specs.Accepts.{Accepts}
+use Rattle.trace_port.specs.PortCalls.{Accepts, Flushes}
 use Rattle.trace_port.specs.declared.fault.PortFault.{PortFault}
 use Rattle.trace_port.specs.declared.fault.PortFault.TheVariants as faults
 use Rattle.intake.specs.WaitingLists.{messages_in}
 use Rattle.intake.specs.Tracees.{waiting_of, CountsGrow, SameSetup}
 use Rattle.tracees.specs.Books.{added, all_flushed, IsWithin}
 use Rattle.tracees.specs.Desks.{DeskState, Seat, SameBook, BookCovers}
-use Rattle.tracees.specs.PortCalls.{Flushes}
 use Rattle.tracees.specs.declared.book.Totals.{Totals}
 use Rattle.tracees.specs.declared.receipt.Receipt.{Receipt}
 use Rattle.tracees.specs.declared.receipt.HandFault.{HandFault}

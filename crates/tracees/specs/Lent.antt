@@ -3,11 +3,11 @@ use Rattle.std.specs.Prelude.{◌≡◌, ℕ, [], Result}
 use Rattle.segment.specs.Specification.{File}
 use Rattle.trace_store.specs.Device.{Device, IsIdle}
 use Rattle.trace_port.specs.Port.{Told, Ends}
+use Rattle.trace_port.specs.PortCalls.{Finishes}
 use Rattle.intake.specs.declared.tracee.Tracee.{Tracee}
 use Rattle.tracees.specs.Books.{no_totals}
 use Rattle.tracees.specs.Desks.{DeskState, Seat}
 use Rattle.tracees.specs.Hands.{HandsOver}
-use Rattle.tracees.specs.PortCalls.{Finishes}
 use Rattle.tracees.specs.declared.receipt.Receipt.{Receipt}
 use Rattle.tracees.specs.declared.receipt.HandFault.{HandFault}
 

@@ -11,7 +11,6 @@ pub mod Loans
 pub mod Meanings
 pub mod Moments
 pub mod Moving
-pub mod PortCalls
 pub mod Prefixes
 pub mod Settled
 pub mod States

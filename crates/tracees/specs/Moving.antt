@@ -2,7 +2,7 @@
 use Rattle.std.specs.Prelude.{◌≡◌, ◌≢◌, ℕ, List, [], ◌∷◌, ◌++◌, Option, Some, None, Result, Ok, Err}
 use Rattle.entry_codec.specs.Entries.{Entry, lost_by}
 use Rattle.trace_port.specs.Port.{Told}
-use Rattle.trace_port.specs.Accepts.{Accepts}
+use Rattle.trace_port.specs.PortCalls.{Accepts}
 use Rattle.trace_port.specs.declared.fault.PortFault.{PortFault}
 use Rattle.trace_port.specs.declared.fault.PortFault.TheVariants as faults
 use Rattle.intake.specs.WaitingLists.{messages_in}

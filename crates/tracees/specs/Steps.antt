@@ -3,12 +3,12 @@ use Rattle.std.specs.Prelude.{◌≡◌, ℕ, Bool, List, [], ◌∷◌, set, sl
 use Rattle.trace_message.specs.declared.event.Event.{Event}
 use Rattle.trace_message.specs.declared.event.Stamp.{Stamp}
 use Rattle.trace_port.specs.Port.{Told}
+use Rattle.trace_port.specs.PortCalls.{Flushes, Seals, Ticks}
 use Rattle.trace_port.specs.declared.fault.PortFault.{PortFault}
 use Rattle.intake.specs.declared.offer.Offer.{Offer}
 use Rattle.intake.specs.declared.fault.EmitFault.{EmitFault}
 use Rattle.tracees.specs.Desks.{DeskState, Seat, SameBook}
 use Rattle.tracees.specs.Emits.{Emits}
-use Rattle.tracees.specs.PortCalls.{Flushes, Seals, Ticks}
 use Rattle.tracees.specs.Hands.{HandsOver, FlushesFor}
 use Rattle.tracees.specs.declared.receipt.Receipt.{Receipt}
 use Rattle.tracees.specs.declared.receipt.HandFault.{HandFault}

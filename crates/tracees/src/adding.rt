@@ -59,7 +59,7 @@ fn join_all<F: Ledger, U: Ledger, D: Ledger, N: Ledger + Numbered>(
     ensures result { (result.flushed ≡ account.slip.flushed.count) × (result.unflushed ≡ account.slip.unflushed.count) × (result.drops ≡ account.slip.drops.count) × (result.accounts ≡ 1) }
     ensures amounts { (joined.new.flushed.amount ≡ joined.old.flushed.amount + result.flushed) × (joined.new.unflushed.amount ≡ joined.old.unflushed.amount + result.unflushed) × (joined.new.drops.amount ≡ joined.old.drops.amount + result.drops) × (joined.new.accounts.amount ≡ joined.old.accounts.amount + 1) }
     ensures parts { (joined.new.flushed.parts ≡ joined.old.flushed.parts + 1) × (joined.new.unflushed.parts ≡ joined.old.unflushed.parts + 1) × (joined.new.drops.parts ≡ joined.old.drops.parts + 1) × (joined.new.accounts.parts ≡ joined.old.accounts.parts + 1) }
-    ensures fits { result.flushed + result.unflushed < 2 ^ 64 }
+    ensures in_range { result.flushed + result.unflushed < 2 ^ 64 }
 {
     let Account { slip } = account;
     let LedgerAccount {
@@ -82,7 +82,7 @@ fn part_all<F: Ledger, U: Ledger, D: Ledger, N: Ledger + Numbered>(
     one: Counted,
 ) -> Account<LedgerBook<F, U, D, N>>
     requires one { one.accounts ≡ 1 }
-    requires fits { one.flushed + one.unflushed < 2 ^ 64 }
+    requires in_range { one.flushed + one.unflushed < 2 ^ 64 }
     requires parts { (0 < joined.old.flushed.parts) × (0 < joined.old.unflushed.parts) × (0 < joined.old.drops.parts) × (0 < joined.old.accounts.parts) }
     requires amounts { (one.flushed ≤ joined.old.flushed.amount) × (one.unflushed ≤ joined.old.unflushed.amount) × (one.drops ≤ joined.old.drops.amount) × (one.accounts ≤ joined.old.accounts.amount) }
     requires last { (joined.old.flushed.parts ≡ 1 → joined.old.flushed.amount ≡ one.flushed) × (joined.old.unflushed.parts ≡ 1 → joined.old.unflushed.amount ≡ one.unflushed) × (joined.old.drops.parts ≡ 1 → joined.old.drops.amount ≡ one.drops) × (joined.old.accounts.parts ≡ 1 → joined.old.accounts.amount ≡ one.accounts) }
@@ -109,7 +109,7 @@ fn audit_joined<F: Ledger, U: Ledger, D: Ledger, N: Ledger + Numbered>(
     ensures parts { (joined.new.flushed.parts ≡ joined.old.flushed.parts) × (joined.new.unflushed.parts ≡ joined.old.unflushed.parts) × (joined.new.drops.parts ≡ joined.old.drops.parts) × (joined.new.accounts.parts ≡ joined.old.accounts.parts) }
     ensures within { (joined.old.flushed.amount ≤ book.old.flushed.count) × (joined.old.unflushed.amount ≤ book.old.unflushed.count) × (joined.old.drops.amount ≤ book.old.drops.count) × (joined.old.accounts.amount ≤ book.old.accounts.count) }
     ensures backed { (joined.old.flushed.parts ≡ 0 → joined.old.flushed.amount ≡ 0) × (joined.old.unflushed.parts ≡ 0 → joined.old.unflushed.amount ≡ 0) × (joined.old.drops.parts ≡ 0 → joined.old.drops.amount ≡ 0) × (joined.old.accounts.parts ≡ 0 → joined.old.accounts.amount ≡ 0) }
-    ensures fits { book.old.drops.count < 2 ^ 64 }
+    ensures in_range { book.old.drops.count < 2 ^ 64 }
 {
     let LedgerBook {
         flushed,
@@ -177,7 +177,7 @@ impl<F: Ledger, U: Ledger, D: Ledger, N: Ledger + Numbered> LedgerBook<F, U, D, 
     /// What the book counts.
     fn counted(&self) -> Counted
         ensures counts { (result.flushed ≡ self.now.flushed.count) × (result.unflushed ≡ self.now.unflushed.count) × (result.drops ≡ self.now.drops.count) × (result.accounts ≡ self.now.accounts.count) }
-        ensures fits { result.flushed + result.unflushed < 2 ^ 64 }
+        ensures in_range { result.flushed + result.unflushed < 2 ^ 64 }
     {
         Counted {
             flushed: self.flushed.count(),

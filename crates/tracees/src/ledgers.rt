@@ -122,7 +122,7 @@ impl<L: Ledger> BookCount<L> {
         ensures parts { share.new.parts ≡ share.old.parts }
         ensures within { share.old.amount ≤ self.old.count }
         ensures backed { share.old.parts ≡ 0 → share.old.amount ≡ 0 }
-        ensures fits { self.old.count < 2 ^ 64 }
+        ensures in_range { self.old.count < 2 ^ 64 }
     {
         let _count = self.count;
         self.book.audit(share);
@@ -142,7 +142,7 @@ pub struct LedgerBook<F: Ledger, U: Ledger, D: Ledger, N: Ledger + Numbered> {
     ghost drops_parts: { drops.rest.parts + accounts.count ≡ 4294967296 },
     ghost accounts_parts: { accounts.rest.parts + accounts.count ≡ 4294967296 },
     ghost few: { accounts.count < 4294967296 },
-    ghost fits: { flushed.count + unflushed.count < 2 ^ 64 },
+    ghost in_range: { flushed.count + unflushed.count < 2 ^ 64 },
 }
 
 /// An account of a book of ledgers: a share of each, and one for itself in the number of accounts.
@@ -153,7 +153,7 @@ pub struct LedgerAccount<F: Ledger, U: Ledger, D: Ledger, N: Ledger + Numbered> 
     pub(crate) drops: AccountCount<D>,
     pub(crate) account: AccountCount<N>,
     ghost one: { account.count ≡ 1 },
-    ghost fits: { flushed.count + unflushed.count < 2 ^ 64 },
+    ghost in_range: { flushed.count + unflushed.count < 2 ^ 64 },
 }
 
 impl<F: Ledger, U: Ledger, D: Ledger, N: Ledger + Numbered> LedgerBook<F, U, D, N> {

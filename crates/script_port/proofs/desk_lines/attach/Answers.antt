@@ -62,5 +62,5 @@ returns-clause-step g c =
       did = attached_there g.P.TracePort.told old (desk_seen g.P.TracePort c.attach.new.self) (map seat_seen c.push_reserved.new.self.items) (seat_seen c.attach.result) c.args.number c.args.capacity c.args.drop_limit c.args.flags c.in-Ok.tracee
           made.number made.port made.totals made.attached made.desk made.tracee made.account
           (ap (map seat_seen) (c.push_reserved.ensures.items ∙ ap (λ l. l ++ c.attach.result ∷ []) c.reserve.ensures.items) ∙ map-append seat_seen items (c.attach.result ∷ []))
-          (is_nowhere items c.args.number c.place.result c.is_some.result c.place.ensures c.is_some.ensures c.if-is_some.false) (c.in-Ok.ensures.fits) c.in-Ok.ensures.made;
+          (is_nowhere items c.args.number c.place.result c.is_some.result c.place.ensures c.is_some.ensures c.if-is_some.false) (c.in-Ok.ensures.good_spec) c.in-Ok.ensures.made;
     }
