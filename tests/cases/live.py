@@ -34,6 +34,11 @@ WRAP = ("--kind", "wrap", "--size", "8K")
 # bytes that take the wrap round
 A_LAP = 200_000
 
+# wraps that are listed and exported from their beginning on, how often each, and the entries that take each round
+BEGUN = 64
+LOOKS = 4
+ENTRIES = 4_000
+
 
 def entry(number):
     """An entry that says its own number."""
@@ -122,27 +127,41 @@ def a_file_that_is_written_is_never_refused(program):
 
 
 @case
-def a_wrap_that_is_written_is_not_refused(program):
-    windows, refusals = [], 0
+def a_wrap_that_is_written_is_never_refused(program):
+    windows = []
     with program.start("import", "w", *WRAP) as importer:
         same(importer.line(), "created")
         with Feeder(importer) as feeder:
             feeder.wait(A_LAP)
             for turn in range(TRIES):
                 command = ("list", "export")[turn % 2]
-                ran = program.run(command, "w", *WRAP[:2])
-                while ran.status != 0:
-                    # the machine is so busy that the wrap turned during each of five readings
-                    same((ran.output, ran.errors.decode().splitlines()[1:]), (b"", [ADVICE]))
-                    refusals += 1
-                    ran = program.run(command, "w", *WRAP[:2])
-                same(ran.errors, b"")
-                windows.append(shown_first(command, ran.output))
+                windows.append(shown_first(command, program.good(command, "w", *WRAP[:2])))
                 feeder.tries += 1
         same(importer.end().status, 0)
     never_goes_back(windows)
     assert windows[0][0] < windows[-1][0], "it didn't turn meanwhile"
-    assert refusals <= TRIES // 50, refusals
+
+
+@case
+def a_wrap_that_is_begun_is_never_refused(program):
+    """Its files are made while it is listed and exported: what isn't there at first is there at the next look."""
+    entries = b"".join(entry(number) for number in range(ENTRIES))
+    for number in range(BEGUN):
+        windows = []
+        name = f"b{number}."
+        command = ("list", "export")[number % 2]
+        with program.start("import", name, *WRAP) as importer:
+            same(importer.line(), "created")
+            # the first file is made before each listing, and the others at another moment of each
+            feeding = threading.Timer(number % 16 * PAUSE / 4, importer.write, (entries,))
+            feeding.start()
+            for _ in range(LOOKS):
+                windows.append(shown_first(command, program.good(command, name, *WRAP[:2])))
+            feeding.join()
+            same(importer.end().status, 0)
+        windows.append(shown_first(command, program.good(command, name, *WRAP[:2])))
+        never_goes_back(windows)
+        same(sum(windows[-1]), ENTRIES)
 
 
 @case

@@ -50,14 +50,14 @@ def a_large_wrap_that_is_written_is_listed_and_exported_in_8_too(program):
         same(importer.end().status, 0)
 
 
-def written_in_8(program, wrap, size, count):
+def written_in_8(program, wrap, size, count, entries):
     """A wrap that is written is listed and exported in 8 MB, as its entries are kept."""
-    entries = [message(bytes(95 + number % 3)) for number in range(60_000)]
+    last = f"\n{len(entries) - 1} opaque ".encode()
     with program.start("import", "t", *wrap) as importer:
         same(importer.line(), "created")
         importer.write(b"".join(entries))
         deadline = time.monotonic() + PATIENCE
-        while b"59999 opaque" not in program.run("list", "t", *wrap[:2]).output:
+        while last not in program.run("list", "t", *wrap[:2]).output:
             assert time.monotonic() < deadline
         first, kept = window(entries, size, count)
         exported = program.run("export", "t", *wrap[:2], before=SMALL)
@@ -71,12 +71,24 @@ def written_in_8(program, wrap, size, count):
 
 @case
 def a_standard_wrap_that_is_written_is_listed_and_exported_in_8(program):
-    written_in_8(program, ("--kind", "wrap"), 131_072, 8)
+    entries = [message(bytes(95 + number % 3)) for number in range(60_000)]
+    written_in_8(program, ("--kind", "wrap"), 131_072, 8, entries)
+
+
+@case
+def a_standard_wrap_of_messages_of_1_byte_that_is_written_is_listed_and_exported_in_8(program):
+    written_in_8(program, ("--kind", "wrap"), 131_072, 8, [message(bytes(1))] * 250_000)
+
+
+@case
+def a_standard_wrap_of_messages_of_10_bytes_that_is_written_is_listed_and_exported_in_8(program):
+    written_in_8(program, ("--kind", "wrap"), 131_072, 8, [message(bytes(10))] * 120_000)
 
 
 @case
 def a_wrap_of_5_megabytes_that_is_written_is_listed_and_exported_in_8(program):
-    written_in_8(program, ("--kind", "wrap", "--size", "1000000", "--count", "5"), 1_000_000, 5)
+    entries = [message(bytes(95 + number % 3)) for number in range(60_000)]
+    written_in_8(program, ("--kind", "wrap", "--size", "1000000", "--count", "5"), 1_000_000, 5, entries)
 
 
 @case

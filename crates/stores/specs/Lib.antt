@@ -13,3 +13,5 @@ pub mod FolderStore
 pub mod MemDisk
 pub mod Crashes
 pub mod MemStore
+pub mod CopyLaws
+pub mod CopyStore
