@@ -1,14 +1,12 @@
--- What a sieve holds as a writer, as it takes bytes.
-use Rattle.std.proofs.Common.{◌≡◌, ℕ, zero, suc, ◌+◌, Bool, true, false, cond, not, Option, Some, None, Result, Ok, Err, OnOk, OnErr, IfOk, List, [], ◌∷◌, ◌++◌, length, take, drop, refl, sym, ◌∙◌, ap, subst, append_assoc, nat_eq, nat_lt, arith, take-append-drop}
-use Rattle.std.proofs.Math.Seq.{take-length, take-append_seam}
+-- What a writer of lines holds as a writer, as it takes bytes.
+use Rattle.std.proofs.Common.{◌≡◌, ℕ, ◌+◌, true, false, cond, not, Option, Some, Result, Ok, Err, OnOk, OnErr, IfOk, List, [], ◌∷◌, ◌++◌, length, take, drop, refl, sym, ◌∙◌, ap, subst, append_assoc, nat_eq, arith, take-append-drop}
+use Rattle.std.proofs.Math.Seq.{take-append_seam}
 use Rattle.std.proofs.KnownBytes.{Keeps-refl}
 use Rattle.std.specs.Io.KnownBytes.{Appends, Keeps, WriteAppends}
 use Rattle.std.specs.List.{position, position_or_len}
 use Rattle.std.proofs.lemmas.Bool.{eqb-true}
-use Rattle.chosen_lines.specs.declared.choice.Choice.{Choice}
 use Rattle.chosen_lines.specs.declared.given.Given.{Given}
-use Rattle.chosen_lines.specs.Asks.{asks_of}
-use Rattle.chosen_lines.specs.Sifted.{counted, after_counted, numbers_of, sieve_contents}
+use Rattle.chosen_lines.specs.Held.{counted, after_counted, line_contents}
 use Rattle.chosen_lines.proofs.Holding.{with_more}
 use Rattle.chosen_lines.proofs.WordLemmas.{position-is}
 
@@ -16,28 +14,23 @@ pub counted-append : (parts : List (Option (List ℕ))) (text more : List ℕ) �
 counted-append [] text more = refl
 counted-append (one ∷ parts) text more = ap (λ rest. counted one ++ rest) (counted-append parts text more) ∙ sym (append_assoc (counted one) (after_counted parts text) more)
 
--- a sieve of this choice, which was given this
-abbrev holds : Choice → Given → Option (List ℕ)
-holds choice given = sieve_contents (asks_of choice) given.start given.bytes
+-- one whose rule has these numbers, which was given this
+abbrev holds : List (Option (List ℕ)) → Given → Option (List ℕ)
+holds numbers given = line_contents numbers given.start given.bytes
 
-grows : (choice : Choice) (given : Given) (part : List ℕ) → Appends (holds choice given) (holds choice (with_more given part)) part
-unfolding sieve_contents
-grows choice given part = counted-append (given.start ∷ numbers_of (asks_of choice)) given.bytes part
-
-pub contents-grow : (choice later : Choice) (given after : Given) (part : List ℕ) → later ≡ choice → after ≡ with_more given part → Appends (holds choice given) (holds later after) part
-contents-grow choice later given after part same came =
-    subst (λ c. Appends (holds choice given) (holds c after) part) (sym same) (subst (λ g. Appends (holds choice given) (holds choice g) part) (sym came) (grows choice given part))
-
-pub contents-stay : (choice later : Choice) (given after : Given) → later ≡ choice → after ≡ given → Keeps (holds choice given) (holds later after)
-contents-stay choice later given after same none =
-    subst (λ c. Keeps (holds choice given) (holds c after)) (sym same) (subst (λ g. Keeps (holds choice given) (holds choice g)) (sym none) (Keeps-refl (holds choice given)))
+grows : (numbers : List (Option (List ℕ))) (given : Given) (part : List ℕ) → Appends (holds numbers given) (holds numbers (with_more given part)) part
+unfolding line_contents
+grows numbers given part = ap (λ rest. length numbers ∷ rest) (counted-append (given.start ∷ numbers) given.bytes part)
 
 -- the whole part was taken, or none of it
-pub contents-taken : {E : Type 0} (result : Result ℕ E) (choice later : Choice) (given after : Given) (part bytes : List ℕ) → part ≡ take (length part) bytes → later ≡ choice → OnOk result (after ≡ with_more given part) → IfOk result (λ count. count ≡ length part) → OnErr result (after ≡ given)
-    → WriteAppends (holds choice given) (holds later after) result bytes
-contents-taken (Ok count) choice later given after part bytes front same came all none =
-    subst (Appends (holds choice given) (holds later after)) (front ∙ ap (λ n. take n bytes) (sym all)) (contents-grow choice later given after part same came)
-contents-taken (Err fault) choice later given after part bytes front same came all none = contents-stay choice later given after same none
+pub contents-taken : {E : Type 0} (result : Result ℕ E) (numbers later : List (Option (List ℕ))) (given after : Given) (part bytes : List ℕ) → part ≡ take (length part) bytes → later ≡ numbers → OnOk result (after ≡ with_more given part) → IfOk result (λ count. count ≡ length part) → OnErr result (after ≡ given)
+    → WriteAppends (holds numbers given) (holds later after) result bytes
+contents-taken (Ok count) numbers later given after part bytes front same came all none =
+    let grown : Appends (holds numbers given) (holds numbers after) part = subst (λ g. Appends (holds numbers given) (holds numbers g) part) (sym came) (grows numbers given part) in
+    let by_count : Appends (holds numbers given) (holds numbers after) (take count bytes) = subst (Appends (holds numbers given) (holds numbers after)) (front ∙ ap (λ n. take n bytes) (sym all)) grown in
+    subst (λ n. Appends (holds numbers given) (holds n after) (take count bytes)) (sym same) by_count
+contents-taken (Err fault) numbers later given after part bytes front same came all none =
+    subst (λ n. Keeps (holds numbers given) (holds n after)) (sym same) (subst (λ g. Keeps (holds numbers given) (holds numbers g)) (sym none) (Keeps-refl (holds numbers given)))
 
 -- a front of bytes
 pub front-is : (n : ℕ) (bytes : List ℕ) → take n bytes ≡ take (length (take n bytes)) bytes

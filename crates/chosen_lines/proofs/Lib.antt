@@ -1,6 +1,6 @@
 pub mod Contents
+pub mod Handed
 pub mod Holding
 pub mod LineLemmas
 pub mod Numbers
-pub mod Sifting
 pub mod WordLemmas

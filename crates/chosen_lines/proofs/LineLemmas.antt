@@ -1,9 +1,10 @@
 -- Lines of a text that grows.
-use Rattle.std.proofs.Common.{◌≡◌, ℕ, suc, ◌+◌, ◌≤◌, Bool, true, false, not, cond, Option, Some, None, List, [], ◌∷◌, ◌++◌, length, take, refl, sym, ◌∙◌, ap, subst, append_assoc, append-nil, nat_eq, nat_lt, if◌then◌else◌, arith}
+use Rattle.std.proofs.Common.{◌≡◌, ℕ, suc, ◌+◌, true, false, not, cond, Some, None, List, [], ◌∷◌, ◌++◌, take, flat_map, refl, sym, ◌∙◌, ap, subst, append_assoc, append-nil, nat_eq, if◌then◌else◌, arith}
 use Rattle.std.specs.List.{position, position_or_len}
 use Rattle.std.proofs.Math.Seq.{take_all}
+use Rattle.std.proofs.lemmas.Grind.{flat_map-append}
 use Rattle.chosen_lines.proofs.WordLemmas.{position-is, position-none}
-use Rattle.chosen_lines.specs.Lines.{lines_after, rest_after, let_through, chosen}
+use Rattle.chosen_lines.specs.Lines.{lines_after, rest_after, handed_on}
 
 pub rest_after-append : (part xs ys : List ℕ) → rest_after part (xs ++ ys) ≡ rest_after (rest_after part xs) ys
 rest_after-append part [] ys = refl
@@ -26,15 +27,6 @@ lines_after-append part (x ∷ xs) ys =
       | false ↦ grown
     ]
 
-pub let_through-append : (lets : List ℕ → Bool) (xs ys : List (List ℕ)) → let_through lets (xs ++ ys) ≡ let_through lets xs ++ let_through lets ys
-let_through-append lets [] ys = refl
-let_through-append lets (x ∷ xs) ys =
-    let more = let_through-append lets xs ys in
-    elim (lets x) as (λ b. (if b then x ++ 10 ∷ let_through lets (xs ++ ys) else let_through lets (xs ++ ys)) ≡ (if b then x ++ 10 ∷ let_through lets xs else let_through lets xs) ++ let_through lets ys) [
-      | true ↦ ap (λ text. x ++ 10 ∷ text) more ∙ sym (append_assoc x (10 ∷ let_through lets xs) (let_through lets ys))
-      | false ↦ more
-    ]
-
 -- where no line ends, what came before stands before the rest
 pub rest_after-part : (part xs : List ℕ) → lines_after part xs ≡ [] → rest_after part xs ≡ part ++ xs
 rest_after-part part [] none = sym (append-nil part)
@@ -45,23 +37,16 @@ rest_after-part part (x ∷ xs) none =
       | false ↦ λ e. grown e ∙ append_assoc part (x ∷ []) xs
     ]) none
 
--- no more lines are chosen where no line ends
-pub chosen-part : (lets : List ℕ → Bool) (text part : List ℕ) → lines_after (rest_after [] text) part ≡ [] → chosen lets (text ++ part) ≡ chosen lets text
-chosen-part lets text part none =
-    ap (let_through lets) (lines_after-append [] text part ∙ ap (λ lines. lines_after [] text ++ lines) none ∙ append-nil (lines_after [] text))
+-- nothing more is handed on where no line ends
+pub handed-part : (hand : List ℕ → List ℕ) (text part : List ℕ) → lines_after (rest_after [] text) part ≡ [] → handed_on hand (text ++ part) ≡ handed_on hand text
+handed-part hand text part none =
+    ap (flat_map hand) (lines_after-append [] text part ∙ ap (λ lines. lines_after [] text ++ lines) none ∙ append-nil (lines_after [] text))
 
--- the line that a line feed ends is chosen where it is let through
-pub chosen-fed : (lets : List ℕ → Bool) (text : List ℕ) → chosen lets (text ++ 10 ∷ []) ≡ chosen lets text ++ let_through lets (rest_after [] text ∷ [])
-chosen-fed lets text =
-    ap (let_through lets) (lines_after-append [] text (10 ∷ [])) ∙ let_through-append lets (lines_after [] text) (rest_after [] text ∷ [])
-
-pub chosen-let : (lets : List ℕ → Bool) (text : List ℕ) → lets (rest_after [] text) ≡ true → chosen lets (text ++ 10 ∷ []) ≡ chosen lets text ++ rest_after [] text ++ 10 ∷ []
-chosen-let lets text let_in = chosen-fed lets text
-    ∙ ap (λ b. chosen lets text ++ (if b then rest_after [] text ++ 10 ∷ [] else [])) let_in ∙ sym (append_assoc (chosen lets text) (rest_after [] text) (10 ∷ []))
-
-pub chosen-not_let : (lets : List ℕ → Bool) (text : List ℕ) → lets (rest_after [] text) ≡ false → chosen lets (text ++ 10 ∷ []) ≡ chosen lets text
-chosen-not_let lets text let_out = chosen-fed lets text
-    ∙ ap (λ b. chosen lets text ++ (if b then rest_after [] text ++ 10 ∷ [] else [])) let_out ∙ append-nil (chosen lets text)
+-- a line feed ends a line
+pub handed-fed : (hand : List ℕ → List ℕ) (text : List ℕ) → handed_on hand (text ++ 10 ∷ []) ≡ handed_on hand text ++ hand (rest_after [] text)
+handed-fed hand text =
+    ap (flat_map hand) (lines_after-append [] text (10 ∷ [])) ∙ flat_map-append hand (lines_after [] text) (rest_after [] text ∷ [])
+    ∙ ap (λ more. handed_on hand text ++ more) (append-nil (hand (rest_after [] text)))
 
 -- nothing stands after a line feed
 pub rest_after-fed : (part text : List ℕ) → rest_after part (text ++ 10 ∷ []) ≡ []

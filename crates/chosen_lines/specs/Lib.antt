@@ -1,10 +1,11 @@
 pub mod Arguments
 pub mod Asks
 pub mod Growth
+pub mod Held
 pub mod Lets
 pub mod Lines
 pub mod Members
-pub mod Sifted
 pub mod Signs
 pub mod Words
+pub mod Rules
 pub mod Taking

@@ -1,5 +1,5 @@
 -- A text by lines.
-use Rattle.std.specs.Prelude.{◌≡◌, ℕ, ◌<◌, Bool, true, List, [], ◌∷◌, ◌++◌, ◌==◌, if◌then◌else◌, length, take, Option}
+use Rattle.std.specs.Prelude.{ℕ, ◌<◌, Bool, List, [], ◌∷◌, ◌++◌, ◌==◌, if◌then◌else◌, length, take, flat_map, Option}
 use Rattle.std.specs.Io.KnownBytes.{Appends}
 
 -- the whole lines of a text that comes after a part of one, each without its line feed
@@ -12,22 +12,21 @@ abbrev pub rest_after : List ℕ → List ℕ → List ℕ
 rest_after part [] = part
 rest_after part (byte ∷ bytes) = if byte == 10 then rest_after [] bytes else rest_after (part ++ byte ∷ []) bytes
 
--- the lines that are let through, each with its line feed
-abbrev pub let_through : (List ℕ → Bool) → List (List ℕ) → List ℕ
-let_through lets [] = []
-let_through lets (line ∷ lines) = if lets line then line ++ 10 ∷ let_through lets lines else let_through lets lines
-
--- the chosen lines of a text, in its order
-abbrev pub chosen : (List ℕ → Bool) → List ℕ → List ℕ
-chosen lets text = let_through lets (lines_after [] text)
-
 -- what stands after the last line feed of a text
 abbrev pub rest : List ℕ → List ℕ
 rest text = rest_after [] text
 
--- A writer has got the chosen lines of a text, in its order and each whole, and so many bytes of what stands after the
--- last line feed, none where that isn't let through.
-pub record Sifts (lets : List ℕ → Bool) (text : List ℕ) (was now : Option (List ℕ)) : Type 0 where
+-- what is handed on for the whole lines of a text, in its order
+abbrev pub handed_on : (List ℕ → List ℕ) → List ℕ → List ℕ
+handed_on hand text = flat_map hand (lines_after [] text)
+
+-- a line that is let through, with its line feed; nothing for any other
+abbrev pub line_let : (List ℕ → Bool) → List ℕ → List ℕ
+line_let lets line = if lets line then line ++ 10 ∷ [] else []
+
+-- A writer has got what is handed on for the whole lines of a text, in its order and each whole, and of what there is for the
+-- part after the last line feed so many bytes, but never all.
+pub record HandsOn (hand : List ℕ → List ℕ) (text : List ℕ) (was now : Option (List ℕ)) : Type 0 where
   pub sent : ℕ
-  pub is_chosen : 0 < sent → lets (rest text) ≡ true
-  pub written : Appends was now (chosen lets text ++ take sent (rest text))
+  pub short : 0 < sent → sent < length (hand (rest text))
+  pub written : Appends was now (handed_on hand text ++ take sent (hand (rest text)))

@@ -3,11 +3,13 @@ ghost use Rattle.std.specs.Prelude.{◌≡◌, ◌&&◌, Some};
 ghost use Rattle.chosen_lines.specs.Lets.{is_of_kinds, is_of_pid, is_of_call, is_number};
 
 use crate::counts::arity_told;
+use crate::line_writer::LineRule;
 use crate::members::{after_atom, after_pid, function_of, members_of};
 use crate::words::{cut_word, number_told};
+use std::alloc::AllocError;
 
 /// Which lines of a listing are to be shown: those that all of this holds of; None stands for what isn't asked for.
-#[derive(Debug, Drop)]
+#[derive(Debug, Default, Drop)]
 pub struct Choice {
     /// The number of the first entry.
     pub from: Option<u64>,
@@ -120,6 +122,25 @@ impl Choice {
             Some(arity) => is_number(arity, arity_told(rest)),
             None => true,
         }
+    }
+}
+
+/// A line that it lets through is handed on with its line feed, and nothing for any other.
+impl LineRule for Choice {
+    ghost use Rattle.chosen_lines.specs.{Asks.asks_of, Held.numbers_of, Lets.lets, Lines.line_let, Rules.same_lines};
+
+    ghost numbers = { λ choice. numbers_of (asks_of choice) };
+
+    ghost handed = { λ choice. line_let (lets choice) };
+
+    ghost same = { λ a b by. same_lines (asks_of a) (asks_of b) by };
+
+    fn put(&self, line: &[u8], out: &mut Vec<u8>) -> Result<(), AllocError> {
+        if !self.lets_through(line) {
+            return Ok(());
+        }
+        out.extend_from_slice(line)?;
+        Ok(out.push(b'\n')?)
     }
 }
 

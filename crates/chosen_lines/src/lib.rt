@@ -1,12 +1,12 @@
-//! The lines of a listing that somebody chooses, as they are written.
+//! The lines of a listing as they are written: those that somebody chooses, or what else is handed on for each.
 #![tactic(auto)]
 
 mod arguments;
 mod choice;
 mod counts;
 mod given;
+mod line_writer;
 mod members;
-mod sieve;
 mod signs;
 mod words;
 
@@ -14,6 +14,6 @@ pub use arguments::Scan;
 pub use choice::{Choice, is_of_call};
 pub use counts::arity_told;
 pub use given::Given;
+pub use line_writer::{LineRule, LineWriter};
 pub use members::{after, after_word_of_call, members_of};
-pub use sieve::Sieve;
 pub use words::{cut_word, index_of, number_told};

@@ -6,7 +6,7 @@ use crate::function::{Function, function_in};
 use crate::kind::{Listing, kind_named};
 use crate::process::is_process;
 use crate::request::{
-    Asked, Ending, Flushing, Misuse, Request, Rules, Shape, TraceRequest, Wanted,
+    Asked, Ending, Flushing, Misuse, Request, Rules, Shape, Shown, TraceRequest, Wanted,
 };
 use crate::size::bytes_in;
 use chosen_lines::Choice;
@@ -456,6 +456,14 @@ fn choice_in<'a>(alloc: Global, matches: &ArgMatches<'a>) -> Result<Option<Choic
     Ok(if choice.is_all() { None } else { Some(choice) })
 }
 
+/// How a listing is to be shown.
+fn shown_in<'a>(alloc: Global, matches: &ArgMatches<'a>) -> Result<Shown, Misuse<'a>> {
+    Ok(Shown {
+        is_json: matches.get_flag("json"),
+        choice: choice_in(alloc, matches)?,
+    })
+}
+
 /// What a subcommand of this name asks of a stored trace, if it is one for that.
 fn trace_request_in<'a>(
     name: &str,
@@ -493,24 +501,24 @@ fn request_in<'a>(alloc: Global, matches: &ArgMatches<'a>) -> Result<Request<'a>
         return Ok(Request::Follow {
             asked: asked_in(matches),
             is_pretty: matches.get_flag("pretty"),
-            is_json: matches.get_flag("json"),
-            choice: choice_in(alloc, matches)?,
+            shown: shown_in(alloc, matches)?,
         });
     }
     Ok(match trace_request_in(name, matches)? {
         Some(request) => Request::OfTrace {
             request,
-            is_json: name == "list" && matches.get_flag("json"),
-            choice: if name == "list" {
-                choice_in(alloc, matches)?
+            shown: if name == "list" {
+                shown_in(alloc, matches)?
             } else {
-                None
+                Shown {
+                    is_json: false,
+                    choice: None,
+                }
             },
         },
         None if name == "stream" => Request::Stream {
             is_pretty: matches.get_flag("pretty"),
-            is_json: matches.get_flag("json"),
-            choice: choice_in(alloc, matches)?,
+            shown: shown_in(alloc, matches)?,
         },
         None => Request::Sim,
     })

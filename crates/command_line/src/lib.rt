@@ -9,4 +9,6 @@ mod request;
 mod size;
 
 pub use command::asked_for;
-pub use request::{Asked, Ending, Flushing, Misuse, Request, Rules, Shape, TraceRequest, Wanted};
+pub use request::{
+    Asked, Ending, Flushing, Misuse, Request, Rules, Shape, Shown, TraceRequest, Wanted,
+};

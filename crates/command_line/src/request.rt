@@ -60,6 +60,15 @@ pub struct Rules {
     pub ending: Ending,
 }
 
+/// How a listing is shown.
+#[derive(Debug, Drop)]
+pub struct Shown {
+    /// Each line as a JSON object.
+    pub is_json: bool,
+    /// The lines that are shown, where not all are.
+    pub choice: Option<Choice>,
+}
+
 /// What a command line asks for.
 #[derive(Debug, Drop)]
 pub enum Request<'a> {
@@ -69,28 +78,19 @@ pub enum Request<'a> {
     Stream {
         /// Every term as a person at a node's shell would see it.
         is_pretty: bool,
-        /// Each line as a JSON object.
-        is_json: bool,
-        /// The lines that are shown, where not all are.
-        choice: Option<Choice>,
+        shown: Shown,
     },
     /// List a trace, and go on with what is added to it.
     Follow {
         asked: Asked<'a>,
         /// Every term as a person at a node's shell would see it.
         is_pretty: bool,
-        /// As JSON objects, one for each line.
-        is_json: bool,
-        /// The lines that are shown, where not all are.
-        choice: Option<Choice>,
+        shown: Shown,
     },
     /// What is done with the files of a trace.
     OfTrace {
         request: TraceRequest<'a>,
-        /// Each line of a listing as a JSON object.
-        is_json: bool,
-        /// The lines of a listing that are shown, where not all are.
-        choice: Option<Choice>,
+        shown: Shown,
     },
 }
 

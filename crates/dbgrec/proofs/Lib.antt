@@ -1,3 +1,1 @@
-mod Chosen
-pub mod Told
-pub mod Along
+pub mod Passing

@@ -1,4 +1,3 @@
-pub mod Choosing
-pub mod Telling
+pub mod Listings
 pub mod Serving
 pub mod Statuses

@@ -21,7 +21,7 @@ pub struct Console {
     rt: HostRuntime,
     began: Option<Instant>,
     millis: u64,
-    observed: Observed,
+    pub observed: Observed,
     /// Somebody may look.
     is_seen: bool,
     /// When the last line was shown.

@@ -1,16 +1,13 @@
 //! Records traces as `dbg` of Erlang does, and lists what a crash has left of them.
 #![tactic(auto)]
 
-mod choosing;
 mod console;
-mod followed;
 mod following;
+mod listing;
 mod outlet;
 mod serving;
 mod simulation;
 mod streaming;
-mod telling;
-mod writers;
 
 ghost use Rattle.std.specs.Prelude.{◌≡◌, Result};
 ghost use Rattle.std.specs.Process.{exit_status};
@@ -23,7 +20,8 @@ ghost use Rattle.dbgrec.specs.Statuses.{status_of_done, status_of_form, status_o
 use clap::Error as FormError;
 use clap::error::ErrorKind as MisuseKind;
 use command_line::{Misuse, Request, asked_for};
-use followed::follow;
+use following::follow;
+use listing::show;
 use outlet::{Outlet, Output};
 use recorder::Complaint;
 use script_port::SimFault;
@@ -33,7 +31,7 @@ use std::io::{ErrorKind, Read};
 use std::process::ExitCode;
 use std::sync::Wait;
 use std::{env, io};
-use streaming::list_stream;
+use streaming::StreamListing;
 
 /// What may stand for the number of `--size`.
 const A_SIZE: &str = "a number below 4294967296, with K, M or G after it or nothing";
@@ -65,20 +63,17 @@ fn serve<R: Wait, I: Read + Drop, W: Output>(
         Request::Follow {
             asked,
             is_pretty,
-            is_json,
-            choice,
-        } => follow(rt, waiter, asked, is_pretty, is_json, choice, output),
+            shown,
+        } => follow(rt, waiter, asked, is_pretty, shown, input, output),
         Request::Sim => serve_sim(rt.alloc(), input, output),
-        Request::Stream {
-            is_pretty,
-            is_json,
-            choice,
-        } => list_stream(rt.alloc(), is_pretty, is_json, choice, input, output),
-        Request::OfTrace {
-            request,
-            is_json,
-            choice,
-        } => serve_files(rt, request, is_json, choice, input, output),
+        Request::Stream { is_pretty, shown } => {
+            let alloc = rt.alloc();
+            let listing = StreamListing { alloc, is_pretty };
+            show(alloc, waiter, listing, shown, input, output)
+        }
+        Request::OfTrace { request, shown } => serve_files(
+            rt, waiter, request, shown, input, output,
+        ),
     }
 }
 

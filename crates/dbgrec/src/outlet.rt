@@ -1,5 +1,7 @@
 //! Standard output.
+ghost use Rattle.std.specs.Prelude.{◌≡◌};
 
+use std::alloc::Global;
 use std::io::{self, BufWriter, ErrorKind, Write};
 use std::mem;
 use std::rt::Stdout;
@@ -10,11 +12,15 @@ const BUFFER: usize = 65_536;
 /// What is written to. It can be taken from where it is lent, so that its owner knows what it holds then: what a call did to a
 /// struct that was lent a writer is known of the struct's value, and not that it still has the same writer.
 pub trait Output: Write + Drop {
-    ghost use Rattle.std.specs.Prelude.{◌≡◌};
+    /// One that refuses each byte, to be left in its place.
+    fn none(alloc: Global) -> Self;
+}
 
-    /// Takes it, and leaves one that refuses each byte.
-    fn take(&mut self) -> Self
-        ensures { result ≡ self.old };
+/// Takes it, and leaves one that refuses each byte.
+pub fn taken<W: Output>(alloc: Global, output: &mut W) -> W
+    ensures { result ≡ output.old }
+{
+    mem::replace(output, W::none(alloc))
 }
 
 /// Standard output, by a buffer, or nothing where it was taken. It knows why a write failed.
@@ -25,8 +31,6 @@ pub struct Outlet {
 }
 
 impl Outlet {
-    ghost use Rattle.std.specs.Prelude.{◌≡◌};
-
     /// Standard output, with nothing in its buffer.
     pub fn new(rt: &HostRuntime) -> io::Result<Outlet> {
         Ok(Outlet {
@@ -69,11 +73,10 @@ impl Write for Outlet {
 }
 
 impl Output for Outlet {
-    fn take(&mut self) -> Outlet {
-        let taken = Outlet {
+    fn none(_alloc: Global) -> Outlet {
+        Outlet {
             inner: None,
             reason: None,
-        };
-        mem::replace(self, taken)
+        }
     }
 }

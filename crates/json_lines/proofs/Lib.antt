@@ -1,5 +1,3 @@
-pub mod Contents
-pub mod Handing
 pub mod Joining
 pub mod Listed
 pub mod Measuring

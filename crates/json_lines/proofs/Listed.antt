@@ -1,18 +1,18 @@
 -- The lines of a listing, by what they are made of.
-use Rattle.std.proofs.Common.{◌≡◌, ℕ, suc, ◌+◌, ◌≤◌, ◌<◌, ◌^◌, Bool, true, false, not, cond, Option, Some, None, List, [], ◌∷◌, ◌++◌, length, take, drop, nat_le, codes, decimal, refl, sym, ◌∙◌, ap, subst, option_map, option_and_then, arith}
+use Rattle.std.proofs.Common.{◌≡◌, ℕ, suc, ◌+◌, ◌≤◌, ◌<◌, ◌^◌, true, not, cond, Some, List, [], ◌∷◌, ◌++◌, length, take, drop, nat_le, codes, decimal, refl, sym, ◌∙◌, ap, subst, option_map, option_and_then, arith}
 use Rattle.std.specs.Char.{is_ascii_digit, digit_value}
 use Rattle.std.specs.List.{position_or_len}
 use Rattle.std.specs.Str.{all_ascii_digits}
-use Rattle.std.specs.Str.Parse.{AllDigits, digits_value}
+use Rattle.std.specs.Str.Parse.{AllDigits}
 use Rattle.std.proofs.Math.Seq.{take-append_seam}
 use Rattle.std.proofs.lemmas.Bool.{ne_eqb, le-leb, and_from, and_parts}
 use Rattle.std.proofs.lemmas.Bool.Decides.{nat_tests}
 use Rattle.std.proofs.lemmas.Fmt.{decimal_is_IsNumeral}
-use Rattle.chosen_lines.specs.Lets.{number_of, kind_of, told_of}
+use Rattle.chosen_lines.specs.Lets.{number_of}
 use Rattle.chosen_lines.specs.Members.{after}
 use Rattle.chosen_lines.specs.Words.{is_blank, first_word, after_word, number_told}
 use Rattle.chosen_lines.proofs.Numbers.{told-number}
-use Rattle.json_lines.specs.Members.{Member, of_number, of_text, of_count, of_told, of_entry, dropped_told, counts_told, before_told, of_other, of_line, members_of_line}
+use Rattle.json_lines.specs.Members.{of_number, of_text, of_count, of_entry, dropped_told, counts_told, of_other, of_line, members_of_line}
 use Rattle.json_lines.specs.Listed.{has_no_blank, before_line}
 
 digit-least : (c : ℕ) → digit_value c < 10 → 48 ≤ c

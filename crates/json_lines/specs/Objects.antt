@@ -1,10 +1,9 @@
 -- Objects and their texts, by the grammar of JSON that the kit has.
-use Rattle.std.specs.Prelude.{ℕ, List, [], ◌∷◌, ◌++◌, flat_map, take, Option}
+use Rattle.std.specs.Prelude.{ℕ, List, [], ◌∷◌, ◌++◌}
 use Rattle.std.specs.Fmt.{decimal}
-use Rattle.std.specs.Io.KnownBytes.{Appends}
 use Rattle.json.specs.Json as json
 use Rattle.json.specs.Print.{quoted}
-use Rattle.chosen_lines.specs.Lines.{lines_after, rest}
+use Rattle.chosen_lines.specs.Lines.{handed_on}
 use Rattle.json_lines.specs.Members.{Value, number, text, Member, members_of_line}
 
 -- a value, of which a number is in decimal
@@ -48,10 +47,4 @@ object_line (byte ∷ bytes) = object_text (byte ∷ bytes) ++ 10 ∷ []
 
 -- the objects of the whole lines of a text, in its order
 abbrev pub objects_of : List ℕ → List ℕ
-objects_of given = flat_map object_line (lines_after [] given)
-
--- A writer has got the objects of the whole lines of a text, in its order and each whole, and so many bytes of the object
--- of what stands after the last line feed.
-pub record GivesObjects (given : List ℕ) (was now : Option (List ℕ)) : Type 0 where
-  pub sent : ℕ
-  pub written : Appends was now (objects_of given ++ take sent (object_line (rest given)))
+objects_of given = handed_on object_line given

@@ -5,7 +5,8 @@ ghost use Rattle.std.specs.{Fmt.decimal, Io.KnownBytes.Appends};
 ghost use Rattle.json.specs.Json.{document};
 ghost use Rattle.json_lines.specs.Listed.{has_no_blank, entry_line, before_line};
 ghost use Rattle.json_lines.specs.Members.{of_number, of_text, of_told, of_entry, members_of_line};
-ghost use Rattle.json_lines.specs.Objects.{object_of, object_text, objects_of, GivesObjects};
+ghost use Rattle.chosen_lines.specs.Lines.{HandsOn};
+ghost use Rattle.json_lines.specs.Objects.{object_of, object_text, object_line, objects_of};
 
 /// The text of a line's object reads as that object, by the kit's grammar of JSON: the escapes of its texts are taken back.
 pub fn objects_read_back()
@@ -14,7 +15,7 @@ pub fn objects_read_back()
 
 /// Where the lines are whole, their objects are handed on and nothing else.
 pub fn whole_lines_are_handed_on()
-    ensures { (given front : List ℕ) (was now : Option (List ℕ)) → given ≡ front ++ 10 ∷ [] → GivesObjects given was now → Appends was now (objects_of given) }
+    ensures { (given front : List ℕ) (was now : Option (List ℕ)) → given ≡ front ++ 10 ∷ [] → HandsOn object_line given was now → Appends was now (objects_of given) }
 {}
 
 /// The line of an entry has its number, its kind and what is told of it.

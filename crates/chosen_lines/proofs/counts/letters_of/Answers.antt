@@ -1,4 +1,4 @@
-use Rattle.std.proofs.Common.{◌≡◌, ◌≤◌, get_or, ap, sym, arith, ◌∙◌}
+use Rattle.std.proofs.Common.{get_or, ap, sym, arith, ◌∙◌}
 use Rattle.std.proofs.lemmas.List.Sums.{fold_more}
 use Rattle.chosen_lines.specs.Arguments.{spelled, no_letters}
 use Rattle.chosen_lines.proofs.counts.letters_of.Goals as goal

@@ -1,4 +1,4 @@
-use Rattle.std.proofs.Common.{◌≡◌, ◌+◌, ℕ, Bool, true, false, Option, Some, None, List, length, take, drop, refl, sym, ◌∙◌, ap, MatchOption, if◌then◌else◌, Bor}
+use Rattle.std.proofs.Common.{◌≡◌, ◌+◌, ℕ, true, false, Option, Some, None, List, length, take, drop, sym, ◌∙◌, ap, MatchOption, if◌then◌else◌, Bor}
 use Rattle.std.specs.Option.{option_copied}
 use Rattle.std.specs.Str.{bytes_eq}
 use Rattle.chosen_lines.specs.Members.{after}

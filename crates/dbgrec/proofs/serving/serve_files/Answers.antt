@@ -2,7 +2,8 @@ use Rattle.std.proofs.Common.{subst}
 use Rattle.std.proofs.KnownBytes.{Keeps-refl}
 use Rattle.std.proofs.lemmas.Result.{err_from_is_err_and}
 use Rattle.trace_recording.specs.Incoming.{outside}
-use Rattle.dbgrec.specs.Serving.{ShowsTrace, served, no_files}
+use Rattle.dbgrec.specs.Listings.{Shows}
+use Rattle.dbgrec.specs.Serving.{ServesTrace, served, no_files}
 use Rattle.dbgrec.proofs.serving.serve_files.Goals as goal
 
 pub returns-in_err-files : goal.returns-in_err-files
@@ -13,9 +14,8 @@ returns-in_err-files g c =
 pub returns : goal.returns
 returns g c =
     let contents = g.W.Write.contents in
-    let had = g.R.Read.remaining c.args.input in
+    let had = g.I.Read.remaining c.args.input in
     let made = c.in_ok-files.ensures in
     let files = c.in_ok-files.files in
-    let call = c.show_trace-done in
-    served files call.new.files (record { past = made.past; locked = made.locked; place = made.place })
-    (subst (λ s. ShowsTrace c.args.request c.args.is_json c.args.choice files call.new.files (outside had 0 s) (contents c.args.output.now) (contents call.new.output) call.result) c.console_for-console.ensures call.ensures)
+    served files (record { past = made.past; locked = made.locked; place = made.place })
+    (subst (λ s. Shows c.args.shown.is_json c.args.shown.choice (ServesTrace c.args.request files (outside had 0 s)) c.show.result (contents c.args.output.now) (contents c.show.new.output)) c.console_for-console.ensures c.show.ensures)

@@ -1,0 +1,76 @@
+-- What came through a writer of lines, as it is known by what it holds.
+use Rattle.std.proofs.Common.{◌≡◌, ℕ, zero, suc, ◌<◌, Option, Some, None, List, [], ◌∷◌, ◌++◌, length, take, refl, sym, ◌∙◌, ap, subst, append-nil, arith}
+use Rattle.std.specs.Io.KnownBytes.{Appends}
+use Rattle.chosen_lines.specs.Lines.{rest_after, handed_on, rest, HandsOn}
+use Rattle.chosen_lines.specs.Held.{counted, after_counted, line_contents}
+use Rattle.chosen_lines.proofs.LineLemmas.{rest_after-fed}
+use Rattle.chosen_lines.proofs.Contents.{counted-append}
+use Rattle.chosen_lines.proofs.Holding.{sent-of}
+
+-- two lists that begin with parts of one length
+append-apart : (xs ys us vs : List ℕ) → length xs ≡ length ys → xs ++ us ≡ ys ++ vs → (xs ≡ ys) × (us ≡ vs)
+append-apart [] [] us vs same e = (refl, e)
+append-apart [] (y ∷ ys) us vs same e = absurd (omega arith)
+append-apart (x ∷ xs) [] us vs same e = absurd (omega arith)
+append-apart (x ∷ xs) (y ∷ ys) us vs same e =
+    let head : x ≡ y = cc in
+    let tail : xs ++ us ≡ ys ++ vs = cc in
+    let more = append-apart xs ys us vs (omega arith) tail in
+    (ap (λ z. z ∷ xs) head ∙ ap (λ zs. y ∷ zs) more.0, more.1)
+
+counted-apart : (a b : Option (List ℕ)) (us vs : List ℕ) → counted a ++ us ≡ counted b ++ vs → (a ≡ b) × (us ≡ vs)
+counted-apart None None us vs e = (refl, cc)
+counted-apart None (Some ys) us vs e = let no : 0 ≡ suc (length ys) = cc in absurd (omega arith)
+counted-apart (Some xs) None us vs e = let no : suc (length xs) ≡ 0 = cc in absurd (omega arith)
+counted-apart (Some xs) (Some ys) us vs e =
+    let lengths : suc (length xs) ≡ suc (length ys) = cc in
+    let tail : xs ++ us ≡ ys ++ vs = cc in
+    let more = append-apart xs ys us vs (omega arith) tail in
+    (ap Some more.0, more.1)
+
+-- what was counted is known again
+after-apart : (parts others : List (Option (List ℕ))) (us vs : List ℕ) → length parts ≡ length others → after_counted parts us ≡ after_counted others vs → (parts ≡ others) × (us ≡ vs)
+after-apart [] [] us vs same e = (refl, e)
+after-apart [] (y ∷ ys) us vs same e = absurd (omega arith)
+after-apart (x ∷ xs) [] us vs same e = absurd (omega arith)
+after-apart (x ∷ xs) (y ∷ ys) us vs same e =
+    let first = counted-apart x y (after_counted xs us) (after_counted ys vs) e in
+    let more = after-apart xs ys us vs (omega arith) first.1 in
+    (ap (λ z. z ∷ xs) first.0 ∙ ap (λ zs. y ∷ zs) more.0, more.1)
+
+tail_of : (a b : Option (List ℕ)) (xs ys : List (Option (List ℕ))) → a ∷ xs ≡ b ∷ ys → (a ≡ b) × (xs ≡ ys)
+tail_of a b xs ys e = (cc, cc)
+
+-- one that a text came to since it was made was made by a rule of these numbers, over a writer that held this then
+same_writer : (numbers later : List (Option (List ℕ))) (start later_start : Option (List ℕ)) (given text : List ℕ) → Appends (line_contents numbers start []) (line_contents later later_start given) text → (later_start ≡ start) × (later ≡ numbers) × (given ≡ text)
+unfolding line_contents
+same_writer numbers later start later_start given text grown =
+    let all : length later ∷ after_counted (later_start ∷ later) given ≡ length numbers ∷ (after_counted (start ∷ numbers) [] ++ text) = grown in
+    let counts : length later ≡ length numbers = cc in
+    let rest : after_counted (later_start ∷ later) given ≡ after_counted (start ∷ numbers) [] ++ text = cc in
+    let apart = after-apart (later_start ∷ later) (start ∷ numbers) given text (omega arith) (rest ∙ sym (counted-append (start ∷ numbers) [] text)) in
+    let same = tail_of later_start start later numbers apart.0 in
+    (same.0, same.1, apart.1)
+
+-- so what is handed on for that text's lines came through it
+pub handed : (hand later_hand : List ℕ → List ℕ) (numbers later : List (Option (List ℕ))) (start later_start now : Option (List ℕ)) (given text line made : List ℕ) (sent : ℕ)
+    → (later ≡ numbers → later_hand ≡ hand) → line ≡ rest_after [] given → (0 < sent → made ≡ later_hand line) → (0 < sent → sent < length made) → Appends later_start now (handed_on later_hand given ++ take sent made)
+    → Appends (line_contents numbers start []) (line_contents later later_start given) text → HandsOn hand text start now
+handed hand later_hand numbers later start later_start now given text line made sent alike is due short held grown =
+    let same = same_writer numbers later start later_start given text grown in
+    let by_given : HandsOn later_hand given later_start now = record {
+      sent = sent;
+      short = λ some. subst (λ l. sent < length l) (due some ∙ ap later_hand is) (short some);
+      written = subst (λ more. Appends later_start now (handed_on later_hand given ++ more)) (sent-of sent made (later_hand line) due ∙ ap (λ l. take sent (later_hand l)) is) held;
+    } in
+    subst (λ h. HandsOn h text start now) (alike same.1) (subst (λ s. HandsOn later_hand text s now) same.0 (subst (λ t. HandsOn later_hand t later_start now) same.2 by_given))
+
+none-taken : (n : ℕ) → take {A = ℕ} n [] ≡ []
+none-taken zero = refl
+none-taken (suc n) = refl
+
+-- where the lines are whole, what there is for them is handed on and nothing else
+pub handed-whole : (hand : List ℕ → List ℕ) (text front : List ℕ) (was now : Option (List ℕ)) → hand [] ≡ [] → text ≡ front ++ 10 ∷ [] → HandsOn hand text was now → Appends was now (handed_on hand text)
+handed-whole hand text front was now nothing ends gives =
+    let none : take gives.sent (hand (rest text)) ≡ [] = ap (λ line. take gives.sent (hand line)) (ap rest ends ∙ rest_after-fed [] front) ∙ ap (take gives.sent) nothing ∙ none-taken gives.sent in
+    subst (Appends was now) (ap (λ more. handed_on hand text ++ more) none ∙ append-nil (handed_on hand text)) gives.written

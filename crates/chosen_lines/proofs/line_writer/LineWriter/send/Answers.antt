@@ -1,0 +1,24 @@
+use Rattle.std.proofs.Common.{◌≡◌, ◌∙◌, ◌+◌, ◌-◌, length, length-drop, take, drop, arith, ap}
+use Rattle.chosen_lines.proofs.Holding.{held-fed, held-sent, part-fed}
+use Rattle.chosen_lines.proofs.WordLemmas.{cut-whole}
+use Rattle.chosen_lines.proofs.line_writer.LineWriter.send.Goals as goal
+
+pub invariant_of-self-clause-held : goal.invariant_of-self-clause-held
+invariant_of-self-clause-held g c =
+    let was = c.args.self.now in
+    held-sent _ _ _ _ was.made.items c.deref.result.now was.sent c.write_some-count.result.0 c.deref.ensures.value was.held c.write_some-count.ensures.written
+
+pub invariant_of-self-2-clause-part : goal.invariant_of-self-2-clause-part
+invariant_of-self-2-clause-part g c = part-fed c.args.self.now.given c.note.new.self c.clear.new.self.items c.note.ensures c.clear.ensures.items
+
+pub invariant_of-self-2-clause-held : goal.invariant_of-self-2-clause-held
+invariant_of-self-2-clause-held g c =
+    let was = c.args.self.now in
+    let seen = c.deref.result.now in
+    let call = c.write_some-count in
+    let count = call.result.0 in
+    let all : count ≡ length (take (length seen - was.sent) (drop was.sent seen)) = rw c.in_default.is at call.ensures.all in
+    let left : length (take (length seen - was.sent) (drop was.sent seen)) ≡ length seen - was.sent = ap (λ l. length l) (cut-whole was.sent seen) ∙ length-drop was.sent seen in
+    let whole : was.sent + count ≡ length was.made.items = omega (arith, all, left, ap (λ l. length l) c.deref.ensures.value, was.within, was.made.ok.0) in
+    held-fed (g.L.LineRule.handed was.rule) was.given c.note.new.self _ was.line.items was.made.items (was.sent + count) c.note.ensures was.part c.requires whole
+    (held-sent _ _ _ _ was.made.items seen was.sent count c.deref.ensures.value was.held call.ensures.written)

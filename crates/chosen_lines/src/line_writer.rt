@@ -1,0 +1,167 @@
+//! A writer that hands on something for each line.
+ghost use Rattle.std.specs.Prelude.{◌≡◌, ◌<◌, ◌≤◌, ℕ, Option, List, [], ◌∷◌, ◌++◌, take, vec_len, length, OnOk, OnErr, IfOk};
+ghost use Rattle.std.specs.Io.KnownBytes.{Appends, WriteAppends};
+ghost use Rattle.chosen_lines.specs.{Lines.lines_after, Lines.rest_after, Lines.handed_on, Held.line_contents, Growth.Appends-prop, Taking.Takes};
+
+use crate::given::Given;
+use crate::words::index_of;
+use std::alloc::{AllocError, Global};
+use std::io::{self, ErrorKind, Write};
+
+/// The end of a line.
+const FEED: u8 = b'\n';
+
+/// What is handed on for each line.
+pub trait LineRule: Drop {
+    /// What it was made of, as numbers.
+    ghost numbers: { Self → List (Option (List ℕ)) };
+
+    /// What is handed on for a line, which comes without its line feed.
+    ghost handed: { Self → List ℕ → List ℕ };
+
+    /// Puts what is handed on for a line.
+    fn put(&self, line: &[u8], out: &mut Vec<u8>) -> Result<(), AllocError>
+        ensures { OnOk result (out.new.items ≡ out.old.items ++ handed self.now line.now) };
+
+    ghost same: { (a b : Self) → numbers a ≡ numbers b → handed a ≡ handed b };
+}
+
+/// Takes lines, and hands on what its rule gives for each, whole.
+#[derive(Drop)]
+pub struct LineWriter<L: LineRule, W: Write> {
+    pub rule: L,
+    pub out: W,
+    /// What came of the line that isn't at its end.
+    pub line: Vec<u8>,
+    /// What is handed on for that line, once its end has come.
+    pub made: Vec<u8>,
+    /// How many bytes of that are handed on.
+    pub sent: usize,
+    /// A line, or what is handed on for it, had no memory.
+    pub is_refused: bool,
+    pub given: Given,
+    pub ghost part: { line.items ≡ rest_after [] given.bytes },
+    pub ghost within: { sent ≤ vec_len made },
+    pub ghost due: { 0 < sent → made.items ≡ L.handed rule line.items },
+    pub ghost short: { 0 < sent → sent < length made.items },
+    pub ghost held: { Appends given.start (W.contents out) (handed_on (L.handed rule) given.bytes ++ take sent made.items) } by { Appends-prop given.start (W.contents out) (handed_on (L.handed rule) given.bytes ++ take sent made.items) },
+}
+
+/// Writes these bytes, and answers how many of them are written: all, or fewer and why.
+fn write_some<W: Write>(out: &mut W, bytes: &[u8]) -> (usize, io::Result<()>)
+    ensures written { Appends (W.contents out.old) (W.contents out.new) (take result.0 bytes.now) }
+    ensures all { OnOk result.1 (result.0 ≡ length bytes.now) }
+    ensures part { OnErr result.1 (result.0 < length bytes.now) }
+{
+    let mut count = 0;
+    while count < bytes.len() {
+        match out.write(&bytes[count..]) {
+            Ok(0) => return (count, Err(io::Error::from(ErrorKind::WriteZero))),
+            Ok(more) => count += more,
+            Err(fault) => return (count, Err(fault)),
+        }
+    }
+    (count, Ok(()))
+}
+
+impl<L: LineRule, W: Write> LineWriter<L, W> {
+    /// Hands on to this writer.
+    pub fn new(alloc: Global, rule: L, out: W) -> LineWriter<L, W>
+        ghost start: { Option (List ℕ) }
+        requires { start ≡ W.contents out }
+        ensures start { result.given.start ≡ W.contents out }
+        ensures none { result.given.bytes ≡ [] }
+        ensures rule { result.rule ≡ rule }
+        ensures out { result.out ≡ out }
+    {
+        LineWriter {
+            rule,
+            out,
+            line: Vec::new(alloc),
+            made: Vec::new(alloc),
+            sent: 0,
+            is_refused: false,
+            given: Given::new(),
+        }
+    }
+
+    /// Takes bytes of a line that isn't at its end. Once something is handed on for the line there are none to come.
+    fn take_part(&mut self, part: &[u8]) -> io::Result<usize>
+        requires { lines_after self.old.line.items part.now ≡ [] }
+        ensures rule { self.new.rule ≡ self.old.rule }
+        ensures given { Takes part.now self.old.given self.new.given result }
+        ensures all { IfOk result (λ count. count ≡ length part.now) }
+    {
+        if self.sent > 0 {
+            return Err(io::Error::from(ErrorKind::InvalidInput));
+        }
+        if self.line.extend_from_slice(part).is_err() {
+            self.is_refused = true;
+            return Err(io::Error::from(ErrorKind::OutOfMemory));
+        }
+        self.given.note(part);
+        Ok(part.len())
+    }
+
+    /// Makes what is handed on for the line, where no part of it is handed on.
+    fn make(&mut self) -> io::Result<()>
+        ensures rule { self.new.rule ≡ self.old.rule }
+        ensures given { self.new.given ≡ self.old.given }
+        ensures line { self.new.line.items ≡ self.old.line.items }
+        ensures ok { OnOk result (self.new.made.items ≡ L.handed self.new.rule self.new.line.items) }
+    {
+        if self.sent > 0 {
+            return Ok(());
+        }
+        self.made.clear();
+        if self.rule.put(&self.line, &mut self.made).is_err() {
+            self.is_refused = true;
+            return Err(io::Error::from(ErrorKind::OutOfMemory));
+        }
+        Ok(())
+    }
+
+    /// Hands on what is made, and ends the line.
+    fn send(&mut self) -> io::Result<()>
+        requires { self.old.made.items ≡ L.handed self.old.rule self.old.line.items }
+        ensures rule { self.new.rule ≡ self.old.rule }
+        ensures given { Takes (10 ∷ []) self.old.given self.new.given result }
+    {
+        let (count, done) = write_some(&mut self.out, &self.made[self.sent..]);
+        if let Err(fault) = done {
+            self.sent += count;
+            return Err(fault);
+        }
+        self.line.clear();
+        self.sent = 0;
+        self.given.note(&[FEED]);
+        Ok(())
+    }
+
+    /// Takes the line feed that ends a line, which is one byte.
+    fn end_line(&mut self) -> io::Result<usize>
+        ensures rule { self.new.rule ≡ self.old.rule }
+        ensures given { Takes (10 ∷ []) self.old.given self.new.given result }
+        ensures all { IfOk result (λ count. count ≡ 1) }
+    {
+        self.make()?;
+        self.send()?;
+        Ok(1)
+    }
+}
+
+impl<L: LineRule, W: Write> Write for LineWriter<L, W> {
+    ghost contents = { λ writer. line_contents (L.numbers writer.rule) writer.given.start writer.given.bytes };
+
+    fn write(&mut self, bytes: &[u8]) -> io::Result<usize> {
+        match index_of(FEED, bytes) {
+            Some(0) => self.end_line(),
+            Some(count) => self.take_part(&bytes[..count]),
+            None => self.take_part(bytes),
+        }
+    }
+
+    fn flush(&mut self) -> io::Result<()> {
+        self.out.flush()
+    }
+}

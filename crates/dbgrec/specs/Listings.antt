@@ -1,0 +1,45 @@
+-- Listings, and how they are shown.
+use Rattle.std.specs.Prelude.{◌≡◌, ℕ, Bool, true, false, Option, Some, None, List, Result, Ok, Err, IfSome, if◌then◌else◌}
+use Rattle.std.specs.Io.KnownBytes.{Appends}
+use Rattle.trace_client.specs.Streams.{IsListed}
+use Rattle.chosen_lines.specs.declared.choice.Choice.{Choice}
+use Rattle.chosen_lines.specs.Lets.{lets}
+use Rattle.chosen_lines.specs.Lines.{line_let, HandsOn}
+use Rattle.json_lines.specs.Objects.{object_line}
+use Rattle.recorder.specs.Commands.{style_of, EndsStream}
+use Rattle.recorder.specs.declared.complaint.Complaint.{Complaint}
+use Rattle.recorder.specs.declared.complaint.Complaint.TheVariants as complaints
+use Rattle.script_port.specs.declared.fault.SimFault.TheVariants as faults
+
+-- how a listing ends, and what it does with the bytes that a writer holds
+abbrev pub Listing : Type 1
+Listing = Result Unit Complaint → Option (List ℕ) → Option (List ℕ) → Type 0
+
+-- All that is listed went to a writer that held some bytes before. Where a text came to these, what is handed on for the lines
+-- of that text is written.
+pub record Passes (hand : List ℕ → List ℕ) (Lists : Option (List ℕ) → Option (List ℕ) → Type 0) (was now : Option (List ℕ)) : Type 0 where
+  pub held : List ℕ
+  pub holds : Option (List ℕ)
+  pub lists : Lists (Some held) holds
+  pub hands : (text : List ℕ) → Appends (Some held) holds text → HandsOn hand text was now
+
+-- how a listing ended is told; where it didn't end well and a line was refused memory, that is
+abbrev pub IsToldOf : Bool → Result Unit Complaint → Result Unit Complaint → Type 0
+IsToldOf is_refused (Ok done) result = result ≡ Ok tt
+IsToldOf is_refused (Err complaint) result = result ≡ Err (if is_refused then complaints.Fault faults.NoMemory None else complaint)
+
+-- a listing of which this is handed on for each line
+abbrev pub LineByLine : (List ℕ → List ℕ) → Listing → Listing
+LineByLine hand Lists result was now = (refused : Bool) × (done : Result Unit Complaint) × Passes hand (Lists done) was now × IsToldOf refused done result
+
+-- how a listing is shown: as it is; the chosen lines of it; an object for each line; or an object for each chosen line
+abbrev pub Shows : Bool → Option Choice → Listing → Listing
+Shows false None Lists result was now = Lists result was now
+Shows false (Some choice) Lists result was now = LineByLine (line_let (lets choice)) Lists result was now
+Shows true None Lists result was now = LineByLine object_line Lists result was now
+Shows true (Some choice) Lists result was now = LineByLine object_line (LineByLine (line_let (lets choice)) Lists) result was now
+
+-- a stream that had these bytes is listed in a style, to its end or until a fault
+abbrev pub ListsStream : Bool → Option (List ℕ) → Listing
+ListsStream is_pretty had (Ok done) was now = IfSome had (λ bytes. (text : List ℕ) × IsListed (style_of is_pretty) bytes (Ok tt) text × Appends was now text)
+ListsStream is_pretty had (Err complaint) was now = EndsStream (style_of is_pretty) had was now complaint
