@@ -1,3 +1,2 @@
-pub mod Listings
 pub mod Serving
 pub mod Statuses

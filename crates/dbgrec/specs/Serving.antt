@@ -1,6 +1,6 @@
 -- What is done for the words of a command line.
-use Rattle.std.specs.Prelude.{◌≡◌, ℕ, Bool, Option, List, [], Result, Err, IsSome}
-use Rattle.std.specs.Io.KnownBytes.{Keeps}
+use Rattle.std.specs.Prelude.{◌≡◌, ℕ, Bool, Option, List, [], Result, Ok, Err, IsSome, IfSome}
+use Rattle.std.specs.Io.KnownBytes.{Appends, Keeps}
 use Rattle.stores.specs.Events.{World}
 use Rattle.command_line.specs.declared.request.Asked.{Asked}
 use Rattle.command_line.specs.declared.request.Shown.{Shown}
@@ -9,16 +9,17 @@ use Rattle.command_line.specs.declared.request.TraceRequest.TheVariants as asks
 use Rattle.command_line.specs.declared.request.Request.{Request}
 use Rattle.command_line.specs.declared.request.Request.TheVariants as requests
 use Rattle.trace_reader.specs.Observing.{Observations}
-use Rattle.recorder.specs.Commands.{Serves, Changes, IsUntouched, IsToldAs}
-use Rattle.recorder.specs.Complaints.{status_told}
+use Rattle.recorder.specs.Commands.{Serves, Changes, IsUntouched, IsToldAs, style_of, EndsStream}
+use Rattle.trace_advice.specs.Complaints.{status_told}
 use Rattle.recorder.specs.Following.{Follows}
 use Rattle.trace_recording.specs.Incoming.{Outside, outside}
 use Rattle.recorder.specs.Sites.{asked_in, IsAtPlace}
-use Rattle.recorder.specs.declared.complaint.Complaint.{Complaint}
+use Rattle.trace_advice.specs.declared.complaint.Complaint.{Complaint}
 use Rattle.recorder.specs.declared.files.Files.{Files}
 use Rattle.script_port.specs.declared.fault.SimFault.{SimFault}
 use Rattle.simulator.specs.Simulated.{IsRun}
-use Rattle.dbgrec.specs.Listings.{Listing, Shows, ListsStream}
+use Rattle.shown_listings.specs.Listings.{Listing, Shows}
+use Rattle.trace_client.specs.Streams.{IsListed}
 
 -- what is asked is done with the files of a trace, by what is seen of the stream that comes in, as a listing
 abbrev pub ServesTrace : TraceRequest → Files → Outside → Listing
@@ -43,6 +44,11 @@ KeepsOn is_pretty files result was now = Follows is_pretty files was now result
 pub data FollowsFiles (world : World) (asked : Asked) (is_pretty : Bool) (shown : Shown) (was now : Option (List ℕ)) : Result Unit Complaint → Type 0 where
   followed : {result : Result Unit Complaint} (files : Files) → AreMade world (asks.List asked is_pretty) files → Shows shown.is_json shown.choice (KeepsOn is_pretty files) result was now → FollowsFiles world asked is_pretty shown was now result
   not_followed : (complaint : Complaint) → status_told complaint ≡ 1 → Keeps was now → FollowsFiles world asked is_pretty shown was now (Err complaint)
+
+-- a stream that had these bytes is listed in a style, to its end or until a fault
+abbrev pub ListsStream : Bool → Option (List ℕ) → Listing
+ListsStream is_pretty had (Ok done) was now = IfSome had (λ bytes. (text : List ℕ) × IsListed (style_of is_pretty) bytes (Ok tt) text × Appends was now text)
+ListsStream is_pretty had (Err complaint) was now = EndsStream (style_of is_pretty) had was now complaint
 
 -- what is asked was done, by the bytes that the input had
 abbrev pub IsServed : World → Request → Option (List ℕ) → Option (List ℕ) → Option (List ℕ) → Result Unit Complaint → Type 0

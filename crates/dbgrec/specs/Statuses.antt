@@ -7,8 +7,8 @@ use Rattle.clap.specs.declared.error.kind.ErrorKind.TheVariants as forms
 use Rattle.command_line.specs.declared.request.Request.{Request}
 use Rattle.command_line.specs.declared.request.Misuse.{Misuse}
 use Rattle.command_line.specs.declared.request.Misuse.TheVariants as misuses
-use Rattle.recorder.specs.Complaints.{status_told}
-use Rattle.recorder.specs.declared.complaint.Complaint.{Complaint}
+use Rattle.trace_advice.specs.Complaints.{status_told}
+use Rattle.trace_advice.specs.declared.complaint.Complaint.{Complaint}
 use Rattle.dbgrec.specs.Serving.{IsServed}
 
 -- of what was done: 0 where it was, else that of the complaint

@@ -1,10 +1,7 @@
 //! Records traces as `dbg` of Erlang does, and lists what a crash has left of them.
 #![tactic(auto)]
 
-mod console;
 mod following;
-mod listing;
-mod outlet;
 mod serving;
 mod simulation;
 mod streaming;
@@ -13,7 +10,7 @@ ghost use Rattle.std.specs.Prelude.{◌≡◌, Result};
 ghost use Rattle.std.specs.Process.{exit_status};
 ghost use Rattle.clap.specs.Values.{kind_of};
 ghost use Rattle.stores.specs.Events.{World};
-ghost use Rattle.recorder.specs.Complaints.{status_told};
+ghost use Rattle.trace_advice.specs.Complaints.{status_told};
 ghost use Rattle.dbgrec.specs.Serving.{IsServed};
 ghost use Rattle.dbgrec.specs.Statuses.{status_of_done, status_of_form, status_of_misuse, EndsSo, Answers, Ends};
 
@@ -21,17 +18,16 @@ use clap::Error as FormError;
 use clap::error::ErrorKind as MisuseKind;
 use command_line::{Misuse, Request, asked_for};
 use following::follow;
-use listing::show;
-use outlet::{Outlet, Output};
-use recorder::Complaint;
 use script_port::SimFault;
 use serving::serve_files;
+use shown_listings::{Outlet, Output, show};
 use simulation::serve_sim;
 use std::io::{ErrorKind, Read};
 use std::process::ExitCode;
 use std::sync::Wait;
 use std::{env, io};
 use streaming::StreamListing;
+use trace_advice::Complaint;
 
 /// What may stand for the number of `--size`.
 const A_SIZE: &str = "a number below 4294967296, with K, M or G after it or nothing";

@@ -3,11 +3,12 @@ ghost use Rattle.std.specs.Prelude.{ℕ, Option, List, Result};
 ghost use Rattle.recorder.specs.Commands.{IsToldAs};
 ghost use Rattle.simulator.specs.Simulated.{IsRun};
 
-use recorder::{Complaint, told};
+use recorder::told;
 use script_port::SimFault;
 use simulator::run_sim;
 use std::alloc::Global;
 use std::io::{BufReader, Read, Write};
+use trace_advice::Complaint;
 
 /// What is read at a time, in bytes.
 const BUFFER: usize = 65_536;

@@ -1,13 +1,13 @@
 //! An entry stream, listed and shown.
 ghost use Rattle.std.specs.Prelude.{◌≡◌};
-ghost use Rattle.dbgrec.specs.Listings.{ListsStream};
+ghost use Rattle.dbgrec.specs.Serving.{ListsStream};
 
-use crate::listing::Listable;
-use crate::outlet::Output;
-use recorder::{Complaint, serve_stream};
+use recorder::serve_stream;
+use shown_listings::{Listable, Output};
 use std::alloc::Global;
 use std::io::{Read, Write};
 use std::sync::Wait;
+use trace_advice::Complaint;
 
 /// An entry stream, which is to be listed.
 #[derive(Drop)]

@@ -2,7 +2,7 @@ use Rattle.std.proofs.Common.{subst}
 use Rattle.std.proofs.KnownBytes.{Keeps-refl}
 use Rattle.std.proofs.lemmas.Result.{err_from_is_err_and}
 use Rattle.trace_recording.specs.Incoming.{outside}
-use Rattle.dbgrec.specs.Listings.{Shows}
+use Rattle.shown_listings.specs.Listings.{Shows}
 use Rattle.dbgrec.specs.Serving.{ServesTrace, served, no_files}
 use Rattle.dbgrec.proofs.serving.serve_files.Goals as goal
 

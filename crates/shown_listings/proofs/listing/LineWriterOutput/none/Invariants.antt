@@ -1,4 +1,4 @@
-use Rattle.dbgrec.proofs.listing.LineWriterOutput.none.Given as goal
+use Rattle.shown_listings.proofs.listing.LineWriterOutput.none.Given as goal
 
 abbrev pub ghost-new : goal.ghost-new
 ghost-new g a = g.W.Write.contents a.out

@@ -1,16 +1,16 @@
 //! Listings, shown whole, by some of their lines or as JSON objects.
 ghost use Rattle.std.specs.Prelude.{◌≡◌, ℕ, List, Option, Result};
-ghost use Rattle.dbgrec.specs.Listings.{Listing, LineByLine, IsToldOf, Shows};
+ghost use Rattle.shown_listings.specs.Listings.{Listing, LineByLine, IsToldOf, Shows};
 
 use crate::outlet::{Output, taken};
 use chosen_lines::{LineRule, LineWriter};
 use command_line::Shown;
 use json_lines::Objects;
-use recorder::Complaint;
 use script_port::SimFault;
 use std::alloc::Global;
 use std::io::{Read, Write};
 use std::sync::Wait;
+use trace_advice::Complaint;
 
 /// What can be listed.
 pub trait Listable {

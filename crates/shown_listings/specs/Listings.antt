@@ -1,14 +1,12 @@
 -- Listings, and how they are shown.
-use Rattle.std.specs.Prelude.{◌≡◌, ℕ, Bool, true, false, Option, Some, None, List, Result, Ok, Err, IfSome, if◌then◌else◌}
+use Rattle.std.specs.Prelude.{◌≡◌, ℕ, Bool, true, false, Option, Some, None, List, Result, Ok, Err, if◌then◌else◌}
 use Rattle.std.specs.Io.KnownBytes.{Appends}
-use Rattle.trace_client.specs.Streams.{IsListed}
 use Rattle.chosen_lines.specs.declared.choice.Choice.{Choice}
 use Rattle.chosen_lines.specs.Lets.{lets}
 use Rattle.chosen_lines.specs.Lines.{line_let, HandsOn}
 use Rattle.json_lines.specs.Objects.{object_line}
-use Rattle.recorder.specs.Commands.{style_of, EndsStream}
-use Rattle.recorder.specs.declared.complaint.Complaint.{Complaint}
-use Rattle.recorder.specs.declared.complaint.Complaint.TheVariants as complaints
+use Rattle.trace_advice.specs.declared.complaint.Complaint.{Complaint}
+use Rattle.trace_advice.specs.declared.complaint.Complaint.TheVariants as complaints
 use Rattle.script_port.specs.declared.fault.SimFault.TheVariants as faults
 
 -- how a listing ends, and what it does with the bytes that a writer holds
@@ -38,8 +36,3 @@ Shows false None Lists result was now = Lists result was now
 Shows false (Some choice) Lists result was now = LineByLine (line_let (lets choice)) Lists result was now
 Shows true None Lists result was now = LineByLine object_line Lists result was now
 Shows true (Some choice) Lists result was now = LineByLine object_line (LineByLine (line_let (lets choice)) Lists) result was now
-
--- a stream that had these bytes is listed in a style, to its end or until a fault
-abbrev pub ListsStream : Bool → Option (List ℕ) → Listing
-ListsStream is_pretty had (Ok done) was now = IfSome had (λ bytes. (text : List ℕ) × IsListed (style_of is_pretty) bytes (Ok tt) text × Appends was now text)
-ListsStream is_pretty had (Err complaint) was now = EndsStream (style_of is_pretty) had was now complaint

@@ -5,7 +5,7 @@ use Rattle.chosen_lines.specs.declared.given.Given.{Given}
 use Rattle.chosen_lines.specs.Lines.{rest_after, handed_on}
 use Rattle.chosen_lines.specs.Held.{after_counted, line_contents}
 use Rattle.chosen_lines.proofs.Handed.{handed}
-use Rattle.dbgrec.specs.Listings.{Passes}
+use Rattle.shown_listings.specs.Listings.{Passes}
 
 -- all that was listed went into a new writer of lines, whose own writer has what is handed on for them
 pub passes : (hand later_hand : List ℕ → List ℕ) (numbers later : List (Option (List ℕ))) (old new : Given) (was now : Option (List ℕ)) (line made : List ℕ) (sent : ℕ) (Lists : Option (List ℕ) → Option (List ℕ) → Type 0) → old.start ≡ was → old.bytes ≡ []

@@ -1,0 +1,11 @@
+//! How a listing is shown: whole, by some of its lines or as JSON objects; and where: standard output, the clock, and
+//! standard error.
+#![tactic(auto)]
+
+mod console;
+mod listing;
+mod outlet;
+
+pub use console::Console;
+pub use listing::{Listable, show};
+pub use outlet::{Outlet, Output, taken};
