@@ -2,7 +2,6 @@
 #![tactic(auto)]
 
 mod console;
-mod following;
 mod listing;
 mod outlet;
 mod serving;
@@ -20,12 +19,11 @@ ghost use Rattle.dbgrec.specs.Statuses.{status_of_done, status_of_form, status_o
 use clap::Error as FormError;
 use clap::error::ErrorKind as MisuseKind;
 use command_line::{Misuse, Request, asked_for};
-use following::follow;
 use listing::show;
 use outlet::{Outlet, Output};
 use recorder::Complaint;
 use script_port::SimFault;
-use serving::serve_files;
+use serving::{follow, serve_files};
 use simulation::serve_sim;
 use std::io::{ErrorKind, Read};
 use std::process::ExitCode;
