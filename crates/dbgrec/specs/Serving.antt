@@ -20,10 +20,21 @@ use Rattle.script_port.specs.declared.fault.SimFault.{SimFault}
 use Rattle.simulator.specs.Simulated.{IsRun}
 use Rattle.shown_listings.specs.Listings.{Listing, Shows}
 use Rattle.trace_client.specs.Streams.{IsListed}
+use Rattle.dbgrec.specs.declared.serving.Doing.{Doing}
+use Rattle.dbgrec.specs.declared.serving.Doing.TheVariants as doings
 
 -- what is asked is done with the files of a trace, by what is seen of the stream that comes in, as a listing
 abbrev pub ServesTrace : TraceRequest → Files → Outside → Listing
 ServesTrace request old saw result was now = (observed : Observations) × (new : Files) × Serves request old new saw observed was now result
+
+-- how a trace is followed, as a listing
+abbrev pub KeepsOn : Bool → Files → Listing
+KeepsOn is_pretty files result was now = Follows is_pretty files was now result
+
+-- what is done with the files of a trace, as a listing
+abbrev pub Does : Doing → Files → Outside → Listing
+Does (doings.Asked request) files saw = ServesTrace request files saw
+Does (doings.Followed is_pretty) files saw = KeepsOn is_pretty files
 
 -- the files that are made for what is asked, of which nothing was read yet; where they are to be changed, they are locked
 pub record AreMade (world : World) (request : TraceRequest) (files : Files) : Type 0 where
@@ -35,10 +46,6 @@ pub record AreMade (world : World) (request : TraceRequest) (files : Files) : Ty
 pub data ServesFiles (world : World) (request : TraceRequest) (shown : Shown) (had was now : Option (List ℕ)) : Result Unit Complaint → Type 0 where
   served : {result : Result Unit Complaint} (files : Files) → AreMade world request files → Shows shown.is_json shown.choice (ServesTrace request files (outside had 0 [])) result was now → ServesFiles world request shown had was now result
   no_files : (complaint : Complaint) → status_told complaint ≡ 1 → Keeps was now → ServesFiles world request shown had was now (Err complaint)
-
--- how a trace is followed, as a listing
-abbrev pub KeepsOn : Bool → Files → Listing
-KeepsOn is_pretty files result was now = Follows is_pretty files was now result
 
 -- files were made for what is asked, and they were followed and shown so; or none could be had, and nothing is written
 pub data FollowsFiles (world : World) (asked : Asked) (is_pretty : Bool) (shown : Shown) (was now : Option (List ℕ)) : Result Unit Complaint → Type 0 where

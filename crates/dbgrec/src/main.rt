@@ -1,7 +1,6 @@
 //! Records traces as `dbg` of Erlang does, and lists what a crash has left of them.
 #![tactic(auto)]
 
-mod following;
 mod serving;
 mod simulation;
 mod streaming;
@@ -17,9 +16,8 @@ ghost use Rattle.dbgrec.specs.Statuses.{status_of_done, status_of_form, status_o
 use clap::Error as FormError;
 use clap::error::ErrorKind as MisuseKind;
 use command_line::{Misuse, Request, asked_for};
-use following::follow;
 use script_port::SimFault;
-use serving::serve_files;
+use serving::{follow, serve_files};
 use shown_listings::{Outlet, Output, show};
 use simulation::serve_sim;
 use std::io::{ErrorKind, Read};
