@@ -1,12 +1,14 @@
 """Cases of a trace that is listed and exported while another process writes it."""
 
 import contextlib
+import fcntl
 import struct
 import threading
 import time
 
 from cases import group
-from entries import drop, listing, message
+from entries import EXAMPLE, drop, example_line, listing, message
+from preloading import with_library
 from program import same
 from segments import segment, wrap_header
 
@@ -35,9 +37,9 @@ WRAP = ("--kind", "wrap", "--size", "8K")
 A_LAP = 200_000
 
 # wraps that are listed and exported from their beginning on, how often each, and the entries that take each round
-BEGUN = 64
+BEGUN = 8
 LOOKS = 4
-ENTRIES = 4_000
+ENTRIES = 1_000
 
 
 def entry(number):
@@ -162,6 +164,28 @@ def a_wrap_that_is_begun_is_never_refused(program):
         windows.append(shown_first(command, program.good(command, name, *WRAP[:2])))
         never_goes_back(windows)
         same(sum(windows[-1]), ENTRIES)
+
+
+@case
+def a_file_of_a_wrap_that_is_made_between_two_readings_is_there(program):
+    header = {"size": 50, "count": 2}
+    last = program.folder / "last"
+    for command, output in (
+        ("list", listing(1, 0, [example_line(1)])),
+        ("export", message(EXAMPLE)),
+    ):
+        # who writes has retired the first run, and not yet begun the third: no reading is whole
+        (program.folder / "w0").write_bytes(b"\0")
+        (program.folder / "w1").write_bytes(segment(wrap_header(1, before=1, **header), message(EXAMPLE)))
+        (program.folder / "w2").unlink(missing_ok=True)
+        last.write_bytes(segment(wrap_header(2, before=2, **header)))
+        with open(program.folder / "w0", "rb") as held:
+            fcntl.flock(held, fcntl.LOCK_EX)
+            # the first lock is tried before the first reading, and the second after it
+            moved = with_library(program, MOVE_FROM=last, MOVE_TO=program.folder / "w2", MOVE_LOCK=2)
+            ran = program.run(command, "w", *WRAP[:2], before=moved)
+        same((ran.status, ran.output, ran.errors), (0, output, b""))
+        assert not last.exists(), "it wasn't read again"
 
 
 @case

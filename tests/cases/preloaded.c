@@ -5,6 +5,9 @@
  *   FAIL_AFTER  .. behind so many (0 where it isn't said) ..
  *   FAIL_ERROR  .. with this number of errno (5, EIO, where it isn't said)
  *   INTERRUPT   each second read of standard input is interrupted
+ *   MOVE_FROM   a file, which gets another name ..
+ *   MOVE_TO     .. this one ..
+ *   MOVE_LOCK   .. before the lock of this number is tried (1, the first, where it isn't said)
  */
 #define _GNU_SOURCE
 #include <errno.h>
@@ -113,6 +116,14 @@ int ftruncate(int file, off_t length)
 int ftruncate64(int file, off_t length)
 {
     return ftruncate(file, length);
+}
+
+int flock(int file, int how)
+{
+    static int locks;
+    if (getenv("MOVE_FROM") && ++locks == number("MOVE_LOCK", 1) && rename(getenv("MOVE_FROM"), getenv("MOVE_TO")))
+        abort();
+    return (int)syscall(SYS_flock, file, how);
 }
 
 ssize_t read(int file, void *room, size_t size)
