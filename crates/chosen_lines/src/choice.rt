@@ -135,6 +135,7 @@ impl LineRule for Choice {
 
     ghost same = { λ a b by. same_lines (asks_of a) (asks_of b) by };
 
+    #[inline(always)]
     fn put(&self, line: &[u8], out: &mut Vec<u8>) -> Result<(), AllocError> {
         if !self.lets_through(line) {
             return Ok(());

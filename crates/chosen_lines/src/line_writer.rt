@@ -48,6 +48,7 @@ pub struct LineWriter<L: LineRule, W: Write> {
 }
 
 /// Writes these bytes, and answers how many of them are written: all, or fewer and why.
+#[inline(always)]
 fn write_some<W: Write>(out: &mut W, bytes: &[u8]) -> (usize, io::Result<()>)
     ensures written { Appends (W.contents out.old) (W.contents out.new) (take result.0 bytes.now) }
     ensures all { OnOk result.1 (result.0 ≡ length bytes.now) }
@@ -104,6 +105,7 @@ impl<L: LineRule, W: Write> LineWriter<L, W> {
     }
 
     /// Makes what is handed on for the line, where no part of it is handed on.
+    #[inline(always)]
     fn make(&mut self) -> io::Result<()>
         ensures rule { self.new.rule ≡ self.old.rule }
         ensures given { self.new.given ≡ self.old.given }
@@ -122,6 +124,7 @@ impl<L: LineRule, W: Write> LineWriter<L, W> {
     }
 
     /// Hands on what is made, and ends the line.
+    #[inline(always)]
     fn send(&mut self) -> io::Result<()>
         requires { self.old.made.items ≡ L.handed self.old.rule self.old.line.items }
         ensures rule { self.new.rule ≡ self.old.rule }

@@ -17,6 +17,7 @@ impl LineRule for Objects {
 
     ghost same = { λ a b by. refl };
 
+    #[inline(always)]
     fn put(&self, line: &[u8], out: &mut Vec<u8>) -> Result<(), AllocError> {
         put_object_line(out, line)
     }
