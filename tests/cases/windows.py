@@ -1,5 +1,6 @@
-"""Cases of `list` and `export` of a wrap whose files are read twice, and of which no entry is held."""
+"""Cases of `list` and `export` of a wrap that is written out as its files are read, and of which no entry is held."""
 
+import pathlib
 import time
 
 from cases import group
@@ -91,21 +92,62 @@ def a_wrap_of_5_megabytes_that_is_written_is_listed_and_exported_in_8(program):
     written_in_8(program, ("--kind", "wrap", "--size", "1000000", "--count", "5"), 1_000_000, 5, entries)
 
 
-@case
-def a_wrap_whose_middle_file_is_damaged_is_refused(program):
+def three_files(program, *before):
+    """A wrap of three files with two entries each, by how many entries each header says come before it."""
     entry = message(EXAMPLE)
-    wrap = ("t", "--kind", "wrap", "--count", "4")
-    for file in range(3):
-        (program.folder / f"t{file}").write_bytes(segment(wrap_header(file, count=4, before=2 * file), entry * 2))
-    lines = [example_line(number) for number in range(6)]
-    same(program.good("list", *wrap), listing(0, 0, lines))
+    for file, count in enumerate(before):
+        (program.folder / f"t{file}").write_bytes(segment(wrap_header(file, count=4, before=count), entry * 2))
+    return ("t", "--kind", "wrap", "--count", "4"), entry
+
+
+def lines_up_to(count):
+    return "".join(f"{example_line(number)}\n" for number in range(count)).encode()
+
+
+@case
+def a_wrap_whose_middle_file_is_damaged_is_listed_up_to_its_damage(program):
+    wrap, entry = three_files(program, 0, 2, 4)
+    same(program.good("list", *wrap), lines_up_to(6) + b"end_of_trace\n")
     same(program.good("export", *wrap), entry * 6)
     damaged = bytearray((program.folder / "t1").read_bytes())
     damaged[41] = 2
     (program.folder / "t1").write_bytes(damaged)
+    for command, done, output in (("list", "listed", lines_up_to(2)), ("export", "written", entry * 2)):
+        says = f"dbgrec: refused 1 Damaged file 1 at 36\nt1 is damaged there: the 2 entries before it are {done}"
+        program.refused(command, *wrap, says=says, output=output)
+
+
+@case
+def a_wrap_whose_header_is_damaged_is_not_listed(program):
+    wrap, _ = three_files(program, 0, 2, 4)
+    damaged = bytearray((program.folder / "t1").read_bytes())
+    damaged[1] = 0
+    (program.folder / "t1").write_bytes(damaged)
     for command, done in (("list", "listed"), ("export", "written")):
-        says = f"dbgrec: refused 1 Damaged file 1 at 36\nt1 is damaged there: no entry is {done}"
+        says = f"dbgrec: refused 1 Damaged file 1 at 0\nt1 is damaged there: no entry is {done}"
         program.refused(command, *wrap, says=says)
+
+
+@case
+def a_wrap_in_which_an_entry_is_missing_has_no_last_line(program):
+    wrap, entry = three_files(program, 0, 3, 5)
+    for command, output in (("list", lines_up_to(6)), ("export", entry * 6)):
+        outcome = program.run(command, *wrap)
+        same((outcome.status, outcome.output), (1, output))
+        assert outcome.errors.startswith(b"dbgrec: refused 3 Sequence\n"), outcome
+
+
+@case
+def the_first_line_of_a_wrap_comes_before_its_files_are_read(program):
+    entries = [message(bytes(95))] * 400_000
+    wrap = ("--kind", "wrap", "--size", "8000000", "--count", "4")
+    program.good("import", "t", *wrap, stdin=b"".join(entries))
+    with program.start("list", "t") as lister:
+        first = lister.line()
+        assert first.startswith("before entries "), first
+        # it waits for its reader now, with a piece of the listing written
+        read = pathlib.Path(f"/proc/{lister.process.pid}/io").read_text(encoding="ascii").split()[1]
+    assert int(read) < 3_000_000, read
 
 
 @case
