@@ -76,11 +76,11 @@ def a_damaged_wrap_says_which_file_is(program):
         program.refused("import", name, *WRAP, says=says)
 
 
-def disagree(program, base, number, name, words):
-    """Fails unless each command tells this refusal, and which files disagree."""
+def disagree(program, base, number, name, words, listed=b"", exported=b""):
+    """Fails unless each command tells this refusal, and which files disagree, after what was read until then."""
     second = f"\n{words}" if words else ""
-    for command in ("list", "export"):
-        program.refused(command, base, *WRAP, says=f"dbgrec: refused {number} {name}{second}")
+    for command, output in (("list", listed), ("export", exported)):
+        program.refused(command, base, *WRAP, says=f"dbgrec: refused {number} {name}{second}", output=output)
     for command in ("import", "record"):
         program.refused(command, base, *WRAP, says=f"dbgrec: refused 5 Recover {number} {name}{second}")
 
@@ -98,7 +98,8 @@ def files_that_do_not_belong_together_are_named(program):
     disagree(program, "b", 3, "Sequence", "b1 and b0 don't belong together")
     put("c0", segment(wrap_header(3, before=21), drop(1) * 21))
     put("c1", segment(wrap_header(4, before=41), drop(1)))
-    disagree(program, "c", 3, "Sequence", "c0 and c1 don't belong together")
+    listed = "".join(["before entries 21 dropped 0\n", *(f"{number} drop 1\n" for number in range(21, 43))]).encode()
+    disagree(program, "c", 3, "Sequence", "c0 and c1 don't belong together", listed, drop(1) * 22)
     put("d2", segment(wrap_header(1)))
     disagree(program, "d", 3, "Sequence", "d2 isn't in its place")
 
