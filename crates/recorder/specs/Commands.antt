@@ -20,7 +20,7 @@ use Rattle.trace_files.specs.declared.standing.Standing.TheVariants as standings
 use Rattle.trace_reader.specs.Listings.{ListsStore, ExportsStore}
 use Rattle.trace_reader.specs.Observing.{Observations}
 use Rattle.trace_reader.specs.Reading.{IsWhyNotRead}
-use Rattle.window_reader.specs.Windows.{IsWrittenTwice}
+use Rattle.window_reader.specs.Windows.{IsWrittenInTurn}
 use Rattle.trace_reader.specs.Streamed.{StopsBy}
 use Rattle.trace_reader.specs.Wiping.{HasForeign, IsWhyNotWiped, IsNotToWipe}
 use Rattle.trace_reader.specs.declared.fault.ReadFault.{ReadFault}
@@ -72,7 +72,7 @@ IsExplained (Err fault) (Err complaint) = IsToldOf fault complaint
 pub data IsRead (Tells : Image → List ℕ → Type 0) (form : Form) (image : Image) (was now : Option (List ℕ)) : Result Unit Complaint → Type 0 where
   whole : (text : List ℕ) (mid : Option (List ℕ)) → IsStanding standings.Ours image → Tells image text → Appends was mid text → Keeps mid now → IsRead Tells form image was now (Ok tt)
   not_written_out : (text : List ℕ) (mid : Option (List ℕ)) (complaint : Complaint) → IsStanding standings.Ours image → Tells image text → Appends was mid text → Keeps mid now → status_told complaint ≡ 1 → IsRead Tells form image was now (Err complaint)
-  refused : (fault : ReadFault) (entries : ℕ) (mid : Option (List ℕ)) (complaint : Complaint) → IsWhyNotRead fault image → IsWrittenTwice form fault image was mid entries → Keeps mid now → IsToldOf (read_fault fault) complaint → IsRead Tells form image was now (Err complaint)
+  refused : (fault : ReadFault) (entries : ℕ) (mid : Option (List ℕ)) (complaint : Complaint) → IsWhyNotRead fault image → IsWrittenInTurn form fault image was mid entries → Keeps mid now → IsToldOf (read_fault fault) complaint → IsRead Tells form image was now (Err complaint)
 
 -- a trace was cleared for good: whatever a crash leaves of it is blank
 pub record IsCleared (clearing : Clearing) (old new : FolderStore) : Type 0 where
