@@ -266,8 +266,8 @@ def wrong_options_of_a_listing_have_status_2(program):
 
 @case
 def a_long_listing_shows_on_a_terminal_how_far_it_is(program):
-    listed = [example_line(number) for number in range(8_000)]
-    (program.folder / "t0").write_bytes(segment(wrap_header(0, size=1_000_000), message(EXAMPLE) * 8_000 + drop(7)))
+    listed = [example_line(number) for number in range(1, 8_001)]
+    (program.folder / "t0").write_bytes(segment(wrap_header(0, size=1_000_000), drop(7) + message(EXAMPLE) * 8_000))
     screen, terminal = pty.openpty()
     command = [program.path, "list", "t", "--kind", "wrap", "--count", "2"]
     lister = subprocess.Popen(command, cwd=program.folder, stdout=subprocess.PIPE, stderr=terminal)
@@ -275,7 +275,7 @@ def a_long_listing_shows_on_a_terminal_how_far_it_is(program):
     # the listing waits until somebody reads it
     time.sleep(1.5)
     output, _ = lister.communicate(timeout=PATIENCE)
-    same((lister.returncode, output), (0, listing(0, 0, [*listed, "8000 drop 7"])))
+    same((lister.returncode, output), (0, listing(0, 0, ["0 drop 7", *listed])))
     said = read_to_end(screen)
     os.close(screen)
     shown = [line.split(b" ") for line in said.split(b"\r") if b"entries" in line]
@@ -283,5 +283,5 @@ def a_long_listing_shows_on_a_terminal_how_far_it_is(program):
     for words in shown:
         entries = int(words[0])
         same((words[1::2], words[4]), ([b"entries,", b"bytes,", b"dropped\x1b[K"], b"7"))
-        same((entries % 1_024, int(words[2])), (0, entries * len(message(EXAMPLE))))
+        same((entries % 1_024, int(words[2])), (0, len(drop(7)) + (entries - 1) * len(message(EXAMPLE))))
     assert said.endswith(b"\r\x1b[K"), said
