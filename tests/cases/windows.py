@@ -121,7 +121,8 @@ def a_wrap_whose_middle_file_is_damaged_is_listed_up_to_its_damage(program):
 def a_wrap_whose_header_is_damaged_is_not_listed(program):
     wrap, _ = three_files(program, 0, 2, 4)
     damaged = bytearray((program.folder / "t1").read_bytes())
-    damaged[1] = 0
+    # no trace has this kind
+    damaged[5] = 9
     (program.folder / "t1").write_bytes(damaged)
     for command, done in (("list", "listed"), ("export", "written")):
         says = f"dbgrec: refused 1 Damaged file 1 at 0\nt1 is damaged there: no entry is {done}"
@@ -139,7 +140,7 @@ def a_wrap_in_which_an_entry_is_missing_has_no_last_line(program):
 
 @case
 def the_first_line_of_a_wrap_comes_before_its_files_are_read(program):
-    entries = [message(bytes(95))] * 400_000
+    entries = [message(bytes(95))] * 390_000
     wrap = ("--kind", "wrap", "--size", "8000000", "--count", "4")
     program.good("import", "t", *wrap, stdin=b"".join(entries))
     with program.start("list", "t") as lister:
