@@ -209,3 +209,28 @@ def a_wrap_that_stays_refused_while_it_is_locked_says_so(program):
         ran = program.run(command, "w", *kept)
         same((ran.status, ran.output), (1, b""))
         assert b"another process" not in ran.errors, ran
+
+
+@case
+def a_large_wrap_that_is_written_is_read_through_before_its_first_line(program):
+    sent = message(bytes(60_000))
+    header = {"size": 1_170_000, "count": 4}
+    for file in range(3):
+        (program.folder / f"w{file}").write_bytes(segment(wrap_header(file, before=20 * file, **header), *[sent] * 20))
+    wrap = ("w", "--kind", "wrap", "--count", "4")
+    lines = [f"{number} opaque 60000" for number in range(60)]
+    damaged = bytearray((program.folder / "w1").read_bytes())
+    damaged[41] = 2
+    with open(program.folder / "w0", "rb") as held:
+        fcntl.flock(held, fcntl.LOCK_EX)
+        same(program.good("list", *wrap), listing(0, 0, lines))
+        same(program.good("export", *wrap), sent * 60)
+        (program.folder / "w1").write_bytes(damaged)
+        for command in ("list", "export"):
+            ran = program.run(command, *wrap)
+            same((ran.status, ran.output), (1, b""))
+            same(ran.errors.decode().splitlines(), ["dbgrec: refused 1 Damaged file 1 at 36", ADVICE])
+    # nobody writes it: what stands before the damage is shown at once
+    for command, output in (("list", "".join(f"{line}\n" for line in lines[:20]).encode()), ("export", sent * 20)):
+        ran = program.run(command, *wrap)
+        same((ran.status, ran.output), (1, output))

@@ -2,6 +2,7 @@
 ghost use Rattle.std.specs.Prelude.{◌≡◌, ◌≤◌, []};
 ghost use Rattle.trace_reader.specs.Observing.{newest_time};
 
+use command_line::TraceRequest;
 use std::io::IsTerminal;
 use std::thread;
 use std::time::{Clock, Duration, Instant};
@@ -102,5 +103,25 @@ impl Host for Console {
 
     fn pause(&mut self) {
         thread::sleep(&self.rt, Duration::from_millis(PAUSE));
+    }
+}
+
+/// Standard error beside standard output: where the output itself goes to a terminal, no other line is shown there.
+fn beside_output(rt: &HostRuntime) -> Console
+    ensures { result.observed.notes ≡ [] }
+{
+    Console::new(*rt, rt.stdout().is_terminal())
+}
+
+/// The clock and standard error, for what is done with a trace. Beside a listing or a trace in numbers nothing else is shown
+/// on a terminal.
+pub fn console_for(rt: &HostRuntime, request: &TraceRequest<'_>) -> Console
+    ensures { result.observed.notes ≡ [] }
+{
+    match request {
+        TraceRequest::List { .. } => beside_output(rt),
+        TraceRequest::Export(_) => beside_output(rt),
+        TraceRequest::Info { .. } => beside_output(rt),
+        _ => Console::new(*rt, false),
     }
 }

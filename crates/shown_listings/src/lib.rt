@@ -6,6 +6,6 @@ mod console;
 mod listing;
 mod outlet;
 
-pub use console::Console;
+pub use console::{Console, console_for};
 pub use listing::{Listable, show};
 pub use outlet::{Outlet, Output, taken};
