@@ -1,61 +1,14 @@
 -- What is done for the words of a command line.
-use Rattle.std.specs.Prelude.{◌≡◌, ℕ, Bool, Option, List, [], Result, Ok, Err, IsSome, IfSome}
-use Rattle.std.specs.Io.KnownBytes.{Appends, Keeps}
+use Rattle.std.specs.Prelude.{ℕ, Option, List, Result}
 use Rattle.stores.specs.Events.{World}
-use Rattle.command_line.specs.declared.request.Asked.{Asked}
-use Rattle.command_line.specs.declared.request.Shown.{Shown}
-use Rattle.command_line.specs.declared.request.TraceRequest.{TraceRequest}
-use Rattle.command_line.specs.declared.request.TraceRequest.TheVariants as asks
 use Rattle.command_line.specs.declared.request.Request.{Request}
 use Rattle.command_line.specs.declared.request.Request.TheVariants as requests
-use Rattle.trace_reader.specs.Observing.{Observations}
-use Rattle.recorder.specs.Commands.{Serves, Changes, IsUntouched, IsToldAs, style_of, EndsStream}
-use Rattle.trace_advice.specs.Complaints.{status_told}
-use Rattle.recorder.specs.Following.{Follows}
-use Rattle.trace_recording.specs.Incoming.{Outside, outside}
-use Rattle.recorder.specs.Sites.{asked_in, IsAtPlace}
+use Rattle.trace_advice.specs.Complaints.{IsToldAs}
 use Rattle.trace_advice.specs.declared.complaint.Complaint.{Complaint}
-use Rattle.recorder.specs.declared.files.Files.{Files}
 use Rattle.script_port.specs.declared.fault.SimFault.{SimFault}
 use Rattle.simulator.specs.Simulated.{IsRun}
-use Rattle.shown_listings.specs.Listings.{Listing, Shows}
-use Rattle.trace_client.specs.Streams.{IsListed}
-use Rattle.dbgrec.specs.declared.serving.Doing.{Doing}
-use Rattle.dbgrec.specs.declared.serving.Doing.TheVariants as doings
-
--- what is asked is done with the files of a trace, by what is seen of the stream that comes in, as a listing
-abbrev pub ServesTrace : TraceRequest → Files → Outside → Listing
-ServesTrace request old saw result was now = (observed : Observations) × (new : Files) × Serves request old new saw observed was now result
-
--- how a trace is followed, as a listing
-abbrev pub KeepsOn : Bool → Files → Listing
-KeepsOn is_pretty files result was now = Follows is_pretty files was now result
-
--- what is done with the files of a trace, as a listing
-abbrev pub Does : Doing → Files → Outside → Listing
-Does (doings.Asked request) files saw = ServesTrace request files saw
-Does (doings.Followed is_pretty) files saw = KeepsOn is_pretty files
-
--- the files that are made for what is asked, of which nothing was read yet; where they are to be changed, they are locked
-pub record AreMade (world : World) (request : TraceRequest) (files : Files) : Type 0 where
-  pub past : IsUntouched world files
-  pub locked : Changes request → IsSome files.locked
-  pub place : IsAtPlace (asked_in request) files
-
--- files were made for what is asked, it was done with them and shown so; or none could be had, and nothing is written
-pub data ServesFiles (world : World) (request : TraceRequest) (shown : Shown) (had was now : Option (List ℕ)) : Result Unit Complaint → Type 0 where
-  served : {result : Result Unit Complaint} (files : Files) → AreMade world request files → Shows shown.is_json shown.choice (ServesTrace request files (outside had 0 [])) result was now → ServesFiles world request shown had was now result
-  no_files : (complaint : Complaint) → status_told complaint ≡ 1 → Keeps was now → ServesFiles world request shown had was now (Err complaint)
-
--- files were made for what is asked, and they were followed and shown so; or none could be had, and nothing is written
-pub data FollowsFiles (world : World) (asked : Asked) (is_pretty : Bool) (shown : Shown) (was now : Option (List ℕ)) : Result Unit Complaint → Type 0 where
-  followed : {result : Result Unit Complaint} (files : Files) → AreMade world (asks.List asked is_pretty) files → Shows shown.is_json shown.choice (KeepsOn is_pretty files) result was now → FollowsFiles world asked is_pretty shown was now result
-  not_followed : (complaint : Complaint) → status_told complaint ≡ 1 → Keeps was now → FollowsFiles world asked is_pretty shown was now (Err complaint)
-
--- a stream that had these bytes is listed in a style, to its end or until a fault
-abbrev pub ListsStream : Bool → Option (List ℕ) → Listing
-ListsStream is_pretty had (Ok done) was now = IfSome had (λ bytes. (text : List ℕ) × IsListed (style_of is_pretty) bytes (Ok tt) text × Appends was now text)
-ListsStream is_pretty had (Err complaint) was now = EndsStream (style_of is_pretty) had was now complaint
+use Rattle.shown_listings.specs.Listings.{Shows}
+use Rattle.recorder.specs.Serving.{ServesFiles, FollowsFiles, ListsStream}
 
 -- what is asked was done, by the bytes that the input had
 abbrev pub IsServed : World → Request → Option (List ℕ) → Option (List ℕ) → Option (List ℕ) → Result Unit Complaint → Type 0

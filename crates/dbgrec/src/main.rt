@@ -1,10 +1,6 @@
 //! Records traces as `dbg` of Erlang does, and lists what a crash has left of them.
 #![tactic(auto)]
 
-mod serving;
-mod simulation;
-mod streaming;
-
 ghost use Rattle.std.specs.Prelude.{◌≡◌, Result};
 ghost use Rattle.std.specs.Process.{exit_status};
 ghost use Rattle.stores.specs.Events.{World};
@@ -13,14 +9,13 @@ ghost use Rattle.dbgrec.specs.Statuses.{EndsSo, Answers, Ends};
 
 use command_line::{Misuse, Request, asked_for};
 use exit_codes::{code_of, correct, no_memory};
-use serving::{follow, serve_files};
+use recorder::{StreamListing, follow_files, serve_files};
 use shown_listings::{Outlet, Output, show};
-use simulation::serve_sim;
+use simulator::serve_sim;
 use std::io::Read;
 use std::process::ExitCode;
 use std::sync::Wait;
 use std::{env, io};
-use streaming::StreamListing;
 use trace_advice::Complaint;
 
 /// Does what is asked for.
@@ -39,7 +34,7 @@ fn serve<R: Wait, I: Read + Drop, W: Output>(
             asked,
             is_pretty,
             shown,
-        } => follow(rt, waiter, asked, is_pretty, shown, input, output),
+        } => follow_files(rt, waiter, asked, is_pretty, shown, input, output),
         Request::Sim => serve_sim(rt.alloc(), input, output),
         Request::Stream { is_pretty, shown } => {
             let alloc = rt.alloc();

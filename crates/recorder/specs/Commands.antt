@@ -30,7 +30,7 @@ use Rattle.trace_reader.specs.declared.wiping.Clearing.TheVariants.{Own, Any}
 use Rattle.command_line.specs.declared.request.Rules.{Rules}
 use Rattle.command_line.specs.declared.request.TraceRequest.{TraceRequest}
 use Rattle.command_line.specs.declared.request.TraceRequest.TheVariants as requests
-use Rattle.trace_advice.specs.Complaints.{status_told}
+use Rattle.trace_advice.specs.Complaints.{status_told, IsToldAs}
 use Rattle.script_port.specs.Faults.{status_of, run_fault}
 use Rattle.trace_advice.specs.Faults.{read_fault, wipe_fault}
 use Rattle.recorder.specs.Files.{OnlyLooks, LooksOver, WasRecorded, WasFed}
@@ -51,12 +51,6 @@ use Rattle.script_port.specs.declared.reply.Origin.{Origin}
 -- the files of a trace as a device
 abbrev pub device : FolderStore → Device
 device store = device_of folder.ghosts store
-
--- a fault is told with its exit status, and nothing else is
-abbrev pub IsToldAs : Result Unit SimFault → Result Unit Complaint → Type 0
-IsToldAs (Ok done) result = result ≡ Ok tt
-IsToldAs (Err fault) (Ok done) = ⊥
-IsToldAs (Err fault) (Err complaint) = status_told complaint ≡ status_of fault
 
 -- what is told of a fault has its exit status, or, where there was no memory for more words, that of this
 abbrev pub IsToldOf : SimFault → Complaint → Type 0

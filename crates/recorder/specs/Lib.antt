@@ -3,3 +3,4 @@ pub mod Live
 pub mod Commands
 pub mod Following
 pub mod Sites
+pub mod Serving

@@ -1,4 +1,4 @@
-//! The recorder: the commands over the files of a trace.
+//! The recorder: the commands over the files of a trace, and how what they tell is shown.
 #![tactic(auto)]
 
 mod commands;
@@ -7,9 +7,13 @@ mod following;
 mod informing;
 mod live;
 mod locked;
+mod serving;
 mod sites;
+mod streaming;
 
-pub use commands::{serve_stream, serve_trace, told};
+pub use commands::{serve_stream, serve_trace};
 pub use files::Files;
 pub use following::serve_following;
+pub use serving::{follow_files, serve_files};
 pub use sites::files_for;
+pub use streaming::StreamListing;

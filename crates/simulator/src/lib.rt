@@ -3,6 +3,8 @@
 
 mod contents;
 mod sim;
+mod simulation;
 mod store_lines;
 
 pub use sim::{run_lines, run_sim};
+pub use simulation::serve_sim;

@@ -1,10 +1,17 @@
 -- What is told of a command that ended before its end.
-use Rattle.std.specs.Prelude.{ℕ}
+use Rattle.std.specs.Prelude.{◌≡◌, ℕ, Result, Ok, Err}
 use Rattle.trace_advice.specs.declared.complaint.Complaint.{Complaint}
 use Rattle.trace_advice.specs.declared.complaint.Complaint.TheVariants as complaints
 use Rattle.script_port.specs.Faults.{status_of}
+use Rattle.script_port.specs.declared.fault.SimFault.{SimFault}
 
 -- the exit status
 abbrev pub status_told : Complaint → ℕ
 status_told (complaints.Fault fault advice) = status_of fault
 status_told _ = 1
+
+-- a fault is told with its exit status, and nothing else is
+abbrev pub IsToldAs : Result Unit SimFault → Result Unit Complaint → Type 0
+IsToldAs (Ok done) result = result ≡ Ok tt
+IsToldAs (Err fault) (Ok done) = ⊥
+IsToldAs (Err fault) (Err complaint) = status_told complaint ≡ status_of fault

@@ -1,6 +1,6 @@
 //! What is told of a fault on standard error: a line, and after it what to do next.
 ghost use Rattle.std.specs.Prelude.{◌≡◌, None, IsTrue};
-ghost use Rattle.trace_advice.specs.Complaints.{status_told};
+ghost use Rattle.trace_advice.specs.Complaints.{status_told, IsToldAs};
 ghost use Rattle.trace_advice.specs.declared.complaint.Complaint.TheVariants as complaints;
 ghost use Rattle.script_port.specs.declared.fault.SimFault.TheVariants as faults;
 
@@ -294,4 +294,14 @@ pub fn is_full(refusal: Refusal) -> bool {
         refusal,
         Refusal::Port(PortFault::CountFull | PortFault::FileFull)
     )
+}
+
+/// What came of a call, as it is told.
+pub fn told(done: Result<(), SimFault>) -> Result<(), Complaint>
+    ensures { IsToldAs done result }
+{
+    match done {
+        Ok(()) => Ok(()),
+        Err(fault) => Err(Complaint::from(fault)),
+    }
 }

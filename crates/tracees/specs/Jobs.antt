@@ -160,6 +160,11 @@ Ended told was is acts receipts (states.Failed place fault) = FailedAt told was 
 
 -- ---- the gate of a job, by what it answers before an act and what it is told after one
 
+-- an act of this index came to its gate: it was let through, whatever came of it, and its end was told; or it wasn't let through
+abbrev pub IsPassed : {A : Type 0} → (ℕ → Bool → Type 0) → (ℕ → Type 0) → ℕ → Option A → Type 0
+IsPassed answers ends place (Some done) = answers place true × ends place
+IsPassed answers ends place None = answers place false
+
 -- it let each act before this index through, and was told of its end
 abbrev pub AreLetThrough : (ℕ → Bool → Type 0) → (ℕ → Type 0) → ℕ → Type 0
 AreLetThrough answers ends place = (act : ℕ) → act < place → answers act true × ends act

@@ -1,7 +1,7 @@
 use Rattle.dbgrec.proofs.serve.Given as goal
 
-abbrev pub ghost-follow : goal.ghost-follow
-ghost-follow g a = g.world'
+abbrev pub ghost-follow_files : goal.ghost-follow_files
+ghost-follow_files g a = g.world'
 
 abbrev pub ghost-serve_files : goal.ghost-serve_files
 ghost-serve_files g a = g.world'

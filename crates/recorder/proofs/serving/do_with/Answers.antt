@@ -1,4 +1,4 @@
-use Rattle.dbgrec.proofs.serving.do_with.Goals as goal
+use Rattle.recorder.proofs.serving.do_with.Goals as goal
 
 pub returns-in-Asked : goal.returns-in-Asked
 returns-in-Asked g c = rw c.in-Asked.is (c.serve_trace.new.watched.host.now.observed.notes, c.serve_trace.new.files, c.serve_trace.ensures)

@@ -1,4 +1,4 @@
-use Rattle.dbgrec.proofs.serving.serve_files.Given as goal
+use Rattle.recorder.proofs.serving.follow_files.Given as goal
 
 abbrev pub ghost-files_for : goal.ghost-files_for
 ghost-files_for g a = g.world'

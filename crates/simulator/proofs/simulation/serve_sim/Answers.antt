@@ -1,7 +1,7 @@
 use Rattle.std.proofs.Common.{refl}
 use Rattle.std.proofs.KnownBytes.{Keeps-refl, prepend_known-nil}
 use Rattle.simulator.specs.Simulated.{no_memory}
-use Rattle.dbgrec.proofs.simulation.serve_sim.Goals as goal
+use Rattle.simulator.proofs.simulation.serve_sim.Goals as goal
 
 pub returns-in_default : goal.returns-in_default
 returns-in_default g c = (_, g.R.Read.remaining c.args.input, no_memory refl (Keeps-refl _), c.told.ensures)

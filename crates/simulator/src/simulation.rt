@@ -1,14 +1,13 @@
 //! A script over a store in memory, as the command line asks for it.
 ghost use Rattle.std.specs.Prelude.{ℕ, Option, List, Result};
-ghost use Rattle.recorder.specs.Commands.{IsToldAs};
+ghost use Rattle.trace_advice.specs.Complaints.{IsToldAs};
 ghost use Rattle.simulator.specs.Simulated.{IsRun};
 
-use recorder::told;
+use crate::sim::run_sim;
 use script_port::SimFault;
-use simulator::run_sim;
 use std::alloc::Global;
 use std::io::{BufReader, Read, Write};
-use trace_advice::Complaint;
+use trace_advice::{Complaint, told};
 
 /// What is read at a time, in bytes.
 const BUFFER: usize = 65_536;

@@ -1,8 +1,8 @@
 //! An entry stream, listed and shown.
 ghost use Rattle.std.specs.Prelude.{◌≡◌};
-ghost use Rattle.dbgrec.specs.Serving.{ListsStream};
+ghost use Rattle.recorder.specs.Serving.{ListsStream};
 
-use recorder::serve_stream;
+use crate::commands::serve_stream;
 use shown_listings::{Listable, Output};
 use std::alloc::Global;
 use std::io::{Read, Write};

@@ -3,8 +3,8 @@ use Rattle.std.proofs.KnownBytes.{Keeps-refl}
 use Rattle.std.proofs.lemmas.Result.{err_from_is_err_and}
 use Rattle.trace_recording.specs.Incoming.{outside}
 use Rattle.shown_listings.specs.Listings.{Shows}
-use Rattle.dbgrec.specs.Serving.{ServesTrace, served, no_files}
-use Rattle.dbgrec.proofs.serving.serve_files.Goals as goal
+use Rattle.recorder.specs.Serving.{ServesTrace, served, no_files}
+use Rattle.recorder.proofs.serving.serve_files.Goals as goal
 
 pub returns-in_err-files : goal.returns-in_err-files
 returns-in_err-files g c =

@@ -1,0 +1,20 @@
+use Rattle.std.proofs.Common.{sym, subst}
+use Rattle.trace_recording.specs.Incoming.{outside}
+use Rattle.recorder.specs.Commands.{Serves}
+use Rattle.recorder.proofs.commands.serve_trace.Goals as goal
+
+pub returns-in-Record : goal.returns-in-Record
+returns-in-Record g c =
+    let contents = g.W.Write.contents in
+    let observed = g.H.Host.observed in
+    let call = c.record in
+    let saw = outside (g.R.Read.remaining c.args.input) 0 (observed c.args.watched.now.host.now) in
+    subst (λ request. Serves request c.args.files.now call.new.files saw (observed call.new.watched.host.now) (contents c.args.watched.now.writer.now) (contents call.new.watched.writer.now) call.result) (sym c.in-Record.is) call.ensures
+
+pub returns-in-Import : goal.returns-in-Import
+returns-in-Import g c =
+    let contents = g.W.Write.contents in
+    let observed = g.H.Host.observed in
+    let call = c.import in
+    let saw = outside (g.R.Read.remaining c.args.input) 0 (observed c.args.watched.now.host.now) in
+    subst (λ request. Serves request c.args.files.now call.new.files saw (observed call.new.watched.host.now) (contents c.args.watched.now.writer.now) (contents call.new.watched.writer.now) call.result) (sym c.in-Import.is) call.ensures
