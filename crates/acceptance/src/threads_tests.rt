@@ -296,6 +296,25 @@ fn four_jobs_meet(rt: HostRuntime) {
     drop(end);
 }
 
+/// Two jobs that hand over and never flush leave the port live and nothing covered: under the lock a hand-over is all that
+/// they do.
+#[test]
+fn jobs_that_only_hand_over_cover_nothing(rt: HostRuntime) {
+    let plan = Plan {
+        jobs: 2,
+        capacity: 8,
+        times: 2,
+        acts: &[Do::Emits(1), Do::HandOver(8)],
+        abandons: false,
+    };
+    let (end, entries) = recovered_behind(&rt, rt.alloc(), plan);
+    assert_sums(&rt, end.totals, 4, 0, 0);
+    assert!(rt; end.status.state == PortState::Live);
+    assert!(rt; end.status.accepted == 4 && end.status.covered == 0);
+    assert!(rt; entries == 4);
+    drop(end);
+}
+
 /// The messages, the drops and the entries that receipts name.
 fn named(all: &[Vec<Receipt>]) -> (u64, u64, u64) {
     let mut messages: u64 = 0;
@@ -369,6 +388,50 @@ impl Gate for Until {
     fn after(&self, _tracee: u32, _act: u32) {}
 }
 
+/// The same, and it notes the calls of one job: how many there were, and how many of another tracee than the first or in
+/// another order than that each act is asked for and then told of.
+#[derive(Drop)]
+struct Noting {
+    until: Until,
+    calls: AtomicU64,
+    wrong: AtomicU64,
+}
+
+impl Noting {
+    fn note(&self, tracee: u32, call: u64) {
+        let before = self.calls.fetch_add(1, Ordering::SeqCst);
+        if tracee != 0 || before != call {
+            self.wrong.fetch_add(1, Ordering::SeqCst);
+        }
+    }
+}
+
+impl Gate for Noting {
+    ghost answers = { λ gate tracee act passes. IsTrue passes ↔ act < gate.until.act };
+
+    ghost told = { λ gate tracee act. ⊤ };
+
+    fn before(&self, tracee: u32, act: u32) -> bool {
+        self.note(tracee, 2 * u64::from(act));
+        act < self.until.act
+    }
+
+    fn after(&self, tracee: u32, act: u32) {
+        self.note(tracee, 2 * u64::from(act) + 1);
+    }
+}
+
+/// Each act was asked for once and told of once, one after another, up to the shut one or the failed one.
+fn assert_asked_and_told(rt: &impl Abort, gate: &Noting, state: &JobState) {
+    let calls = match state {
+        JobState::Shut { act } => 2 * u64::from(*act) + 1,
+        JobState::Failed { act, fault: _ } => 2 * u64::from(*act) + 2,
+        _ => panic!(rt; "another end"),
+    };
+    assert!(rt; gate.calls.load(Ordering::SeqCst) == calls);
+    assert!(rt; gate.wrong.load(Ordering::SeqCst) == 0);
+}
+
 /// How far the one job came that was run, and how many receipts it has.
 fn only<K: Bookkeeping>(rt: &impl Abort, mut jobs: Vec<Job<K>>) -> (JobState, usize) {
     let job = jobs.pop().expect(rt, "a job");
@@ -408,9 +471,17 @@ pub(crate) fn run_one_by<P: TracePort, K: SharedBook, R: Threads + Wait + Abort 
     if seals {
         assert!(rt; desk.seal().is_ok());
     }
-    let (desk, jobs) = run_jobs(rt, alloc, desk, plan, gate);
+    let gate = Noting {
+        until: *gate,
+        calls: AtomicU64::new(0),
+        wrong: AtomicU64::new(0),
+    };
+    let (desk, jobs) = run_jobs(rt, alloc, desk, plan, &gate);
     drop(desk);
-    only(rt, jobs)
+    let (state, receipts) = only(rt, jobs);
+    assert_asked_and_told(rt, &gate, &state);
+    drop(gate);
+    (state, receipts)
 }
 
 /// A job whose hand-over found the port sealed.
