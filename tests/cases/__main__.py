@@ -11,6 +11,7 @@ import argparse
 import os
 import pathlib
 import shutil
+import signal
 import tempfile
 import traceback
 
@@ -78,6 +79,8 @@ def run(case, program, folder):
 
 def main():
     asked = words()
+    # a shell that starts this in the background has an interrupt ignored, also by what is started here
+    signal.signal(signal.SIGINT, signal.default_int_handler)
     passed, failed = asked.counted
     top = pathlib.Path(tempfile.mkdtemp(prefix="dbgrec-cases-"))
     try:
