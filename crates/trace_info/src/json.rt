@@ -31,7 +31,7 @@ fn kind_of(spec: StoreSpec) -> &'static str {
     }
 }
 
-/// Puts a member into an object, after those that it has.
+/// Puts a member into an object.
 fn put(
     alloc: Global,
     object: &mut Map<String, Value>,
