@@ -72,22 +72,6 @@ fn is_in_place(header: &SegHeader, k: u32) -> bool
     header.spec != StoreSpec::File && file_in_turn(header.spec, header.generation) == k
 }
 
-/// The header of the first wrap file that is open and in its place.
-fn wrap_header(rt: HostRuntime, place: Place<'_>) -> Result<Option<SegHeader>, AllocError>
-    ensures { IfOk result (IsInOne (file_count place.entry.kind)) }
-{
-    for k in 0..place.files() {
-        let name = place.name(rt.alloc(), k)?;
-        if has_bytes(&rt, name.as_str())
-            && let Some(header) = header_in(rt, name)?
-            && is_in_place(&header, k)
-        {
-            return Ok(Some(header));
-        }
-    }
-    Ok(None)
-}
-
 /// Whether one file may be asked for.
 fn may_be_file(shape: Option<Shape>) -> bool
     ensures { IsTrue result → MayBeFile shape }
@@ -108,6 +92,32 @@ fn may_be_wrap(shape: Option<Shape>) -> bool
     }
 }
 
+/// Looks for a wrap: the header of the first of its files that is open and in its place.
+fn find_wrap(rt: HostRuntime, asked: Asked<'_>) -> Result<Found, AllocError>
+    requires { MayBeWrap asked.shape }
+    ensures { IfOk result (IsFound asked.entry.shape) }
+{
+    let place = Place::of_wrap(&asked, Some(MOST_RUNS));
+    let mut is_there = false;
+    for k in 0..place.files() {
+        let name = place.name(rt.alloc(), k)?;
+        if !has_bytes(&rt, name.as_str()) {
+            continue;
+        }
+        is_there = true;
+        if let Some(header) = header_in(rt, name)?
+            && is_in_place(&header, k)
+        {
+            return Ok(Found::Wrap(Some(header)));
+        }
+    }
+    Ok(if is_there {
+        Found::Wrap(None)
+    } else {
+        Found::Nothing
+    })
+}
+
 /// Looks for a trace of the shape that is asked for; where none is, for one file and then for a wrap.
 pub fn find(rt: HostRuntime, asked: Asked<'_>) -> Result<Found, AllocError>
     ensures { IfOk result (IsFound asked.entry.shape) }
@@ -115,8 +125,9 @@ pub fn find(rt: HostRuntime, asked: Asked<'_>) -> Result<Found, AllocError>
     if may_be_file(asked.shape) && has_bytes(&rt, asked.base) {
         return Ok(Found::File);
     }
-    if !may_be_wrap(asked.shape) || first_wrap_file(&rt, asked)?.is_none() {
-        return Ok(Found::Nothing);
+    if may_be_wrap(asked.shape) {
+        find_wrap(rt, asked)
+    } else {
+        Ok(Found::Nothing)
     }
-    Ok(Found::Wrap(wrap_header(rt, Place::of_wrap(&asked, Some(MOST_RUNS)))?))
 }
