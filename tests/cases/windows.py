@@ -1,4 +1,5 @@
-"""Cases of `list` and `export` of a wrap that is written out as its files are read, and of which no entry is held."""
+"""Cases of `list` and `export` of a wrap: it is written out as its files are read, and none of its entries is held, unless it is
+small."""
 
 import pathlib
 import time
@@ -84,6 +85,11 @@ def a_standard_wrap_of_messages_of_1_byte_that_is_written_is_listed_and_exported
 @case
 def a_standard_wrap_of_messages_of_10_bytes_that_is_written_is_listed_and_exported_in_8(program):
     written_in_8(program, ("--kind", "wrap"), 131_072, 8, [message(bytes(10))] * 120_000)
+
+
+@case
+def a_small_wrap_of_messages_of_1_byte_that_is_written_is_listed_and_exported_in_8(program):
+    written_in_8(program, ("--kind", "wrap", "--size", "7000"), 7_000, 8, [message(bytes(1))] * 30_000)
 
 
 @case
