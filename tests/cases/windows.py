@@ -1,5 +1,4 @@
-"""Cases of `list` and `export` of a wrap: it is written out as its files are read, and none of its entries is held, unless it is
-small."""
+"""Cases of `list` and `export` of a wrap that is written out as its files are read, and of which no entry is held."""
 
 import pathlib
 import time
