@@ -26,4 +26,5 @@ pub use failure_mark::FailureMark;
 pub use fault::{FileFault, LockFault};
 pub use folder_store::FolderStore;
 pub use mem_store::MemStore;
+pub use named_file::is_locked;
 pub use pick::{CrashFault, Pick};
