@@ -71,10 +71,8 @@ def a_file_that_is_asked_for_as_a_wrap_is_named(program):
 @case
 def a_trace_that_holds_no_entry_lists_as_empty(program):
     for number, words in enumerate(((), (*WRAP, "--count", "2"))):
-        program.good("import", f"a{number}", *words)
+        program.good("record", f"a{number}", *words)
         holds_nothing(program, f"a{number}")
-        program.good("import", f"b{number}", *words, "--keep-open")
-        holds_nothing(program, f"b{number}")
         program.good("record", f"c{number}", *words, stdin=b"abandon\n")
         holds_nothing(program, f"c{number}")
 
@@ -195,7 +193,7 @@ def a_wrap_that_is_gone_on_with_takes_its_own_count_of_files(program):
 def sizes_are_taken_in_powers_of_1024(program):
     sizes = {"0K": 0, "1K": 1_024, "128K": 131_072, "1M": 1_048_576, "3G": 3_221_225_472, "4194303K": 4_294_966_272, "77": 77}
     for text, size in sizes.items():
-        program.good("import", f"w{text}-", *WRAP, "--size", text)
+        program.good("import", f"w{text}-", *WRAP, "--size", text, stdin=message(EXAMPLE))
         same((program.folder / f"w{text}-0").read_bytes()[8:12], size.to_bytes(4, "big"))
     before = stored(program.folder)
     for text in ("4G", "4194304K", "4096M", "K", "1KB", "1 K", "1.5K", "-1K", "1T", "18446744073709551616K", "18014398509481984K"):

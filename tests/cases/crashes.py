@@ -128,6 +128,7 @@ def time_of_an_opening(program, words):
     """How long an import takes until it says that it is open."""
     began = time.monotonic()
     with program.start("import", "t", *words) as importer:
+        importer.write(b"\0")
         same(importer.line(), "created")
     took = time.monotonic() - began
     same(program.good("wipe", "t"), b"ok\n")
@@ -165,9 +166,11 @@ def kill_imports(program, words, seed, size=None):
     for turn in range(KILLS // RUNS):
         flush = chance.choice(("always", "paused", "paused", "never"))
         with program.start("import", "t", *words, "--flush", flush) as importer:
+            left = data.between(total, expected.total)
+            importer.write(left[:1])
             found = resumed(importer.line())
             same(found, total)
-            give_some(importer, chance, data.between(found, expected.total), longest)
+            give_some(importer, chance, left[1:], longest)
             same(importer.kill(), "")
         total = left_by(program, expected, turn % 10 == 0)
         assert total >= found, f"turn {turn}: {total} entries, and {found} were covered"

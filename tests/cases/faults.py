@@ -168,7 +168,7 @@ def a_failed_write_leaves_no_mark(program):
     assert b"File too large (os error 27)" in outcome.errors, outcome
     same(sorted(stored(program.folder)), ["t"])
     assert not is_foreign((program.folder / "t").read_bytes())
-    same(program.good("import", "t").split()[0], b"resumed")
+    same(program.good("import", "t", stdin=drop(1)).split()[0], b"resumed")
 
 
 @case

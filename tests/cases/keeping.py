@@ -6,13 +6,15 @@ import resource
 import subprocess
 import time
 
-from cases import STREAMS, group
+from cases import STREAMS, group, stored
 from entries import EXAMPLE, drop, kept, listing, listing_of, message, split, window
 from program import PATIENCE, Outcome, same
 
 CASES, case = group()
 
 WRAP = ("--kind", "wrap", "--count", "3")
+
+NOTHING = Outcome(0, b"", b"dbgrec: nothing came\n")
 
 KINDS = ((), (*WRAP, "--size", "200"))
 
@@ -66,7 +68,7 @@ def a_trace_is_gone_on_with_behind_each_of_many_breaks(program):
             is_kept(program, (name, *kind, *keep), good, bad, fault, opened, count)
             count += len(split(good))
             opened = f"resumed {count}"
-        same(program.good("import", name, *kind), f"resumed {count}\nsealed {count}\n".encode())
+        same(program.good("import", name, *kind, stdin=drop(5)), f"resumed {count}\nsealed {count + 1}\n".encode())
         program.refused("import", name, *kind, says=SEALED)
 
 
@@ -84,7 +86,7 @@ def an_import_that_keeps_open_is_gone_on_with(program):
     for number, kind in enumerate((*KINDS, (*WRAP, "--time", "1000000"))):
         name = f"t{number}"
         same(program.good("import", name, *kind, "--keep-open", stdin=message(EXAMPLE) + drop(1)), b"created\nkept 2\n")
-        same(program.good("import", name, *kind, "--keep-open"), b"resumed 2\nkept 2\n")
+        same(program.run("import", name, *kind, "--keep-open"), NOTHING)
         same(program.good("import", name, *kind, "--keep-open", "--flush", "never", stdin=drop(4)), b"resumed 2\nkept 3\n")
         same(program.good("export", name), message(EXAMPLE) + drop(1) + drop(4))
         same(program.good("record", name, *kind, stdin=b"flush\nabandon\n"), b"resumed 3\ncovered 3\nok\n")
@@ -114,11 +116,14 @@ def a_loop_of_imports_records_one_trace(program):
 
 
 @case
-def an_empty_input_that_keeps_open_leaves_an_empty_trace(program):
-    same(program.good("import", "t", "--keep-open"), b"created\nkept 0\n")
-    same(program.good("list", "t"), listing(0, 0, []))
-    same(program.good("import", "t"), b"resumed 0\nsealed 0\n")
-    program.refused("import", "t", says=SEALED)
+def an_empty_input_makes_and_seals_nothing(program):
+    for words in (("t",), ("t", "--keep-open"), ("w", *WRAP)):
+        same(program.run("import", *words), NOTHING)
+        same(stored(program.folder), {})
+    program.good("import", "t", "--keep-open", stdin=drop(1))
+    before = stored(program.folder)
+    same(program.run("import", "t"), NOTHING)
+    same(stored(program.folder), before)
 
 
 @case

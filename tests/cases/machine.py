@@ -115,9 +115,9 @@ def a_file_that_may_not_grow_is_told_and_a_prefix_is_left(program):
     same(list(stored(program.folder)), ["t"])
     check_no_foreign_file(program.folder)
     assert 300 < check_prefix(program, entries, "t") < 400
-    told_again = program.good("import", "t").decode().split()
+    told_again = program.good("import", "t", stdin=message(EXAMPLE)).decode().split()
     same(told_again[0], "resumed")
-    same(told_again[1], told_again[3])
+    same(int(told_again[1]) + 1, int(told_again[3]))
 
 
 @contextlib.contextmanager
