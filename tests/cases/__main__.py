@@ -28,6 +28,7 @@ import info
 import installing
 import json_listing
 import keeping
+import large
 import libraries
 import listing
 import live
@@ -45,7 +46,7 @@ import wording
 from cases import Skipped
 from program import Program
 
-GROUPS = (rows, scripts, emitting, readings, listing, pretty, choosing, json_listing, recording, importing, info, foreign, absent, keeping, telling, crashes, images, machine, faults, locking, live, following, windows, wording, installing, memory, libraries)
+GROUPS = (rows, scripts, emitting, readings, listing, pretty, choosing, json_listing, recording, importing, info, foreign, absent, keeping, telling, crashes, images, machine, faults, locking, live, following, windows, large, wording, installing, memory, libraries)
 
 
 def words():
