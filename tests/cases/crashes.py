@@ -128,7 +128,7 @@ def time_of_an_opening(program, words):
     """How long an import takes until it says that it is open."""
     began = time.monotonic()
     with program.start("import", "t", *words) as importer:
-        same(importer.line(), "created")
+        same(importer.opens(), "created")
     took = time.monotonic() - began
     same(program.good("wipe", "t"), b"ok\n")
     return took
@@ -165,7 +165,7 @@ def kill_imports(program, words, seed, size=None):
     for turn in range(KILLS // RUNS):
         flush = chance.choice(("always", "paused", "paused", "never"))
         with program.start("import", "t", *words, "--flush", flush) as importer:
-            found = resumed(importer.line())
+            found = resumed(importer.opens(data.between(total, expected.total)[:1]))
             same(found, total)
             give_some(importer, chance, data.between(found, expected.total), longest)
             same(importer.kill(), "")

@@ -26,7 +26,7 @@ def end_of(follower):
 @case
 def what_is_added_is_listed_until_the_seal(program):
     with program.start("import", "t") as importer:
-        same(importer.line(), "created")
+        same(importer.opens(), "created")
         with program.start("list", "--follow", "t") as follower:
             importer.write(message(EXAMPLE))
             same(follower.line(), example_line(0))
@@ -50,7 +50,7 @@ def what_was_there_is_listed_first(program):
 @case
 def objects_and_chosen_lines_of_what_is_added_come_at_once(program):
     with program.start("import", "t") as importer:
-        same(importer.line(), "created")
+        same(importer.opens(), "created")
         with program.start("list", "-f", "--json", "t") as told, program.start("list", "-f", "--from", "1", "t") as chosen, program.start("list", "-f", "--json", "--to", "0", "t") as both:
             importer.write(message(EXAMPLE))
             first = told.line()
@@ -122,7 +122,7 @@ def what_is_no_trace_is_refused(program):
 @case
 def a_wrap_is_followed_from_file_to_file(program):
     with program.start("import", "w", *SMALL) as importer:
-        same(importer.line(), "created")
+        same(importer.opens(), "created")
         with program.start("list", "-f", "w") as follower:
             for number in range(30):
                 importer.write(message(EXAMPLE))
@@ -134,7 +134,7 @@ def a_wrap_is_followed_from_file_to_file(program):
 @case
 def a_wrap_by_time_is_followed(program):
     with program.start("import", "w", "--kind", "wrap", "--count", "2", "--time", "5") as importer:
-        same(importer.line(), "created")
+        same(importer.opens(), "created")
         with program.start("list", "-f", "w") as follower:
             for number in range(10):
                 importer.write(message(EXAMPLE))
@@ -158,7 +158,7 @@ def listed(program, number):
 @case
 def a_wrap_that_overtakes_is_told(program):
     with program.start("import", "w", *SMALL) as importer:
-        same(importer.line(), "created")
+        same(importer.opens(), "created")
         with program.start("list", "-f", "w") as follower:
             importer.write(message(EXAMPLE))
             same(follower.line(), example_line(0))
@@ -178,7 +178,7 @@ def a_wrap_that_overtakes_is_told(program):
 @case
 def a_reader_that_goes_away_ends_it(program):
     with program.start("import", "t") as importer:
-        same(importer.line(), "created")
+        same(importer.opens(), "created")
         importer.write(message(EXAMPLE))
         with program.start("list", "-f", "t") as follower:
             same(follower.line(), example_line(0))
@@ -191,7 +191,7 @@ def a_reader_that_goes_away_ends_it(program):
 @case
 def an_interrupt_ends_it_without_a_word(program):
     with program.start("import", "t") as importer:
-        same(importer.line(), "created")
+        same(importer.opens(), "created")
         importer.write(message(EXAMPLE))
         with program.start("list", "-f", "t") as follower:
             same(follower.line(), example_line(0))
@@ -202,7 +202,7 @@ def an_interrupt_ends_it_without_a_word(program):
 @case
 def a_recorder_that_is_killed_is_waited_for(program):
     with program.start("import", "t", "--flush", "always") as importer:
-        same(importer.line(), "created")
+        same(importer.opens(), "created")
         importer.write(message(EXAMPLE))
         with program.start("list", "-f", "t") as follower:
             same(follower.line(), example_line(0))
@@ -235,7 +235,7 @@ def a_trace_that_is_begun_later_is_waited_for(program):
 def followed(program, name, words, much):
     """What a follower tells of a trace that is written at full speed."""
     with program.start("import", name, *words) as importer:
-        same(importer.line(), "created")
+        same(importer.opens(), "created")
         with open(program.folder / "told", "wb") as told:
             follower = subprocess.Popen([program.path, "list", "-f", name], cwd=program.folder, stdout=told, stderr=subprocess.PIPE)
         with follower:

@@ -107,7 +107,7 @@ def try_file(program, name, tries):
     """Lists and exports a file by turns while an import writes it, and answers how often."""
     windows = []
     with program.start("import", name) as importer:
-        same(importer.line(), "created")
+        same(importer.opens(), "created")
         with Feeder(importer) as feeder:
             while len(windows) < TRIES_OF_A_FILE or (len(windows) < tries and feeder.bytes < MUCH):
                 command = ("list", "export")[len(windows) % 2]
@@ -132,7 +132,7 @@ def a_file_that_is_written_is_never_refused(program):
 def a_wrap_that_is_written_is_never_refused(program):
     windows = []
     with program.start("import", "w", *WRAP) as importer:
-        same(importer.line(), "created")
+        same(importer.opens(), "created")
         with Feeder(importer) as feeder:
             feeder.wait(A_LAP)
             for turn in range(TRIES):
@@ -153,7 +153,7 @@ def a_wrap_that_is_begun_is_never_refused(program):
         name = f"b{number}."
         command = ("list", "export")[number % 2]
         with program.start("import", name, *WRAP) as importer:
-            same(importer.line(), "created")
+            same(importer.opens(), "created")
             # the first file is made before each listing, and the others at another moment of each
             feeding = threading.Timer(number % 16 * PAUSE / 4, importer.write, (entries,))
             feeding.start()
@@ -193,7 +193,7 @@ def a_wrap_that_stays_refused_while_it_is_locked_says_so(program):
     kept = ("--kind", "wrap", "--count", "3")
     program.good("import", "w", *kept, "--size", "0", "--keep-open", stdin=drop(1) * 9)
     with program.start("import", "w", *kept, "--size", "0") as importer:
-        same(importer.line(), "resumed 9")
+        same(importer.opens(), "resumed 9")
         # two files of one place: no reading can be whole
         (program.folder / "w0").write_bytes(segment(wrap_header(6, count=3)))
         (program.folder / "w1").write_bytes(segment(wrap_header(4, count=3)))
