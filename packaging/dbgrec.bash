@@ -21,13 +21,13 @@ _dbgrec() {
         [[ $word == *,* ]] && told=${word%,*},
         for kind in $kinds; do offered+="$told$kind "; done
         ;;
-    --suffix | --count | --size | --time | --from | --to | --pid | --mfa) return ;;
+    --suffix | --count | --size | --time | --skip | --from | --to | --pid | --mfa) return ;;
     *)
         if ((COMP_CWORD == 1)); then
             offered="$commands --help --version"
         elif [[ $word == -* ]]; then
             case ${COMP_WORDS[1]} in
-            import) offered="$readers $new --flush --keep-open --help" ;;
+            import) offered="$readers $new --flush --keep-open --skip --help" ;;
             record) offered="$readers $new --help" ;;
             list) offered="$readers $chosen --follow --help" ;;
             export) offered="$readers --help" ;;

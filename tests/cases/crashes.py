@@ -128,8 +128,7 @@ def time_of_an_opening(program, words):
     """How long an import takes until it says that it is open."""
     began = time.monotonic()
     with program.start("import", "t", *words) as importer:
-        importer.write(b"\0")
-        same(importer.line(), "created")
+        same(importer.opens(), "created")
     took = time.monotonic() - began
     same(program.good("wipe", "t"), b"ok\n")
     return took
@@ -166,11 +165,9 @@ def kill_imports(program, words, seed, size=None):
     for turn in range(KILLS // RUNS):
         flush = chance.choice(("always", "paused", "paused", "never"))
         with program.start("import", "t", *words, "--flush", flush) as importer:
-            left = data.between(total, expected.total)
-            importer.write(left[:1])
-            found = resumed(importer.line())
+            found = resumed(importer.opens(data.between(total, expected.total)[:1]))
             same(found, total)
-            give_some(importer, chance, left[1:], longest)
+            give_some(importer, chance, data.between(found, expected.total), longest)
             same(importer.kill(), "")
         total = left_by(program, expected, turn % 10 == 0)
         assert total >= found, f"turn {turn}: {total} entries, and {found} were covered"

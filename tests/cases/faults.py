@@ -243,7 +243,7 @@ def a_folder_that_can_not_be_synced_is_told(program):
     assert outcome.status == 1 and not outcome.output, outcome
     says = b'Device: "shut/t": its folder "shut" can\'t be synced: Permission denied (os error 13)\n'
     assert says in outcome.errors, outcome
-    outcome = program.run("import", "u", before=with_library(program, FAIL_SYNC=program.folder, FAIL_ERROR=22))
+    outcome = program.run("import", "u", stdin=drop(1), before=with_library(program, FAIL_SYNC=program.folder, FAIL_ERROR=22))
     assert outcome.status == 1 and not outcome.output, outcome
     says = b'Device: "u": its folder "." can\'t be synced: Invalid argument (os error 22)\n'
     assert says in outcome.errors, outcome

@@ -26,9 +26,9 @@ def end_of(follower):
 @case
 def what_is_added_is_listed_until_the_seal(program):
     with program.start("import", "t") as importer:
-        importer.write(message(EXAMPLE))
-        same(importer.line(), "created")
+        same(importer.opens(), "created")
         with program.start("list", "--follow", "t") as follower:
+            importer.write(message(EXAMPLE))
             same(follower.line(), example_line(0))
             importer.write(drop(3))
             same(follower.line(), "1 drop 3")
@@ -50,9 +50,9 @@ def what_was_there_is_listed_first(program):
 @case
 def objects_and_chosen_lines_of_what_is_added_come_at_once(program):
     with program.start("import", "t") as importer:
-        importer.write(message(EXAMPLE))
-        same(importer.line(), "created")
+        same(importer.opens(), "created")
         with program.start("list", "-f", "--json", "t") as told, program.start("list", "-f", "--from", "1", "t") as chosen, program.start("list", "-f", "--json", "--to", "0", "t") as both:
+            importer.write(message(EXAMPLE))
             first = told.line()
             same(both.line(), first)
             importer.write(message(b"x"))
@@ -122,11 +122,9 @@ def what_is_no_trace_is_refused(program):
 @case
 def a_wrap_is_followed_from_file_to_file(program):
     with program.start("import", "w", *SMALL) as importer:
-        importer.write(message(EXAMPLE))
-        same(importer.line(), "created")
+        same(importer.opens(), "created")
         with program.start("list", "-f", "w") as follower:
-            same(follower.line(), example_line(0))
-            for number in range(1, 30):
+            for number in range(30):
                 importer.write(message(EXAMPLE))
                 same(follower.line(), example_line(number))
             same(importer.end().status, 0)
@@ -136,11 +134,9 @@ def a_wrap_is_followed_from_file_to_file(program):
 @case
 def a_wrap_by_time_is_followed(program):
     with program.start("import", "w", "--kind", "wrap", "--count", "2", "--time", "5") as importer:
-        importer.write(message(EXAMPLE))
-        same(importer.line(), "created")
+        same(importer.opens(), "created")
         with program.start("list", "-f", "w") as follower:
-            same(follower.line(), example_line(0))
-            for number in range(1, 10):
+            for number in range(10):
                 importer.write(message(EXAMPLE))
                 same(follower.line(), example_line(number))
                 time.sleep(0.02)
@@ -162,9 +158,9 @@ def listed(program, number):
 @case
 def a_wrap_that_overtakes_is_told(program):
     with program.start("import", "w", *SMALL) as importer:
-        importer.write(message(EXAMPLE))
-        same(importer.line(), "created")
+        same(importer.opens(), "created")
         with program.start("list", "-f", "w") as follower:
+            importer.write(message(EXAMPLE))
             same(follower.line(), example_line(0))
             for number in (13, 26):
                 follower.process.send_signal(signal.SIGSTOP)
@@ -182,8 +178,8 @@ def a_wrap_that_overtakes_is_told(program):
 @case
 def a_reader_that_goes_away_ends_it(program):
     with program.start("import", "t") as importer:
+        same(importer.opens(), "created")
         importer.write(message(EXAMPLE))
-        same(importer.line(), "created")
         with program.start("list", "-f", "t") as follower:
             same(follower.line(), example_line(0))
             follower.process.stdout.close()
@@ -195,8 +191,8 @@ def a_reader_that_goes_away_ends_it(program):
 @case
 def an_interrupt_ends_it_without_a_word(program):
     with program.start("import", "t") as importer:
+        same(importer.opens(), "created")
         importer.write(message(EXAMPLE))
-        same(importer.line(), "created")
         with program.start("list", "-f", "t") as follower:
             same(follower.line(), example_line(0))
             follower.process.send_signal(signal.SIGINT)
@@ -206,8 +202,8 @@ def an_interrupt_ends_it_without_a_word(program):
 @case
 def a_recorder_that_is_killed_is_waited_for(program):
     with program.start("import", "t", "--flush", "always") as importer:
+        same(importer.opens(), "created")
         importer.write(message(EXAMPLE))
-        same(importer.line(), "created")
         with program.start("list", "-f", "t") as follower:
             same(follower.line(), example_line(0))
             importer.kill()
@@ -239,13 +235,12 @@ def a_trace_that_is_begun_later_is_waited_for(program):
 def followed(program, name, words, much):
     """What a follower tells of a trace that is written at full speed."""
     with program.start("import", name, *words) as importer:
-        feeder = Feeder(importer)
-        same(importer.line(), "created")
+        same(importer.opens(), "created")
         with open(program.folder / "told", "wb") as told:
             follower = subprocess.Popen([program.path, "list", "-f", name], cwd=program.folder, stdout=told, stderr=subprocess.PIPE)
         with follower:
             try:
-                with feeder:
+                with Feeder(importer) as feeder:
                     feeder.tries = 1_000
                     feeder.wait(much)
                 same(importer.end().status, 0)

@@ -2,13 +2,15 @@
 
 import os
 import random
+import re
 import shutil
 import subprocess
 import time
 
 from cases import STREAMS, Skipped, group, stored
-from entries import EXAMPLE, drop, example_line, kept, listing, listing_of, lost_in, message, split, window
-from program import PATIENCE, same
+from entries import EXAMPLE, drop, example_line, goes_on, kept, listing, listing_of, lost_in, message, split, window
+from preloading import with_library
+from program import PATIENCE, Outcome, same
 
 CASES, case = group()
 
@@ -39,7 +41,81 @@ def an_import_is_sealed_at_the_end_of_its_input(program):
     program.refused("record", "t", says=SEALED)
     same(program.good("export", "t"), message(EXAMPLE) + drop(3))
     same(program.good("wipe", "t"), b"ok\n")
-    imports(program, b"")
+    imports(program, drop(4))
+
+
+NOTHING = Outcome(0, b"", b"dbgrec: nothing came\n")
+
+
+@case
+def an_input_without_a_byte_does_nothing(program):
+    for number, kind in enumerate(((), WRAP)):
+        name = f"t{number}"
+        for options in ((), ("--keep-open",), ("--flush", "never"), ("--skip", "9"), ("--after-failure",)):
+            same(program.run("import", name, *kind, *options), NOTHING)
+        same(stored(program.folder), {})
+        program.good("import", name, *kind, "--keep-open", stdin=drop(1))
+        before = stored(program.folder)
+        for options in ((), ("--keep-open",)):
+            same(program.run("import", name, *kind, *options), NOTHING)
+        same(stored(program.folder), before)
+        # a sealed one stays as it is, too
+        program.good("record", name, *kind)
+        before = stored(program.folder)
+        same(program.run("import", name, *kind), NOTHING)
+        same(stored(program.folder), before)
+        program.refused("import", name, *kind, stdin=drop(1), says=SEALED)
+        for file in before:
+            (program.folder / file).unlink()
+
+
+@case
+def an_import_waits_for_its_first_byte_before_it_does_anything(program):
+    with program.start("import", "t") as importer:
+        time.sleep(0.2)
+        same(stored(program.folder), {})
+        importer.write(drop(1)[:1])
+        same(importer.line(), "created")
+        importer.write(drop(1)[1:])
+        same(importer.end(), Outcome(0, b"sealed 1\n", b""))
+
+
+@case
+def what_can_be_refused_by_looking_is_refused_before_the_input_is_read(program):
+    (program.folder / "notes").write_bytes(b"not a trace")
+    program.good("import", "w", *WRAP, "--keep-open", stdin=drop(1))
+    with program.start("import", "u", "--keep-open") as holder:
+        holder.write(drop(1))
+        same(holder.line(), "created")
+        for words in (("notes",), ("u",), ("w", "--kind", "file", "--count", "0")):
+            with program.start("import", *words) as importer:
+                # its input is open, and nothing comes
+                same(importer.process.wait(PATIENCE) in (1, 2), True)
+                same(importer.process.stdout.read(), b"")
+
+
+@case
+def bytes_that_are_skipped_are_passed_over(program):
+    entries = [message(bytes([number % 256]) * 1_000) for number in range(200)]
+    stream, size = b"".join(entries), len(entries[0])
+    for count in (0, 1, 7, 130, 199):
+        told = program.good("import", "t", "--skip", str(count * size), stdin=stream)
+        same(told, f"created\nsealed {200 - count}\n".encode())
+        same(program.good("export", "t"), b"".join(entries[count:]))
+        program.good("wipe", "t")
+        (program.folder / "t").unlink()
+    for skipped in (len(stream), len(stream) + 1, 2**64 - 1):
+        same(program.run("import", "t", "--skip", str(skipped), stdin=stream), NOTHING)
+    same(stored(program.folder), {})
+    # one that comes byte by byte
+    with program.start("import", "t", "--skip", "5") as importer:
+        for place in range(12):
+            importer.write((drop(1) + drop(2) + drop(3))[place : place + 1])
+            time.sleep(0.01)
+        same(importer.line(), "created")
+        importer.write(drop(3)[2:])
+        same(importer.end(), Outcome(0, b"sealed 2\n", b""))
+    same(program.good("export", "t"), drop(2) + drop(3))
 
 
 @case
@@ -191,12 +267,66 @@ def an_import_that_is_to_keep_its_trace_open_does(program):
     for kind in ((), WRAP):
         name = f"t{len(kind)}"
         same(program.good("import", name, *kind, "--keep-open", stdin=message(EXAMPLE)), b"created\nkept 1\n")
-        same(program.good("import", name, *kind, "--keep-open"), b"resumed 1\nkept 1\n")
         same(program.good("import", name, *kind, "--keep-open", "--flush", "never", stdin=drop(2)), b"resumed 1\nkept 2\n")
         same(program.good("export", name, *kind), message(EXAMPLE) + drop(2))
         stops(program.run("import", name, *kind, "--keep-open", stdin=drop(0)), "refused 5 ZeroDrop at 0", "resumed 2\nkept 2\n")
         same(program.good("import", name, *kind, stdin=drop(3)), b"resumed 2\nsealed 3\n")
-        stops(program.run("import", name, *kind, "--keep-open"), "refused 1 Sealed", "")
+        stops(program.run("import", name, *kind, "--keep-open", stdin=drop(1)), "refused 1 Sealed", "")
+
+
+def kept_of(outcome):
+    """How many entries an import tells that it kept, and the byte up to which."""
+    second = outcome.errors.decode().split("\n")[1]
+    if second == goes_on(0, 0)[:-1]:
+        return 0, 0
+    found = re.fullmatch(r"(\d+) entr(?:y|ies) of this input (?:is|are) kept, up to byte (\d+): .* with --skip (\d+)", second)
+    assert found and found[2] == found[3], second
+    return int(found[1]), int(found[2])
+
+
+@case
+def what_is_told_as_kept_is_skipped_and_nothing_is_doubled(program):
+    chance = random.Random(7)
+    entries = [message(bytes([number % 256]) * chance.choice((1, 40, 3_000))) for number in range(300)]
+    entries[150:151] = [message(bytes(65_532)), drop(4)]
+    stream, whole = b"".join(entries), b"".join(kept(b"".join(entries)))
+    for kind in ((), (*WRAP, "--size", "9000", "--count", "200")):
+        name, read = f"t{len(kind)}", kind[:2] + kind[4:]
+        place, total = 0, 0
+        while place < len(stream) - 10:
+            upto = min(place + chance.randrange(90_000), len(stream) - 1)
+            flush = chance.choice(("always", "paused", "never"))
+            outcome = program.run("import", name, *kind, "--flush", flush, "--skip", str(place), stdin=stream[:upto])
+            if outcome.status == 0:
+                # it ended between two entries, or nothing came: a seal would end the case
+                assert outcome.errors == b"dbgrec: nothing came\n", outcome
+                continue
+            count, then = kept_of(outcome)
+            place, total = max(place, then), total + count
+            same(program.good("export", name, *read), b"".join(kept(stream[:place])))
+        same(program.good("import", name, *kind, "--skip", str(place), stdin=stream), f"resumed {total}\nsealed {len(entries)}\n".encode())
+        same(program.good("export", name, *read), whole)
+
+
+@case
+def what_a_device_that_fails_kept_is_told(program):
+    entries = [message(bytes([number % 256]) * (7 + number % 900)) for number in range(1_500)]
+    stream = b"".join(entries)
+    for number, kind in enumerate(((), (*WRAP, "--size", "300000", "--count", "9"), (*WRAP, "--size", "1000", "--count", "999"))):
+        for flush in ("always", "paused", "never"):
+            for after in (3, 8, 40):
+                name = f"t{number}{flush}{after}"
+                failing = with_library(program, FAIL_SYNC=f"/{name}", FAIL_AFTER=after)
+                outcome = program.run("import", name, *kind, "--flush", flush, stdin=stream, before=failing)
+                if outcome.status == 0:
+                    continue
+                found = re.search(r"with --skip (\d+)", outcome.errors.decode())
+                place = int(found[1]) if found else 0
+                left = program.run("export", name, *kind[:2]).output
+                same(left, stream[:place])
+                told = program.run("import", name, *kind, "--after-failure", "--skip", str(place), stdin=stream)
+                same(told.output, f"resumed {len(split(left))}\nsealed {len(entries)}\n".encode())
+                same(program.run("export", name, *kind[:2]).output, stream)
 
 
 @case
@@ -211,14 +341,14 @@ def a_trace_whose_count_is_full_is_kept(program):
 
 
 @case
-def an_input_that_can_not_be_read_is_told_and_what_came_is_kept(program):
+def an_input_that_can_not_be_read_is_told_and_nothing_is_done(program):
     folder = os.open(program.folder, os.O_RDONLY)
     command = [program.path, "import", "t"]
     ran = subprocess.run(command, cwd=program.folder, stdin=folder, capture_output=True, timeout=PATIENCE, check=False)
     os.close(folder)
-    same((ran.returncode, ran.stdout), (1, b"created\nkept 0\n"))
+    same((ran.returncode, ran.stdout), (1, b""))
     same(ran.stderr.split(b"\n")[0], b"dbgrec: refused 1 Read")
-    same(program.good("import", "t", stdin=drop(1)), b"resumed 0\nsealed 1\n")
+    same(stored(program.folder), {})
 
 
 @case
@@ -294,10 +424,11 @@ def what_a_pausing_writer_wrote_is_covered(program):
         read = kind[:2] + kind[4:]
         at = 0
         with program.start("import", name, *kind) as importer:
-            same(importer.line(), "created")
             for upto in (1, 2, 50, 51, 200, 375):
                 # the writer writes all of its entries, and half of the next one
                 importer.write(b"".join(entries[at:upto]))
+                if at == 0:
+                    same(importer.line(), "created")
                 at = upto
                 expected = b"".join(entries[:upto])
                 wait_for(lambda: program.run("export", name, *read).output == expected)
@@ -311,8 +442,8 @@ def what_a_pausing_writer_wrote_is_covered(program):
 def an_import_that_never_flushes_keeps_whole_batches(program):
     entries = [message(bytes([number % 256]) * 1_000) for number in range(200)]
     with program.start("import", "t", "--flush", "never") as importer:
-        same(importer.line(), "created")
         importer.write(b"".join(entries))
+        same(importer.line(), "created")
         # 65 of these entries are at most 65,536 bytes
         wait_for(lambda: len(program.run("export", "t").output) == 3 * 65 * 1_005)
         importer.kill()
@@ -324,9 +455,10 @@ def an_import_over_a_wrap_by_time_turns_while_the_writer_writes(program):
     timed = (*WRAP, "--count", "3")
     entries = [message(bytes([131, 97, number])) for number in range(6)]
     with program.start("import", "t", *timed, "--time", "20") as importer:
-        same(importer.line(), "created")
         for entry in entries:
             importer.write(entry)
+            if entry == entries[0]:
+                same(importer.line(), "created")
             wait_for(lambda: program.run("export", "t", *timed).output.endswith(entry))
             time.sleep(0.05)
         same(importer.end().output, b"sealed 6\n")

@@ -155,8 +155,8 @@ def a_wrap_by_time_has_its_time(program):
 def a_trace_that_is_written_is_told_so(program):
     for kind in ((), WRAP):
         with program.start("import", "t", "--keep-open", "--flush", "always", *kind) as importer:
+            same(importer.opens(), "created")
             importer.write(message(EXAMPLE) + drop(2))
-            same(importer.line(), "created")
             while b"entries: 2 (0 to 1)" not in program.good("info", "t"):
                 pass
             said = program.good("info", "t").decode().splitlines()

@@ -7,18 +7,14 @@ import subprocess
 import time
 
 from cases import STREAMS, group, stored
-from entries import EXAMPLE, drop, kept, listing, listing_of, message, split, window
+from entries import EXAMPLE, drop, goes_on, kept, listing_of, message, split, window
 from program import PATIENCE, Outcome, same
 
 CASES, case = group()
 
 WRAP = ("--kind", "wrap", "--count", "3")
 
-NOTHING = Outcome(0, b"", b"dbgrec: nothing came\n")
-
 KINDS = ((), (*WRAP, "--size", "200"))
-
-GOES_ON = "the trace isn't sealed: the same command goes on with it\n"
 
 SEALED = "dbgrec: refused 1 Sealed\nthe trace is sealed: export keeps its entries, wipe clears it"
 
@@ -40,7 +36,7 @@ def is_kept(program, words, good, bad, fault, opened="created", before=0):
     """Fails unless the import of a broken stream keeps what came, and says that it can be gone on with."""
     outcome = program.run("import", *words, stdin=good + bad)
     total = before + len(split(good))
-    errors = f"dbgrec: refused {fault} at {len(good)}\n{GOES_ON}".encode()
+    errors = f"dbgrec: refused {fault} at {len(good)}\n{goes_on(len(split(good)), len(good))}".encode()
     same(outcome, Outcome(1, f"{opened}\nkept {total}\n".encode(), errors))
 
 
@@ -68,8 +64,8 @@ def a_trace_is_gone_on_with_behind_each_of_many_breaks(program):
             is_kept(program, (name, *kind, *keep), good, bad, fault, opened, count)
             count += len(split(good))
             opened = f"resumed {count}"
-        same(program.good("import", name, *kind, stdin=drop(5)), f"resumed {count}\nsealed {count + 1}\n".encode())
-        program.refused("import", name, *kind, says=SEALED)
+        same(program.good("record", name, *kind), f"resumed {count}\n".encode())
+        program.refused("import", name, *kind, stdin=drop(1), says=SEALED)
 
 
 @case
@@ -86,7 +82,6 @@ def an_import_that_keeps_open_is_gone_on_with(program):
     for number, kind in enumerate((*KINDS, (*WRAP, "--time", "1000000"))):
         name = f"t{number}"
         same(program.good("import", name, *kind, "--keep-open", stdin=message(EXAMPLE) + drop(1)), b"created\nkept 2\n")
-        same(program.run("import", name, *kind, "--keep-open"), NOTHING)
         same(program.good("import", name, *kind, "--keep-open", "--flush", "never", stdin=drop(4)), b"resumed 2\nkept 3\n")
         same(program.good("export", name), message(EXAMPLE) + drop(1) + drop(4))
         same(program.good("record", name, *kind, stdin=b"flush\nabandon\n"), b"resumed 3\ncovered 3\nok\n")
@@ -116,27 +111,14 @@ def a_loop_of_imports_records_one_trace(program):
 
 
 @case
-def an_empty_input_makes_and_seals_nothing(program):
-    for words in (("t",), ("t", "--keep-open"), ("w", *WRAP)):
-        same(program.run("import", *words), NOTHING)
-        same(stored(program.folder), {})
-    program.good("import", "t", "--keep-open", stdin=drop(1))
-    before = stored(program.folder)
-    same(program.run("import", "t"), NOTHING)
-    same(stored(program.folder), before)
-
-
-@case
-def an_input_that_can_not_be_read_leaves_the_trace_open(program):
+def an_input_that_can_not_be_read_leaves_the_trace_as_it_is(program):
     for words in (("t",), ("t", "--keep-open")):
         folder = os.open(program.folder, os.O_RDONLY)
         command = [program.path, "import", *words]
         ran = subprocess.run(command, cwd=program.folder, stdin=folder, capture_output=True, timeout=PATIENCE, check=False)
         os.close(folder)
-        opened = b"resumed 0" if len(words) > 1 else b"created"
-        errors = f"dbgrec: refused 1 Read\n{GOES_ON}".encode()
-        same((ran.returncode, ran.stdout, ran.stderr), (1, opened + b"\nkept 0\n", errors))
-    same(program.good("import", "t", stdin=drop(1)), b"resumed 0\nsealed 1\n")
+        same((ran.returncode, ran.stdout, ran.stderr), (1, b"", b"dbgrec: refused 1 Read\n"))
+    same(stored(program.folder), {})
 
 
 def spent():

@@ -52,8 +52,6 @@ class Feeder:
 
     def __init__(self, importer):
         self.importer = importer
-        # the trace is opened once its first byte has come
-        importer.write(entry(0)[:1])
         self.tries = 1
         self.bytes = 0
         self.is_over = threading.Event()
@@ -67,7 +65,7 @@ class Feeder:
                     time.sleep(PAUSE)
                     continue
                 some = b"".join(entry(number + each) for each in range(64))
-                self.importer.write(some[0 if number else 1 :])
+                self.importer.write(some)
                 number += 64
                 self.bytes += len(some)
 
@@ -109,9 +107,8 @@ def try_file(program, name, tries):
     """Lists and exports a file by turns while an import writes it, and answers how often."""
     windows = []
     with program.start("import", name) as importer:
-        feeder = Feeder(importer)
-        same(importer.line(), "created")
-        with feeder:
+        same(importer.opens(), "created")
+        with Feeder(importer) as feeder:
             while len(windows) < TRIES_OF_A_FILE or (len(windows) < tries and feeder.bytes < MUCH):
                 command = ("list", "export")[len(windows) % 2]
                 windows.append(shown_first(command, program.good(command, name)))
@@ -135,9 +132,8 @@ def a_file_that_is_written_is_never_refused(program):
 def a_wrap_that_is_written_is_never_refused(program):
     windows = []
     with program.start("import", "w", *WRAP) as importer:
-        feeder = Feeder(importer)
-        same(importer.line(), "created")
-        with feeder:
+        same(importer.opens(), "created")
+        with Feeder(importer) as feeder:
             feeder.wait(A_LAP)
             for turn in range(TRIES):
                 command = ("list", "export")[turn % 2]
@@ -157,10 +153,9 @@ def a_wrap_that_is_begun_is_never_refused(program):
         name = f"b{number}."
         command = ("list", "export")[number % 2]
         with program.start("import", name, *WRAP) as importer:
-            importer.write(entries[:1])
-            same(importer.line(), "created")
+            same(importer.opens(), "created")
             # the first file is made before each listing, and the others at another moment of each
-            feeding = threading.Timer(number % 16 * PAUSE / 4, importer.write, (entries[1:],))
+            feeding = threading.Timer(number % 16 * PAUSE / 4, importer.write, (entries,))
             feeding.start()
             for _ in range(LOOKS):
                 windows.append(shown_first(command, program.good(command, name, *WRAP[:2])))
@@ -198,8 +193,7 @@ def a_wrap_that_stays_refused_while_it_is_locked_says_so(program):
     kept = ("--kind", "wrap", "--count", "3")
     program.good("import", "w", *kept, "--size", "0", "--keep-open", stdin=drop(1) * 9)
     with program.start("import", "w", *kept, "--size", "0") as importer:
-        importer.write(drop(1)[:1])
-        same(importer.line(), "resumed 9")
+        same(importer.opens(), "resumed 9")
         # two files of one place: no reading can be whole
         (program.folder / "w0").write_bytes(segment(wrap_header(6, count=3)))
         (program.folder / "w1").write_bytes(segment(wrap_header(4, count=3)))

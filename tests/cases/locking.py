@@ -10,9 +10,6 @@ CASES, case = group()
 
 WRAP = ("--kind", "wrap", "--size", "0")
 
-# an import opens its trace once the first byte of an entry has come
-ENTRY = drop(1)
-
 # enough entries for each file of the wrap to be there
 TEN = (*WRAP, "--count", "10")
 
@@ -29,13 +26,12 @@ def in_use(program, file, *commands):
 def a_file_of_a_wrap_that_is_recorded_is_in_use(program):
     program.good("import", "trace", *WRAP, "--keep-open", stdin=drop(1) * 20)
     with program.start("import", "trace", *WRAP) as running:
-        running.write(ENTRY[:1])
-        same(running.line(), "resumed 20")
+        same(running.opens(b"\1"), "resumed 20")
         for number in (0, 3, 8):
             name = f"trace{number}"
             in_use(program, name, ("import", name), ("record", name), ("wipe", name), ("wipe", name, "--force"))
         in_use(program, "trace0", ("import", "trace", *WRAP), ("record", "trace", *WRAP), ("wipe", "trace"))
-        running.write(ENTRY[1:])
+        running.write(drop(1))
         same(running.end().output, b"sealed 21\n")
     same(program.good("wipe", "trace"), b"ok\n")
 
@@ -56,31 +52,28 @@ def a_wrap_of_which_a_file_is_recorded_is_in_use(program):
 def two_wraps_that_share_a_file_are_told_of_it(program):
     program.good("import", "t", *TEN, "--keep-open", stdin=drop(1) * 20)
     with program.start("import", "t", *TEN) as running:
-        running.write(ENTRY[:1])
-        same(running.line(), "resumed 20")
+        same(running.opens(b"\1"), "resumed 20")
         in_use(program, "t10", ("import", "t1", *WRAP), ("record", "t1", *WRAP), ("wipe", "t1", "--kind", "wrap", "--force"))
-        running.write(ENTRY[1:])
+        running.write(drop(1))
         same(running.end().output, b"sealed 21\n")
 
 
 @case
 def a_wrap_that_comes_second_is_told_of_the_shared_file(program):
-    with program.start("import", "t1", *WRAP) as running:
-        running.write(ENTRY[:1])
+    with program.start("record", "t1", *WRAP) as running:
         same(running.line(), "created")
         before = stored(program.folder)
         for command in ("import", "record"):
             program.refused(command, "t", *TEN, says='dbgrec: "t10" is in use by another process')
         same({name: stored(program.folder)[name] for name in before}, before)
-        running.write(ENTRY[1:])
         same(running.end().status, 0)
 
 
 @case
 def a_file_that_comes_in_the_place_of_a_later_one_stays(program):
     with program.start("import", "w", *WRAP) as running:
+        same(running.opens(b"\1"), "created")
         running.write(drop(1))
-        same(running.line(), "created")
         same(program.good("import", "w3", stdin=message(EXAMPLE)), b"created\nsealed 1\n")
         before = (program.folder / "w3").read_bytes()
         with contextlib.suppress(BrokenPipeError):
@@ -94,11 +87,10 @@ def a_file_that_comes_in_the_place_of_a_later_one_stays(program):
 @case
 def a_link_that_is_put_there_later_is_a_fault(program):
     with program.start("import", "w", *WRAP) as running:
-        running.write(ENTRY[:1])
-        same(running.line(), "created")
+        same(running.opens(b"\1"), "created")
         (program.folder / "w1").symlink_to("original")
         with contextlib.suppress(BrokenPipeError):
-            running.write(ENTRY[1:] + drop(1) * 8)
+            running.write(drop(1) * 9)
         outcome = running.end()
     same(outcome.status, 1)
     assert outcome.errors.startswith(b'dbgrec: refused 1 Device: "w1": File exists (os error 17)\n'), outcome
@@ -110,12 +102,11 @@ def a_lock_makes_no_file(program):
     program.refused("wipe", "w", says="dbgrec: w: no such trace")
     same(stored(program.folder), {})
     with program.start("import", "w", *WRAP) as running:
-        running.write(ENTRY[:1])
-        same(running.line(), "created")
+        same(running.opens(b"\1"), "created")
         same(list(stored(program.folder)), ["w0"])
         # the others are made since they were looked for
         in_use(program, "w0", ("import", "w", *WRAP), ("record", "w", *WRAP), ("wipe", "w"))
-        running.write(ENTRY[1:])
+        running.write(drop(1))
         same(running.end().status, 0)
 
 
@@ -123,8 +114,7 @@ def a_lock_makes_no_file(program):
 def a_killed_recorder_leaves_no_lock(program):
     for words in (("t",), ("w", *TEN)):
         with program.start("import", *words) as running:
-            running.write(ENTRY[:1])
-            same(running.line(), "created")
+            same(running.opens(), "created")
             running.kill()
         same(program.good("import", *words, stdin=drop(1)), b"resumed 0\nsealed 1\n")
 
@@ -133,9 +123,8 @@ def a_killed_recorder_leaves_no_lock(program):
 def readers_take_no_lock(program):
     program.good("import", "w", *TEN, "--keep-open", stdin=drop(1) * 20)
     with program.start("import", "w", *TEN) as running:
-        running.write(ENTRY[:1])
-        same(running.line(), "resumed 20")
+        same(running.opens(b"\1"), "resumed 20")
         same(len(program.good("list", "w").splitlines()), 11)
         same(program.good("export", "w"), drop(1) * 9)
-        running.write(ENTRY[1:])
+        running.write(drop(1))
         same(running.end().output, b"sealed 21\n")

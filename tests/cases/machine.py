@@ -9,7 +9,7 @@ import subprocess
 import time
 
 from cases import Skipped, group, is_root, stored
-from entries import EXAMPLE, example_line, listing, message, split
+from entries import EXAMPLE, drop, example_line, goes_on, listing, message, split
 from program import PATIENCE, Outcome, read_to_end, same
 from segments import is_foreign
 
@@ -17,7 +17,6 @@ CASES, case = group()
 
 WRAP = ("--kind", "wrap", "--count", "3")
 
-GOES_ON = b"the trace isn't sealed: the same command goes on with it\n"
 
 # what sets the user of a process, where this one may
 NOBODY = ("setpriv", "--reuid", "65534", "--regid", "65534", "--clear-groups")
@@ -66,13 +65,15 @@ def a_full_disk_is_told_and_a_prefix_is_left(program):
         (disk / "other").write_bytes(bytes(100_000))
         outcome = program.run("import", "disk/t", stdin=b"".join(entries))
         same((outcome.status, outcome.output), (1, b"created\n"))
-        same(outcome.errors, b'dbgrec: refused 1 Device: "disk/t": No space left on device (os error 28)\n' + GOES_ON)
         left = check_prefix(program, entries, "disk/t")
+        place = len(b"".join(entries[:left]))
+        same(outcome.errors, b'dbgrec: refused 1 Device: "disk/t": No space left on device (os error 28)\n' + goes_on(left, place).encode())
         assert 200 < left < 424
         same(sorted(stored(disk)), ["other", "t"])
         check_no_foreign_file(disk, "other")
         (disk / "other").unlink()
-        same(program.good("import", "disk/t", stdin=entries[left]), f"resumed {left}\nsealed {left + 1}\n".encode())
+        told = program.good("import", "disk/t", "--skip", str(place), stdin=b"".join(entries[: left + 1]))
+        same(told, f"resumed {left}\nsealed {left + 1}\n".encode())
         same(check_prefix(program, entries, "disk/t"), left + 1)
 
 
@@ -83,8 +84,10 @@ def a_full_disk_under_a_wrap_is_told_with_the_file(program):
     with small_disk(program.folder) as disk:
         outcome = program.run("import", *words, stdin=b"".join(entries))
         same((outcome.status, outcome.output), (1, b"created\n"))
-        same(outcome.errors, b'dbgrec: refused 1 Device: "disk/t3.x": No space left on device (os error 28)\n' + GOES_ON)
-        assert 300 < check_prefix(program, entries, *words) < 524
+        left = check_prefix(program, entries, *words)
+        told = goes_on(left, len(b"".join(entries[:left]))).encode()
+        same(outcome.errors, b'dbgrec: refused 1 Device: "disk/t3.x": No space left on device (os error 28)\n' + told)
+        assert 300 < left < 524
         same(sorted(stored(disk)), ["t0.x", "t1.x", "t2.x", "t3.x"])
         check_no_foreign_file(disk)
 
@@ -111,13 +114,15 @@ def a_file_that_may_not_grow_is_told_and_a_prefix_is_left(program):
     # the signal for it stays ignored, as it is here
     outcome = program.run("import", "t", stdin=b"".join(entries), preexec_fn=limit, restore_signals=False)
     same((outcome.status, outcome.output), (1, b"created\n"))
-    same(outcome.errors, b'dbgrec: refused 1 Device: "t": File too large (os error 27)\n' + GOES_ON)
     same(list(stored(program.folder)), ["t"])
     check_no_foreign_file(program.folder)
-    assert 300 < check_prefix(program, entries, "t") < 400
-    told_again = program.good("import", "t", stdin=message(EXAMPLE)).decode().split()
-    same(told_again[0], "resumed")
-    same(int(told_again[1]) + 1, int(told_again[3]))
+    left = check_prefix(program, entries, "t")
+    place = len(b"".join(entries[:left]))
+    same(outcome.errors, b'dbgrec: refused 1 Device: "t": File too large (os error 27)\n' + goes_on(left, place).encode())
+    assert 300 < left < 400
+    told_again = program.good("import", "t", "--skip", str(place), stdin=b"".join(entries))
+    same(told_again, f"resumed {left}\nsealed {len(entries)}\n".encode())
+    same(check_prefix(program, entries, "t"), len(entries))
 
 
 @contextlib.contextmanager
@@ -186,13 +191,15 @@ def the_second_of_two_at_once_says_so_and_changes_nothing(program):
     for first, kind in (("record", ()), ("import", ()), ("record", WRAP)):
         name = f"t-{first}-{len(kind)}"
         with program.start(first, name, *kind) as running:
-            same(running.line(), "created")
+            same(running.opens(b"\1") if first == "import" else running.line(), "created")
             before = stored(program.folder)
             file = f"{name}0" if kind else name
             for command in ("record", "import", "wipe"):
                 program.refused(command, name, *kind, stdin=message(EXAMPLE), says=f'dbgrec: "{file}" is in use by another process')
             same(stored(program.folder), before)
             same(program.good("list", name, *kind), b"end_of_trace\n")
+            if first == "import":
+                running.write(drop(1))
             same(running.end().status, 0)
         same(program.good("wipe", name, *kind), b"ok\n")
 

@@ -6,7 +6,7 @@ import re
 import resource
 
 from cases import REPOSITORY, group, stored
-from entries import EXAMPLE, LONGEST, drop, message
+from entries import EXAMPLE, LONGEST, drop, goes_on, message
 from info import STAMPED, moment
 from program import Outcome, same
 from refusing import each_refusal
@@ -156,14 +156,16 @@ def a_refusal_that_is_refused_memory_leaves_all_as_it_was(program):
     sealed, wrap, damaged, text = (Kept(program, name) for name in ("sealed", "wrap", "damaged", "text"))
     sealed.program.good("import", "t", stdin=ENTRIES[0])
     for command in ("import", "record"):
-        sealed.reads(command, "t")
+        sealed.reads(command, "t", stdin=ENTRIES[0])
+    sealed.reads("import", "t")
+    sealed.reads("import", "t", "--skip", "3", stdin=ENTRIES[0][:3])
     wrap.program.good("import", "t", *WRAP, stdin=b"".join(ENTRIES))
     for words in (("import", "t"), ("wipe", "t", "--kind", "file"), ("list", "t", "--count", "4")):
-        wrap.reads(*words)
+        wrap.reads(*words, stdin=ENTRIES[0])
     (damaged.program.folder / "t").write_bytes(segment(FILE_HEADER, drop(1))[:-1] + b"\1\0\0\xff\xff")
     (text.program.folder / "t").write_bytes(b"a text\n")
     for command in ("import", "list", "export", "info"):
-        damaged.reads(command, "t")
+        damaged.reads(command, "t", stdin=ENTRIES[0])
     for command in ("import", "list", "wipe"):
         text.reads(command, "t")
     text.reads("list", "none")
@@ -259,7 +261,7 @@ def a_length_of_a_batch_takes_no_memory_before_its_bytes_are_there(program):
         same(in_little(program, command, "t"), Outcome(1, b"", f"{says}{done}\n".encode()))
     says = f"dbgrec: refused 5 Recover 1 Damaged file 0 at {place}\nt is damaged there: list shows the entries before it, wipe clears the trace\n"
     for command in ("import", "record"):
-        same(in_little(program, command, "t", stdin=b""), Outcome(1, b"", says.encode()))
+        same(in_little(program, command, "t", stdin=ENTRIES[0]), Outcome(1, b"", says.encode()))
     script = [f"bytes 0 {data.hex()}", "list", "resume file 999"]
     told = f"ok\n{damaged}refused 5 Recover 1 Damaged file 0 at {place}\n".encode()
     same(in_little(program, "sim", stdin=joined(script)), Outcome(0, told, b""))
@@ -273,5 +275,4 @@ def a_length_of_a_message_takes_no_memory_before_its_bytes_are_there(program):
         long = Outcome(1, b"", b"dbgrec: refused 6 TooLong at 0\n")
         same(in_little(program, "stream", stdin=given), cut if length == LONGEST else long)
         name = f"t{length}"
-        goes_on = b"the trace isn't sealed: the same command goes on with it\n"
-        same(in_little(program, "import", name, stdin=given), Outcome(1, b"created\nkept 0\n", cut.errors + goes_on))
+        same(in_little(program, "import", name, stdin=given), Outcome(1, b"created\nkept 0\n", cut.errors + goes_on(0, 0).encode()))

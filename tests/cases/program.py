@@ -60,6 +60,7 @@ class Running:
 
     def __init__(self, process):
         self.process = process
+        self.given = b""
 
     def __enter__(self):
         return self
@@ -70,9 +71,16 @@ class Running:
         for stream in (self.process.stdin, self.process.stdout, self.process.stderr):
             stream.close()
 
+    def opens(self, first=b"\0"):
+        """The line with which an import says that it is open, once this has come. What is written next begins with it."""
+        self.write(first)
+        self.given = first
+        return self.line()
+
     def write(self, data):
         """Writes all of it."""
-        left = memoryview(data)
+        assert data.startswith(self.given), f"{shown(data)} doesn't begin with {shown(self.given)}"
+        left, self.given = memoryview(data)[len(self.given) :], b""
         while left:
             left = left[os.write(self.process.stdin.fileno(), left) :]
 

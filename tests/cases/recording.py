@@ -1,7 +1,7 @@
 """Cases of `record`, and of what a refused command line answers."""
 
 from cases import group, stored
-from entries import EXAMPLE, example_line, listing, message, window
+from entries import EXAMPLE, drop, example_line, listing, message, window
 from program import Outcome, same
 
 CASES, case = group()
@@ -96,7 +96,7 @@ def a_trace_of_another_kind_is_refused(program):
     program.refused("record", "t", *SMALL_WRAP, says="dbgrec: refused 3 WrongKind")
     program.good("record", "w", *SMALL_WRAP, stdin=b"abandon\n")
     program.refused("record", "w0", says="dbgrec: refused 3 WrongKind")
-    program.refused("import", "w0", says="dbgrec: refused 3 WrongKind")
+    program.refused("import", "w0", stdin=drop(1), says="dbgrec: refused 3 WrongKind")
     same(program.good("record", "w", *SMALL_WRAP), b"resumed 0\n")
 
 

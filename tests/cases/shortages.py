@@ -15,7 +15,7 @@ NO_MEMORY = b"dbgrec: refused 7 NoMemory\n"
 TELLS_NO_MEMORY = re.compile(
     rb"(dbgrec: the disk failed [^\n]*\n)?"
     rb"dbgrec: refused (7|5|4|5 Recover 5) NoMemory\n"
-    rb"(the trace isn't sealed: the same command goes on with it\n)?"
+    rb"((no entry|1 entry|\d+ entries) of this input (is|are) kept[^\n]*\n|it isn't known how much of this input is kept[^\n]*\n)?"
 )
 
 IS_REFUSED = re.compile(r"refused .*\bNoMemory\n")
@@ -200,6 +200,11 @@ def check_import(refused, outcome, before, entries, words, read):
     told = re.fullmatch(rb"((created|resumed %d)\nkept (\d+)\n)?" % len(before), outcome.output)
     assert told, outcome
     same(len(left), int(told[3] or len(before)))
-    goes_on = refused.run("import", "t", *words, stdin=b"".join(whole[len(left) :]))
-    same((goes_on.status, goes_on.errors), (0, b""))
+    numbers = re.search(rb"\n(\w+) entr(?:y|ies) of this input (?:is|are) kept(?:, up to byte (\d+))?", outcome.errors)
+    if numbers:
+        count = 0 if numbers[1] == b"no" else int(numbers[1])
+        same((count, int(numbers[2] or 0)), (len(left) - len(before), len(b"".join(entries[:count]))))
+    if len(left) < len(whole):
+        goes_on = refused.run("import", "t", *words, stdin=b"".join(whole[len(left) :]))
+        same((goes_on.status, goes_on.errors), (0, b""))
     same(refused.good("export", "t", *read), b"".join(whole))

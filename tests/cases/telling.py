@@ -22,7 +22,7 @@ def a_sealed_trace_says_what_can_be_done(program):
         before = stored(program.folder)
         for command in ("import", "record"):
             program.refused(command, *words, stdin=message(EXAMPLE), says=SEALED)
-        program.refused("import", *words, "--keep-open", says=SEALED)
+        program.refused("import", *words, "--keep-open", stdin=message(EXAMPLE), says=SEALED)
         same(stored(program.folder), before)
 
 
@@ -46,7 +46,7 @@ def a_damaged_file_says_how_many_entries_are_listed(program):
         says = f"dbgrec: refused 5 Recover 1 Damaged file 0 at {place}\n"
         says += "t is damaged there: list shows the entries before it, wipe clears the trace"
         for command in ("import", "record"):
-            program.refused(command, "t", says=says)
+            program.refused(command, "t", stdin=drop(1), says=says)
         same((program.folder / "t").read_bytes(), data)
     same(program.good("wipe", "t"), b"ok\n")
 
@@ -73,7 +73,7 @@ def a_damaged_wrap_says_which_file_is(program):
         program.refused("export", name, *WRAP, says=f"{first}{shown} is damaged there: no entry is written")
         says = f"dbgrec: refused 5 Recover 1 Damaged file 1 at {place}\n{shown} is damaged there: "
         says += "list shows the entries before it, wipe clears the trace"
-        program.refused("import", name, *WRAP, says=says)
+        program.refused("import", name, *WRAP, stdin=drop(1), says=says)
 
 
 def disagree(program, base, number, name, words, listed=b"", exported=b""):
@@ -82,7 +82,7 @@ def disagree(program, base, number, name, words, listed=b"", exported=b""):
     for command, output in (("list", listed), ("export", exported)):
         program.refused(command, base, *WRAP, says=f"dbgrec: refused {number} {name}{second}", output=output)
     for command in ("import", "record"):
-        program.refused(command, base, *WRAP, says=f"dbgrec: refused 5 Recover {number} {name}{second}")
+        program.refused(command, base, *WRAP, stdin=drop(1), says=f"dbgrec: refused 5 Recover {number} {name}{second}")
 
 
 @case

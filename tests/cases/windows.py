@@ -36,8 +36,8 @@ def a_large_wrap_that_is_written_is_listed_and_exported_in_8_too(program):
     entries = [message(bytes(60_000))] * 2_200
     wrap = ("t", "--kind", "wrap", "--size", "30000000", "--count", "4")
     with program.start("import", *wrap, "--flush", "always") as importer:
+        same(importer.opens(), "created")
         importer.write(b"".join(entries))
-        same(importer.line(), "created")
         deadline = time.monotonic() + PATIENCE
         while b"2199 opaque" not in program.run("list", *wrap[:3], before=SMALL).output:
             assert time.monotonic() < deadline
@@ -55,8 +55,8 @@ def written_in_8(program, wrap, size, count, entries):
     """A wrap that is written is listed and exported in 8 MB, as its entries are kept."""
     last = f"\n{len(entries) - 1} opaque ".encode()
     with program.start("import", "t", *wrap) as importer:
+        same(importer.opens(), "created")
         importer.write(b"".join(entries))
-        same(importer.line(), "created")
         deadline = time.monotonic() + PATIENCE
         while last not in program.run("list", "t", *wrap[:2]).output:
             assert time.monotonic() < deadline

@@ -138,15 +138,26 @@ fn keep_open<'a>(alloc: Global) -> Arg<'a> {
     )
 }
 
+fn skip<'a>(alloc: Global) -> Arg<'a> {
+    option(
+        alloc,
+        "skip",
+        "BYTES",
+        "Passes over so many bytes of the input first: those that an import before kept, as it said",
+    )
+    .value_parser(value_parser!(u64))
+}
+
 /// The command that records an entry stream.
 fn import<'a>(alloc: Global, command: Command<'a>) -> Result<Command<'a>, AllocError> {
     of_new_files(
         alloc,
         command,
-        "A trace that is there and not sealed is gone on with. A sealed one is kept by export and cleared by wipe. A stream that is truncated or broken doesn't seal.\n\nExample: nc HOST 4711 | dbgrec import trace --kind wrap",
+        "A trace that is there and not sealed is gone on with. A sealed one is kept by export and cleared by wipe. A stream that is truncated or broken doesn't seal, and an input without a byte does nothing.\n\nExample: nc HOST 4711 | dbgrec import trace --kind wrap",
     )?
     .arg(flush(alloc))?
-    .arg(keep_open(alloc))
+    .arg(keep_open(alloc))?
+    .arg(skip(alloc))
 }
 
 /// The command that records what a script says.
@@ -385,7 +396,11 @@ fn rules_in(matches: &ArgMatches<'_>) -> Rules {
     } else {
         Ending::Seal
     };
-    Rules { flushing, ending }
+    Rules {
+        skip: matches.get_one::<u64>("skip").unwrap_or(0),
+        flushing,
+        ending,
+    }
 }
 
 /// The kinds that are shown, if each word is one that a listing of this style may have.

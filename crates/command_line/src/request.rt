@@ -53,9 +53,11 @@ pub enum Ending {
     Keep,
 }
 
-/// How an import flushes and ends.
+/// How an import begins, flushes and ends.
 #[derive(Clone, Copy, Debug, PartialEq, Eq)]
 pub struct Rules {
+    /// The bytes of its input that it passes over first.
+    pub skip: u64,
     pub flushing: Flushing,
     pub ending: Ending,
 }

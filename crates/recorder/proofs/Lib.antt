@@ -2,3 +2,4 @@ pub mod InNumbers
 pub mod Readings
 pub mod Commanding
 pub mod Followed
+pub mod Keeping

@@ -1,5 +1,5 @@
 -- What a command does with the files of a trace.
-use Rattle.std.specs.Prelude.{◌≡◌, ◌⊎◌, ℕ, Bool, true, false, Option, None, List, [], Result, Ok, Err, IsSome, OnOk, IfErr}
+use Rattle.std.specs.Prelude.{◌≡◌, ◌⊎◌, ℕ, Bool, true, false, Option, None, List, [], Result, Ok, Err, IsSome, IfSome, OnOk, IfErr}
 use Rattle.std.specs.Io.KnownBytes.{Appends, Keeps}
 use Rattle.trace_store.specs.Disk.{Image}
 use Rattle.trace_store.specs.Moments.{LeavesOnly}
@@ -31,10 +31,13 @@ use Rattle.command_line.specs.declared.request.Rules.{Rules}
 use Rattle.command_line.specs.declared.request.TraceRequest.{TraceRequest}
 use Rattle.command_line.specs.declared.request.TraceRequest.TheVariants as requests
 use Rattle.trace_advice.specs.Complaints.{status_told, IsToldAs}
+use Rattle.trace_advice.specs.Kept.{kept_told}
 use Rattle.script_port.specs.Faults.{status_of, run_fault}
 use Rattle.trace_advice.specs.Faults.{read_fault, wipe_fault}
-use Rattle.recorder.specs.Files.{OnlyLooks, LooksOver, WasRecorded, WasFed}
+use Rattle.recorder.specs.Files.{OnlyLooks, LooksOver, WasRecorded, WasFed, IsKeptOf}
 use Rattle.trace_recording.specs.Incoming.{Outside, outside}
+use Rattle.trace_recording.specs.Beginning.{Begins, EndsWithin, IsUnread}
+use Rattle.trace_recording.specs.declared.incoming.Incoming.{Incoming}
 use Rattle.script_port.specs.PortOpenings.{first_told, FitsStore, GoesOnOrBegins}
 use Rattle.trace_recording.specs.Openings.{wanted, KeepsTrace, IsWhyNotOpened}
 use Rattle.trace_places.specs.Places.{file_count, turn_of}
@@ -101,11 +104,25 @@ pub data Records (spec : Spec) (old new : FolderStore) (had was now : Option (Li
   not_opened : {mid : FolderStore} (fault : SimFault) (complaint : Complaint) → IsNotOpened spec old mid fault → OnlyLooks mid new → Keeps was now → IsToldOf fault complaint → Records spec old new had was now (Err complaint)
   no_memory : (complaint : Complaint) → new ≡ old → Keeps was now → status_told complaint ≡ 1 → Records spec old new had was now (Err complaint)
 
--- a trace was opened and a stream put into its port, by what was seen before and what was observed until the end; or nothing was done but the opening
+-- what an import did, by what was seen before it and what was observed until its end
 pub data Feeds (spec : Spec) (rules : Rules) (old new : FolderStore) (saw : Outside) (observed : Observations) (was now : Option (List ℕ)) : Result Unit Complaint → Type 0 where
-  feeds : {mid last : FolderStore} {opened : AnyOpening} {origin : Origin} {result : Result Unit Complaint} (remaining : Option (List ℕ)) (reads : ℕ) (done : Result Unit SimFault) → IsOpened spec old mid opened origin
-      → WasFed opened origin rules mid last saw (outside remaining reads observed) done (λ text. Appends was now text) → OnlyLooks last new → IsExplained done result → Feeds spec rules old new saw observed was now result
-  not_opened : {mid : FolderStore} (fault : SimFault) (complaint : Complaint) → IsNotOpened spec old mid fault → OnlyLooks mid new → observed ≡ saw.observed → Keeps was now → IsToldOf fault complaint → Feeds spec rules old new saw observed was now (Err complaint)
+  -- a byte came; then a trace was opened, and the stream put into its port
+  feeds : {first mid last : FolderStore} {opened : AnyOpening} {origin : Origin} {result : Result Unit Complaint} {then : Outside} {incoming : Incoming} (begins : Begins rules.skip saw then incoming)
+      (remaining : Option (List ℕ)) (reads : ℕ) (come : List ℕ) (left : Incoming) (done : Result Unit SimFault) → OnlyLooks old first → IsOpened spec first mid opened origin
+      → WasFed opened origin rules mid last begins.mid (outside remaining reads observed) come left done (λ text. Appends was now text) → OnlyLooks last new → IsExplained done result
+      -- where it is told how much of the stream is kept, so much is
+      → (honest_of new → IfErr result (λ complaint. IfSome (kept_told complaint) (IsKeptOf (first_told opened (device mid)) rules.skip come (reads_of new)))) → Feeds spec rules old new saw observed was now result
+  -- a byte came; then the trace wasn't opened
+  not_opened : {first mid : FolderStore} {then : Outside} {incoming : Incoming} (fault : SimFault) (complaint : Complaint) → Begins rules.skip saw then incoming → OnlyLooks old first → IsNotOpened spec first mid fault
+      → OnlyLooks mid new → observed ≡ then.observed → Keeps was now → IsToldOf fault complaint → Feeds spec rules old new saw observed was now (Err complaint)
+  -- no byte came
+  nothing_came : {then : Outside} → EndsWithin rules.skip saw then → OnlyLooks old new → observed ≡ then.observed → Keeps was now → Feeds spec rules old new saw observed was now (Ok tt)
+  -- the first byte couldn't be had
+  unread : {then : Outside} (fault : SimFault) (complaint : Complaint) → IsUnread rules.skip saw then fault → OnlyLooks old new → observed ≡ then.observed → Keeps was now → IsToldOf fault complaint
+      → Feeds spec rules old new saw observed was now (Err complaint)
+  -- its files aren't a trace's, and nothing was read
+  refused : (fault : SimFault) (complaint : Complaint) → (honest_of new → IsWhyNotOpened spec fault (reads_of old)) → OnlyLooks old new → observed ≡ saw.observed → Keeps was now → IsToldOf fault complaint
+      → Feeds spec rules old new saw observed was now (Err complaint)
 
 -- whether files that aren't of a trace are cleared, too
 abbrev pub clearing_of : Bool → Clearing

@@ -1,5 +1,5 @@
 -- What is done with the real files of a trace.
-use Rattle.std.specs.Prelude.{◌≡◌, ℕ, true, Option, Some, None, List, Result, Ok, Err, OnOk}
+use Rattle.std.specs.Prelude.{◌≡◌, ℕ, ◌+◌, true, Option, Some, None, List, [], Result, Ok, Err, OnOk}
 use Rattle.std.specs.Io.KnownBytes.{Appends}
 use Rattle.segment.specs.DeviceCalls.{DeviceReads}
 use Rattle.trace_store.specs.Device.{OnlyReads, device_of}
@@ -19,6 +19,12 @@ use Rattle.script_port.specs.Read.{Stretch, first_lines}
 use Rattle.script_port.specs.Held.{WasHeld}
 use Rattle.trace_recording.specs.Incoming.{Outside}
 use Rattle.trace_recording.specs.Importing.{WasImported}
+use Rattle.trace_recording.specs.Marks.{HasMark, HasTotal, KeepsFirst}
+use Rattle.trace_recording.specs.declared.incoming.Incoming.{Incoming}
+use Rattle.trace_store.specs.Disk.{Image}
+use Rattle.recovery.specs.Views.{View}
+use Rattle.trace_port.specs.Port.{Told, Fits}
+use Rattle.trace_advice.specs.declared.kept.Kept.{Kept}
 use Rattle.script_port.specs.declared.answer.Answer.TheVariants.{Done}
 use Rattle.script_port.specs.declared.fault.SimFault.{SimFault}
 use Rattle.script_port.specs.declared.opening.AnyOpening.{AnyOpening}
@@ -61,8 +67,21 @@ pub record WasRecorded (opened : AnyOpening) (origin : Origin) (old new : Folder
   pub answered : IsAnswered left result mid now
 
 -- an entry stream was put into a port over this opening, which then was closed and dropped
-abbrev pub WasFed : AnyOpening → Origin → Rules → FolderStore → FolderStore → Outside → Outside → Result Unit SimFault → (List ℕ → Type 0) → Type 0
-WasFed (openings.File opening) origin rules old new was is result Writes =
-    WasImported (file_told folder.ghosts pending.ghosts) (opened_told pending.ghosts opening (device_of folder.ghosts old)) (opened_answer origin) rules.flushing rules.ending was is result (device_of folder.ghosts new) Writes
-WasFed (openings.Wrap opening) origin rules old new was is result Writes =
-    WasImported (wrap_told folder.ghosts pending.ghosts) (wrap_opened_told pending.ghosts opening (device_of folder.ghosts old)) (opened_answer origin) rules.flushing rules.ending was is result (device_of folder.ghosts new) Writes
+abbrev pub WasFed : AnyOpening → Origin → Rules → FolderStore → FolderStore → Outside → Outside → List ℕ → Incoming → Result Unit SimFault → (List ℕ → Type 0) → Type 0
+WasFed (openings.File opening) origin rules old new was is come incoming result Writes =
+    WasImported (file_told folder.ghosts pending.ghosts) (opened_told pending.ghosts opening (device_of folder.ghosts old)) (opened_answer origin) rules.flushing rules.ending was is come incoming result (device_of folder.ghosts new) Writes
+WasFed (openings.Wrap opening) origin rules old new was is come incoming result Writes =
+    WasImported (wrap_told folder.ghosts pending.ghosts) (wrap_opened_told pending.ghosts opening (device_of folder.ghosts old)) (opened_answer origin) rules.flushing rules.ending was is come incoming result (device_of folder.ghosts new) Writes
+
+-- so much was counted: the entries that a store has more than before, where their end is known, after the bytes that were passed over
+pub record IsCounted (skip before : ℕ) (incoming : Incoming) (image : Image) (kept : Kept) : Type 0 where
+  pub bytes : ℕ
+  pub after : kept.bytes ≡ bytes + skip
+  pub mark : HasMark incoming kept.entries bytes
+  pub total : HasTotal image (before + kept.entries)
+
+-- so much is kept of an input, of which so many bytes were passed over and these came then: after what a port over an opening found there, a store has exactly so many entries, those of the bytes up to there
+pub record IsKeptOf (opened : Told) (skip : ℕ) (come : List ℕ) (image : Image) (kept : Kept) : Type 0 where
+  pub bytes : ℕ
+  pub after : kept.bytes ≡ bytes + skip
+  pub keeps : (v0 : View) (c : ℕ) → Fits opened v0 [] c → KeepsFirst opened.spec v0 come kept.entries bytes image

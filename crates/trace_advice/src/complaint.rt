@@ -4,6 +4,7 @@ ghost use Rattle.trace_advice.specs.Complaints.{status_told, IsToldAs};
 ghost use Rattle.trace_advice.specs.declared.complaint.Complaint.TheVariants as complaints;
 ghost use Rattle.script_port.specs.declared.fault.SimFault.TheVariants as faults;
 
+use crate::kept::{Kept, tell_full, tell_going_on, tell_skipping};
 use recovery::RecoverFault;
 use script_port::{Refusal, SimFault};
 use std::alloc::AllocError;
@@ -17,11 +18,17 @@ pub enum Advice {
     /// The trace is sealed.
     Sealed,
     /// An import ended, and its trace isn't sealed.
-    GoesOn,
+    GoesOn {
+        kept: Option<Kept>,
+    },
     /// A sync of the trace failed.
-    DiskFailed,
+    DiskFailed {
+        kept: Option<Kept>,
+    },
     /// The trace can take no more.
-    Full,
+    Full {
+        kept: Option<Kept>,
+    },
     /// The file is damaged; before that, so many entries are listed, or written.
     Damaged {
         name: String,
@@ -59,13 +66,12 @@ impl fmt::Display for Advice {
             Advice::Sealed => {
                 f.write_str("the trace is sealed: export keeps its entries, wipe clears it")
             }
-            Advice::GoesOn => {
-                f.write_str("the trace isn't sealed: the same command goes on with it")
+            Advice::GoesOn { kept } => tell_going_on(f, *kept),
+            Advice::DiskFailed { kept } => {
+                tell_failed_disk(f)?;
+                tell_skipping(f, *kept)
             }
-            Advice::DiskFailed => tell_failed_disk(f),
-            Advice::Full => f.write_str(
-                "the trace is full: export keeps its entries, wipe clears it",
-            ),
+            Advice::Full { kept } => tell_full(f, *kept),
             Advice::Damaged {
                 name,
                 entries,

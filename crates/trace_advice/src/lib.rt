@@ -3,8 +3,10 @@
 
 mod complaint;
 mod fault;
+mod kept;
 mod notices;
 
 pub use complaint::{Advice, Complaint, FAILED_DISK, damaged_file, is_full, is_of_several, told};
 pub use fault::fault_of_reading;
+pub use kept::{Kept, fault_in_input};
 pub use notices::{tell_idle, tell_idle_on_file, tell_own};

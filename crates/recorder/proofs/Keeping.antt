@@ -1,0 +1,85 @@
+-- How much of an input is told as kept.
+use Rattle.std.proofs.Common.{◌≡◌, ℕ, ◌+◌, Option, Some, None, List, length, Result, Ok, Err, IfSome, IfErr, MatchOption, refl, sym, ◌∙◌, ap, subst, arith}
+use Rattle.trace_store.specs.Disk.{Image}
+use Rattle.trace_store.specs.Device.{device_of}
+use Rattle.stores.specs.FolderStore.{honest_of, reads_of}
+use Rattle.stores.specs.declared.folder_store.FolderStore.{FolderStore}
+use Rattle.std.proofs.lemmas.List.{length-map}
+use Rattle.entry_codec.specs.Seen.{view, views}
+use Rattle.entry_codec.specs.Entries.{joined}
+use Rattle.recovery.specs.Views.{total}
+use Rattle.recovery.specs.Stores.{Reads, Blank, Holds}
+use Rattle.recovery.specs.Recovery.{Recovers, Shows, IsEmpty}
+use Rattle.recovery.specs.declared.window.Recovered.{Recovered}
+use Rattle.segment.specs.Seen.{spec_seen}
+use Rattle.segment.specs.declared.specification.StoreSpec.{StoreSpec}
+use Rattle.script_port.specs.PortOpenings.{first_told}
+use Rattle.script_port.specs.declared.fault.SimFault.{SimFault}
+use Rattle.script_port.specs.declared.opening.AnyOpening.{AnyOpening}
+use Rattle.script_port.specs.declared.opening.AnyOpening.TheVariants as openings
+use Rattle.script_port.specs.declared.reply.Origin.{Origin}
+use Rattle.command_line.specs.declared.request.Rules.{Rules}
+use Rattle.trace_advice.specs.Complaints.{status_told}
+use Rattle.trace_advice.specs.Kept.{kept_told, complaint_with}
+use Rattle.trace_advice.specs.declared.kept.Kept.{Kept}
+use Rattle.trace_advice.specs.declared.complaint.Advice.TheVariants as advices
+use Rattle.trace_advice.specs.declared.complaint.Complaint.{Complaint}
+use Rattle.trace_advice.specs.declared.complaint.Complaint.TheVariants as complaints
+use Rattle.trace_recording.specs.Incoming.{Outside}
+use Rattle.trace_recording.specs.Marks.{HasMark, HasTotal, whole, blank, KeepsFirst}
+use Rattle.trace_recording.specs.declared.incoming.Incoming.{Incoming}
+use Rattle.recorder.specs.Files.{OnlyLooks, WasFed, IsCounted, IsKeptOf}
+use Rattle.recorder.specs.Commands.{device}
+
+-- what is told is what was found, or nothing
+pub told_with : (kept : Option Kept) (c : Complaint) (P : Kept → Type 0) → IfSome kept P → IfSome (kept_told (complaint_with kept c)) P
+told_with kept (complaints.Fault fault (Some (advices.GoesOn was))) P h = h
+told_with kept (complaints.Fault fault (Some (advices.DiskFailed was))) P h = h
+told_with kept (complaints.Fault fault (Some (advices.Full was))) P h = h
+told_with kept (complaints.Fault fault (Some _)) P h = tt
+told_with kept (complaints.Fault fault None) P h = tt
+told_with kept _ P h = tt
+
+pub status_with : (kept : Option Kept) (c : Complaint) → status_told (complaint_with kept c) ≡ status_told c
+status_with kept (complaints.Fault fault (Some advice)) = refl
+status_with kept (complaints.Fault fault None) = refl
+status_with kept _ = refl
+
+-- what was read has so many entries in all
+pub total_read : (image : Image) (r : Recovered) (n : ℕ) → Recovers image r → n ≡ r.first + length (views r.entries.items) → HasTotal image n
+total_read image r n reads is = by_spec r.spec reads
+  where
+    by_spec : (spec : Option StoreSpec) → MatchOption spec (Reads image Blank × IsEmpty r) (λ s. (v : _) × Reads image (Holds (spec_seen s) v r.sealed) × Shows v r) → HasTotal image n
+    by_spec None none =
+        let count : length (views r.entries.items) ≡ length r.entries.items = length-map r.entries.items view in
+        blank none.0 (omega (arith, is, none.1.first, none.1.entries, count))
+    by_spec (Some spec) there = whole (spec_seen spec) there.0 r.sealed there.1 (omega (arith, is, there.2.first, ap (λ (l : List _). length l) there.2.entries))
+
+-- what is found after an import is what it kept
+pub keeps_found : (opened : AnyOpening) (origin : Origin) (rules : Rules) (mid last new : FolderStore) (was is : Outside) (come : List ℕ) (incoming : Incoming) (done : Result Unit SimFault) (Writes : List ℕ → Type 0) (skip before : ℕ) (kept : Kept)
+    → WasFed opened origin rules mid last was is come incoming done Writes → OnlyLooks last new → honest_of new → before ≡ (first_told opened (device mid)).total → IsCounted skip before incoming (reads_of last) kept → IsKeptOf (first_told opened (device mid)) skip come (reads_of new) kept
+keeps_found (openings.File opening) origin rules mid last new was is come incoming done Writes skip before kept fed looks h same found = record {
+  bytes = found.bytes;
+  after = found.after;
+  keeps = λ v0 c f.
+      subst (λ (image : Image). KeepsFirst (first_told (openings.File opening) (device mid)).spec v0 come kept.entries found.bytes image) (sym (looks.same_reads h))
+      (fed.first (looks.was_honest h) v0 c f kept.entries found.bytes found.mark (subst (λ (n : ℕ). HasTotal (reads_of last) (n + kept.entries)) same found.total));
+}
+keeps_found (openings.Wrap opening) origin rules mid last new was is come incoming done Writes skip before kept fed looks h same found = record {
+  bytes = found.bytes;
+  after = found.after;
+  keeps = λ v0 c f.
+      subst (λ (image : Image). KeepsFirst (first_told (openings.Wrap opening) (device mid)).spec v0 come kept.entries found.bytes image) (sym (looks.same_reads h))
+      (fed.first (looks.was_honest h) v0 c f kept.entries found.bytes found.mark (subst (λ (n : ℕ). HasTotal (reads_of last) (n + kept.entries)) same found.total));
+}
+
+-- and what is told is that
+pub told_found : (opened : AnyOpening) (origin : Origin) (rules : Rules) (mid last new : FolderStore) (was is : Outside) (come : List ℕ) (incoming : Incoming) (done : Result Unit SimFault) (Writes : List ℕ → Type 0) (skip before : ℕ) (result : Result Unit Complaint)
+    → WasFed opened origin rules mid last was is come incoming done Writes → OnlyLooks last new → before ≡ (first_told opened (device mid)).total
+    → (honest_of new → IfErr result (λ complaint. IfSome (kept_told complaint) (IsCounted skip before incoming (reads_of last)))) → honest_of new → IfErr result (λ complaint. IfSome (kept_told complaint) (IsKeptOf (first_told opened (device mid)) skip come (reads_of new)))
+told_found opened origin rules mid last new was is come incoming done Writes skip before (Ok x) fed looks same found h = tt
+told_found opened origin rules mid last new was is come incoming done Writes skip before (Err complaint) fed looks same found h = by_kept (kept_told complaint) (found h)
+  where
+    by_kept : (kept : Option Kept) → IfSome kept (IsCounted skip before incoming (reads_of last)) → IfSome kept (IsKeptOf (first_told opened (device mid)) skip come (reads_of new))
+    by_kept None none = tt
+    by_kept (Some kept) counted = keeps_found opened origin rules mid last new was is come incoming done Writes skip before kept fed looks h same counted
