@@ -18,7 +18,7 @@ KINDS = ((), (*WRAP, "--size", "200"))
 
 GOES_ON = "the trace isn't sealed: the same command goes on with it\n"
 
-SEALED = "dbgrec: refused 1 Sealed\nthe trace is sealed: export keeps its entries, wipe clears it"
+SEALED = "dbgrec: refused 1 Sealed\n{} is sealed: export keeps its entries, wipe clears it"
 
 
 def broken_streams():
@@ -67,7 +67,7 @@ def a_trace_is_gone_on_with_behind_each_of_many_breaks(program):
             count += len(split(good))
             opened = f"resumed {count}"
         same(program.good("import", name, *kind), f"resumed {count}\nsealed {count}\n".encode())
-        program.refused("import", name, *kind, says=SEALED)
+        program.refused("import", name, *kind, says=SEALED.format(name))
 
 
 @case
@@ -89,7 +89,7 @@ def an_import_that_keeps_open_is_gone_on_with(program):
         same(program.good("export", name), message(EXAMPLE) + drop(1) + drop(4))
         same(program.good("record", name, *kind, stdin=b"flush\nabandon\n"), b"resumed 3\ncovered 3\nok\n")
         same(program.good("import", name, *kind, stdin=drop(5)), b"resumed 3\nsealed 4\n")
-        program.refused("import", name, *kind, "--keep-open", stdin=drop(6), says=SEALED)
+        program.refused("import", name, *kind, "--keep-open", stdin=drop(6), says=SEALED.format(name))
 
 
 @case
@@ -118,7 +118,7 @@ def an_empty_input_that_keeps_open_leaves_an_empty_trace(program):
     same(program.good("import", "t", "--keep-open"), b"created\nkept 0\n")
     same(program.good("list", "t"), listing(0, 0, []))
     same(program.good("import", "t"), b"resumed 0\nsealed 0\n")
-    program.refused("import", "t", says=SEALED)
+    program.refused("import", "t", says=SEALED.format("t"))
 
 
 @case
@@ -129,7 +129,7 @@ def an_input_that_can_not_be_read_leaves_the_trace_open(program):
         ran = subprocess.run(command, cwd=program.folder, stdin=folder, capture_output=True, timeout=PATIENCE, check=False)
         os.close(folder)
         opened = b"resumed 0" if len(words) > 1 else b"created"
-        errors = f"dbgrec: refused 1 Read\n{GOES_ON}".encode()
+        errors = f"dbgrec: refused 1 Read\n{GOES_ON}standard input can't be read: Is a directory (os error 21)\n".encode()
         same((ran.returncode, ran.stdout, ran.stderr), (1, opened + b"\nkept 0\n", errors))
     same(program.good("import", "t", stdin=drop(1)), b"resumed 0\nsealed 1\n")
 

@@ -1,10 +1,12 @@
 //! What is told on standard error: a fault of a command with what to do next, and options that have no effect.
 #![tactic(auto)]
 
+mod absence;
 mod complaint;
 mod fault;
 mod notices;
 
+pub use absence::{in_the_way, instead, wrap_instead};
 pub use complaint::{Advice, Complaint, FAILED_DISK, damaged_file, is_full, is_of_several, told};
 pub use fault::fault_of_reading;
 pub use notices::{tell_idle, tell_idle_on_file, tell_own};
