@@ -17,6 +17,11 @@ NOTHING = {"list": b"end_of_trace\n", "export": b"", "wipe": b"ok\n"}
 SMALL = (*WRAP, "--count", "3", "--size", "0")
 
 
+def not_there(name, why):
+    """What is told where there is no trace of a name."""
+    return f"dbgrec: {name}: no such trace\n{why}: import begins a trace"
+
+
 def is_absent(program, says, *words):
     """Fails unless each command says so and makes no file."""
     before = stored(program.folder)
@@ -33,11 +38,35 @@ def holds_nothing(program, *words):
 
 @case
 def a_trace_that_is_not_there_is_told_and_is_not_made(program):
-    for name in ("nosuch", "nodir/x", "/nodir/x", "a-b_c.d+e,f:g@h%i"):
-        is_absent(program, f"dbgrec: {name}: no such trace", name)
-        is_absent(program, f"dbgrec: {name}: no such trace", name, *WRAP)
-        is_absent(program, f"dbgrec: {name}: no such trace", name, "--kind", "file")
-    is_absent(program, 'dbgrec: "no such": no such trace', "no such")
+    for name in ("nosuch", "a-b_c.d+e,f:g@h%i"):
+        is_absent(program, not_there(name, f"neither {name} nor {name}0 is there"), name)
+        is_absent(program, not_there(name, f"{name}0 isn't there"), name, *WRAP)
+        is_absent(program, not_there(name, f"{name} isn't there"), name, "--kind", "file")
+    is_absent(program, not_there('"no such"', 'neither "no such" nor "no such0" is there'), "no such")
+
+
+@case
+def a_folder_that_is_not_there_is_told(program):
+    for name, folder in (("nodir/x", "nodir"), ("/nodir/x", "/nodir"), ("no dir/x", '"no dir"')):
+        shown = f'"{name}"' if " " in name else name
+        there = f"there is no folder {folder}: give another one, or make it"
+        for words in ((), WRAP, ("--kind", "file")):
+            is_absent(program, f"dbgrec: {shown}: no such trace\n{there}", name, *words)
+        for command in ("import", "record"):
+            quoted = '"%s"' % folder.strip('"')
+            unsynced = f"its folder {quoted} can't be synced: No such file or directory (os error 2)"
+            device = f'dbgrec: refused 5 Recover 4 Device: "{name}": {unsynced}'
+            program.refused(command, name, says=f"{device}\n{there}", stdin=drop(1) if command == "import" else b"")
+
+
+@case
+def a_link_to_a_file_that_is_not_there_is_told(program):
+    (program.folder / "t").symlink_to("gone")
+    leads = "t is a link to gone, which isn't there: give another name, or remove the link"
+    is_absent(program, f"dbgrec: t: no such trace\n{leads}", "t")
+    for command in ("import", "record"):
+        device = 'dbgrec: refused 3 Device: "t": File exists (os error 17)'
+        program.refused(command, "t", says=f"{device}\n{leads}", stdin=drop(1) if command == "import" else b"")
     same(stored(program.folder), {})
 
 
@@ -45,10 +74,10 @@ def a_trace_that_is_not_there_is_told_and_is_not_made(program):
 def empty_files_are_no_trace(program):
     for name in ("t", "w0", "w1"):
         (program.folder / name).touch()
-    is_absent(program, "dbgrec: t: no such trace", "t")
-    is_absent(program, "dbgrec: w: no such trace", "w")
-    is_absent(program, "dbgrec: w: no such trace", "w", *WRAP)
-    is_absent(program, "dbgrec: t: no such trace", "t", *WRAP)
+    is_absent(program, not_there("t", "t is there and holds nothing"), "t")
+    is_absent(program, not_there("w", "w is there and holds nothing"), "w")
+    is_absent(program, not_there("w", "w is there and holds nothing"), "w", *WRAP)
+    is_absent(program, not_there("t", "t0 isn't there"), "t", *WRAP)
     same(stored(program.folder), {"t": b"", "w0": b"", "w1": b""})
 
 
@@ -57,8 +86,8 @@ def a_wrap_that_is_asked_for_as_one_file_is_named(program):
     program.good("import", "w", *WRAP, stdin=message(EXAMPLE))
     program.good("import", "x", *WRAP, "--suffix", ".trc", stdin=message(EXAMPLE))
     is_absent(program, "dbgrec: w: no such trace\nthere is w0: a wrap; try --kind wrap", "w", "--kind", "file")
-    program.refused("list", "w", "--suffix", ".trc", says="dbgrec: w: no such trace")
-    program.refused("list", "x", says="dbgrec: x: no such trace")
+    program.refused("list", "w", "--suffix", ".trc", says=not_there("w", "neither w nor w0.trc is there"))
+    program.refused("list", "x", says=not_there("x", "neither x nor x0 is there"))
 
 
 @case

@@ -193,7 +193,8 @@ def a_port_is_chosen_and_a_name_with_a_stroke(program):
     for words in ("'n@h.example'.90.0.7", "<'n@h.example'.90.0.7>"):
         listed.shows(Asked(process="<'n@h.example'.90.0.7>"), "--pid", words, styles=(("-p",),))
     for name in names:
-        for words in (f"m:{name}/2", f"m:'{name}'/2", f"m:'{name}'"):
+        bare = (f"m:{name}",) if name.endswith("-") else ()
+        for words in (f"m:{name}/2", f"m:'{name}'/2", f"m:'{name}'", *bare):
             if "'" not in words or name != "f":
                 listed.shows(Asked(function=("m", name if name == "f" else f"'{name}'")), "--mfa", words, styles=(("-p",),))
 

@@ -97,7 +97,8 @@ def listing_left(program):
         assert not is_foreign(data), f"{name} is foreign: {data[:60]}"
     if any(files.values()):
         return program.good("list", "t")
-    program.refused("list", "t", says="dbgrec: t: no such trace")
+    says = "t is there and holds nothing" if files else "neither t nor t0 is there"
+    program.refused("list", "t", says=f"dbgrec: t: no such trace\n{says}: import begins a trace")
     return b"end_of_trace\n"
 
 

@@ -113,10 +113,28 @@ def a_damaged_trace_is_listed_up_to_its_damage(program):
 @case
 def what_is_no_trace_is_refused(program):
     (program.folder / "s").write_bytes(message(EXAMPLE))
-    for name in ("s", "none"):
+    (program.folder / "link").symlink_to("gone")
+    for name in ("s", "nodir/t", "link"):
         outcome = program.run("list", name)
         same(outcome.status, 1)
         same(program.run("list", "--follow", name), outcome)
+
+
+@case
+def a_trace_that_is_not_there_is_waited_for(program):
+    wrap = ("--kind", "wrap", "--count", "12", "--size", "0")
+    for name, words in (("t", ()), ("w", wrap)):
+        with program.start("list", "-f", name) as follower:
+            same(follower.process.stderr.readline(), b"dbgrec: %s isn't begun: waiting for it\n" % name.encode())
+            time.sleep(0.05)
+            same(follower.process.poll(), None)
+            with program.start("import", name, *words) as importer:
+                same(importer.line(), "created")
+                for number in range(14):
+                    importer.write(message(EXAMPLE))
+                    same(follower.line(), example_line(number))
+                same(importer.end().status, 0)
+            same(end_of(follower), Outcome(0, END, b""))
 
 
 @case
@@ -218,7 +236,8 @@ def a_trace_that_is_cleared_is_absent(program):
         with program.start("list", "-f", name) as follower:
             same(follower.line(), example_line(0))
             program.good("wipe", name)
-            same(end_of(follower), Outcome(1, b"", b"dbgrec: %s: no such trace\n" % name.encode()))
+            says = "dbgrec: {0}: no such trace\n{0} is there and holds nothing: import begins a trace\n"
+            same(end_of(follower), Outcome(1, b"", says.format(name).encode()))
 
 
 @case
@@ -229,7 +248,8 @@ def a_trace_that_is_begun_later_is_waited_for(program):
         time.sleep(0.05)
         same(follower.process.poll(), None)
         program.good("import", "t", stdin=message(EXAMPLE) * 2)
-        same(end_of(follower), Outcome(0, f"{example_line(0)}\n{example_line(1)}\n".encode() + END, b""))
+        said = b"dbgrec: t isn't begun: waiting for it\n"
+        same(end_of(follower), Outcome(0, f"{example_line(0)}\n{example_line(1)}\n".encode() + END, said))
 
 
 def followed(program, name, words, much):

@@ -46,7 +46,7 @@ def is_refused(program, name, *words):
 @case
 def a_text_is_no_trace_and_stays(program):
     put(program.folder, "notes", TEXT)
-    same(foreign_words("notes", TEXT), "dbgrec: notes isn't a trace of dbgrec")
+    same(foreign_words("notes", TEXT), "dbgrec: notes isn't a trace of dbgrec\nit stays as it is: give another name")
     is_refused(program, "notes", "notes")
 
 
@@ -91,14 +91,14 @@ def a_foreign_file_behind_a_link_stays(program):
     (program.folder / "t").symlink_to("notes")
     before = state(program.folder)
     for command in COMMANDS:
-        program.refused(command, "t", stdin=message(EXAMPLE), says="dbgrec: t isn't a trace of dbgrec")
+        program.refused(command, "t", stdin=message(EXAMPLE), says="dbgrec: t isn't a trace of dbgrec\nit stays as it is: give another name")
         same(state(program.folder), before)
 
 
 @case
 def the_name_of_a_foreign_file_is_quoted_where_it_is_not_plain(program):
     put(program.folder, "my notes", TEXT)
-    program.refused("import", "my notes", says='dbgrec: "my notes" isn\'t a trace of dbgrec')
+    program.refused("import", "my notes", says='dbgrec: "my notes" isn\'t a trace of dbgrec\nit stays as it is: give another name')
     put(program.folder, "it's", message(EXAMPLE))
     hint = 'it looks like an entry stream: dbgrec stream < "it\'s"'
     program.refused("wipe", "it's", says=f'dbgrec: "it\'s" isn\'t a trace of dbgrec ({hint})')

@@ -16,7 +16,7 @@ CASES, case = group()
 
 WRAP = ("--kind", "wrap")
 
-SEALED = "dbgrec: refused 1 Sealed\nthe trace is sealed: export keeps its entries, wipe clears it"
+SEALED = "dbgrec: refused 1 Sealed\nt is sealed: export keeps its entries, wipe clears it"
 
 TRACES = ("plain", "stamped", "mono", "wrap", "ip", "node")
 

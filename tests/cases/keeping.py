@@ -16,7 +16,7 @@ WRAP = ("--kind", "wrap", "--count", "3")
 
 KINDS = ((), (*WRAP, "--size", "200"))
 
-SEALED = "dbgrec: refused 1 Sealed\nthe trace is sealed: export keeps its entries, wipe clears it"
+SEALED = "dbgrec: refused 1 Sealed\n{} is sealed: export keeps its entries, wipe clears it"
 
 
 def broken_streams():
@@ -65,7 +65,7 @@ def a_trace_is_gone_on_with_behind_each_of_many_breaks(program):
             count += len(split(good))
             opened = f"resumed {count}"
         same(program.good("record", name, *kind), f"resumed {count}\n".encode())
-        program.refused("import", name, *kind, stdin=drop(1), says=SEALED)
+        program.refused("import", name, *kind, stdin=drop(1), says=SEALED.format(name))
 
 
 @case
@@ -86,7 +86,7 @@ def an_import_that_keeps_open_is_gone_on_with(program):
         same(program.good("export", name), message(EXAMPLE) + drop(1) + drop(4))
         same(program.good("record", name, *kind, stdin=b"flush\nabandon\n"), b"resumed 3\ncovered 3\nok\n")
         same(program.good("import", name, *kind, stdin=drop(5)), b"resumed 3\nsealed 4\n")
-        program.refused("import", name, *kind, "--keep-open", stdin=drop(6), says=SEALED)
+        program.refused("import", name, *kind, "--keep-open", stdin=drop(6), says=SEALED.format(name))
 
 
 @case
@@ -117,7 +117,8 @@ def an_input_that_can_not_be_read_leaves_the_trace_as_it_is(program):
         command = [program.path, "import", *words]
         ran = subprocess.run(command, cwd=program.folder, stdin=folder, capture_output=True, timeout=PATIENCE, check=False)
         os.close(folder)
-        same((ran.returncode, ran.stdout, ran.stderr), (1, b"", b"dbgrec: refused 1 Read\n"))
+        errors = b"dbgrec: refused 1 Read\nstandard input can't be read: Is a directory (os error 21)\n"
+        same((ran.returncode, ran.stdout, ran.stderr), (1, b"", errors))
     same(stored(program.folder), {})
 
 

@@ -77,7 +77,7 @@ def files_that_are_no_one_store_are_told(program):
     program.refused("list", "a", *wrap, says="dbgrec: refused 2 Mixed\na0 and a1 don't belong together")
     (program.folder / "b0").write_bytes(segment(wrap_header(6)))
     (program.folder / "b1").write_bytes(segment(wrap_header(4)))
-    program.refused("list", "b", *wrap, says="dbgrec: refused 3 Sequence\nb1 and b0 don't belong together")
+    program.refused("list", "b", *wrap, says="dbgrec: refused 3 Sequence\nb2, the oldest, is missing: put it back, or clear the trace by wipe")
 
 
 @case
@@ -123,7 +123,7 @@ def lines_are_written_before_a_stream_breaks_off(program):
     with reader:
         ran = subprocess.run([program.path, "stream"], stdin=reader, capture_output=True, timeout=PATIENCE, check=False)
     line = f"{example_line(0)}\n".encode()
-    same((ran.returncode, ran.stdout, ran.stderr), (1, line, b"dbgrec: refused 1 Read\n"))
+    same((ran.returncode, ran.stdout, ran.stderr), (1, line, b"dbgrec: refused 1 Read\nstandard input can't be read: Connection reset by peer (os error 104)\n"))
 
 
 def comes(screen, line):

@@ -99,7 +99,7 @@ def a_link_that_is_put_there_later_is_a_fault(program):
 
 @case
 def a_lock_makes_no_file(program):
-    program.refused("wipe", "w", says="dbgrec: w: no such trace")
+    program.refused("wipe", "w", says="dbgrec: w: no such trace\nneither w nor w0 is there: import begins a trace")
     same(stored(program.folder), {})
     with program.start("import", "w", *WRAP) as running:
         same(running.opens(b"\1"), "created")

@@ -100,7 +100,7 @@ def a_disk_without_room_for_a_trace_is_told(program):
                 other.write(bytes(4_096))
         full = ' "disk/t": No space left on device (os error 28)'
         same(program.run("record", "disk/t"), told(1, f"dbgrec: refused 3 Device:{full}"))
-        program.refused("list", "disk/t", says="dbgrec: disk/t: no such trace")
+        program.refused("list", "disk/t", says="dbgrec: disk/t: no such trace\ndisk/t is there and holds nothing: import begins a trace")
         check_no_foreign_file(disk, "other")
 
 
@@ -151,7 +151,7 @@ def a_folder_that_may_not_be_changed_is_told(program):
         for command in ("record", "import"):
             same(program.run(command, "shut/t", before=nobody), told(1, f'dbgrec: refused 3 Device: "shut/t": {denied}'))
             same(program.run(command, "closed/t", before=nobody), told(1, f'dbgrec: "closed/t" can\'t be locked: {denied}'))
-        same(program.run("wipe", "shut/t", before=nobody), told(1, "dbgrec: shut/t: no such trace"))
+        same(program.run("wipe", "shut/t", before=nobody), told(1, "dbgrec: shut/t: no such trace\nneither shut/t nor shut/t0 is there: import begins a trace"))
         for command in ("list", "export"):
             same(program.run(command, "closed/t", before=nobody), told(1, f'dbgrec: refused 4 Device: "closed/t": {denied}'))
     same(stored(program.folder / "shut"), before)

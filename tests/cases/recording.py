@@ -18,7 +18,7 @@ WRAP = ("--kind", "wrap", "--count", "2")
 
 SMALL_WRAP = (*WRAP, "--size", "100")
 
-SEALED = "dbgrec: refused 1 Sealed\nthe trace is sealed: export keeps its entries, wipe clears it"
+SEALED = "dbgrec: refused 1 Sealed\nt is sealed: export keeps its entries, wipe clears it"
 
 
 @case
@@ -81,7 +81,7 @@ def a_bad_line_ends_a_record_with_status_2(program):
         same((outcome.status, outcome.errors), (2, b"dbgrec: line 6: bad command\n"))
         same(outcome.output, b"created\nok\nkept\nreceipt 0 1 covered 1\n")
         same(program.good("list", f"t{place}"), listing(0, 0, [example_line(0)]))
-        program.refused("record", f"t{place}", says=SEALED)
+        program.refused("record", f"t{place}", says=SEALED.replace("\nt", f"\nt{place}"))
 
 
 @case

@@ -166,7 +166,7 @@ def a_script_that_breaks_off_is_told(program):
     writer.close()
     with reader:
         ran = subprocess.run([program.path, "sim"], stdin=reader, capture_output=True, timeout=PATIENCE, check=False)
-    same((ran.returncode, ran.stdout, ran.stderr), (1, b"end_of_trace\nend_of_trace\n", b"dbgrec: refused 1 Read\n"))
+    same((ran.returncode, ran.stdout, ran.stderr), (1, b"end_of_trace\nend_of_trace\n", b"dbgrec: refused 1 Read\nstandard input can't be read: Connection reset by peer (os error 104)\n"))
 
 
 @case

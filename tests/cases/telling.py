@@ -1,18 +1,22 @@
 """Cases of the lines that stand behind a refusal and say what to do, and of a reader that has gone."""
 
 import contextlib
+import os
+import pty
 import subprocess
 
 from cases import group, stored
 from entries import EXAMPLE, drop, example_line, message
-from program import PATIENCE, same
+from program import PATIENCE, Outcome, read_to_end, same
 from segments import FILE_HEADER, STORED, segment, wrap_header
 
 CASES, case = group()
 
 WRAP = ("--kind", "wrap", "--count", "2")
 
-SEALED = "dbgrec: refused 1 Sealed\nthe trace is sealed: export keeps its entries, wipe clears it"
+END = b"end_of_trace\n"
+
+SEALED = "dbgrec: refused 1 Sealed\n{} is sealed: export keeps its entries, wipe clears it"
 
 
 @case
@@ -21,8 +25,8 @@ def a_sealed_trace_says_what_can_be_done(program):
         program.good("import", *words, stdin=message(EXAMPLE))
         before = stored(program.folder)
         for command in ("import", "record"):
-            program.refused(command, *words, stdin=message(EXAMPLE), says=SEALED)
-        program.refused("import", *words, "--keep-open", stdin=message(EXAMPLE), says=SEALED)
+            program.refused(command, *words, stdin=message(EXAMPLE), says=SEALED.format(words[0]))
+        program.refused("import", *words, "--keep-open", stdin=message(EXAMPLE), says=SEALED.format(words[0]))
         same(stored(program.folder), before)
 
 
@@ -95,13 +99,164 @@ def files_that_do_not_belong_together_are_named(program):
     disagree(program, "a", 2, "Mixed", "a1 and a2 don't belong together")
     put("b0", segment(wrap_header(6)))
     put("b1", segment(wrap_header(4)))
-    disagree(program, "b", 3, "Sequence", "b1 and b0 don't belong together")
+    disagree(program, "b", 3, "Sequence", "b2, the oldest, is missing: put it back, or clear the trace by wipe")
     put("c0", segment(wrap_header(3, before=21), drop(1) * 21))
     put("c1", segment(wrap_header(4, before=41), drop(1)))
     listed = "".join(["before entries 21 dropped 0\n", *(f"{number} drop 1\n" for number in range(21, 43))]).encode()
     disagree(program, "c", 3, "Sequence", "c0 and c1 don't belong together", listed, drop(1) * 22)
     put("d2", segment(wrap_header(1)))
     disagree(program, "d", 3, "Sequence", "d2 isn't in its place")
+
+
+def missing_from(program, base, name, what):
+    """Fails unless each command tells that this file of a wrap is."""
+    second = f"{name} is {what}, or clear the trace by wipe"
+    for command in ("list", "export"):
+        outcome = program.run(command, base)
+        same((outcome.status, outcome.errors), (1, f"dbgrec: refused 3 Sequence\n{second}\n".encode()))
+    outcome = program.run("info", base)
+    same((outcome.status, outcome.errors), (1, f"dbgrec: refused 3 Sequence\n{second}\n".encode()))
+    for command in ("import", "record"):
+        program.refused(command, base, says=f"dbgrec: refused 5 Recover 3 Sequence\n{second}")
+
+
+@case
+def a_file_of_a_wrap_that_is_missing_is_named(program):
+    words = ("--kind", "wrap", "--count", "4", "--size", "0")
+    program.good("import", "w", *words, "--keep-open", stdin=drop(1) * 8)
+    program.good("import", "new", *words, "--keep-open", stdin=drop(1) * 2)
+    files = stored(program.folder)
+    same([len(files[f"w{k}"]) for k in range(5)], [47, 47, 47, 37, 1])
+    # w keeps the generations 5, 6, 7 and 8, which is in w3 and holds nothing yet; new has 0, 1 and 2
+    for base, number, text in (("w", 0, "w0, the oldest,"), ("w", 1, "w1"), ("new", 0, "new0, the oldest,"), ("new", 1, "new1")):
+        name = f"{base}{number}"
+        (program.folder / name).unlink()
+        missing_from(program, base, text, "missing: put it back")
+        (program.folder / name).write_bytes(b"\0")
+        missing_from(program, base, text, "an older copy: put the newer one back")
+        (program.folder / name).write_bytes(files[name])
+
+
+@case
+def a_file_of_a_wrap_that_is_asked_for_says_so(program):
+    for base, suffix in (("w", ""), ("my w", ""), ("w", ".trc")):
+        words = ("--suffix", suffix) if suffix else ()
+        program.good("import", base, "--kind", "wrap", "--count", "3", "--size", "0", *words, "--keep-open", stdin=drop(1) * 8)
+        shown, ends = (f'"{base}"', f'"{base}2"') if " " in base else (base, f"{base}2{suffix}")
+        for command in ("list", "export", "info", "import"):
+            outcome = program.run(command, f"{base}2{suffix}")
+            option = f" --suffix {suffix}" if suffix else ""
+            same((command, outcome.status), (command, 1))
+            same(outcome.errors.split(b"\n")[1].decode(), f"{ends} is a file of the wrap {shown}: dbgrec {command} {shown}{option}")
+
+
+@case
+def several_names_are_refused_with_a_wraps(program):
+    says = "One name is taken. That of a wrap is what the names of its files begin with: w, where they are w0, w1 and so on.\n"
+    for command in ("list", "export", "info", "wipe", "import", "record"):
+        outcome = program.run(command, "w0", "w1", "w2")
+        same((outcome.status, outcome.output), (2, b""))
+        assert outcome.errors.decode().startswith("error: unexpected argument 'w1' found\n"), outcome
+        assert outcome.errors.decode().endswith(f"\n\n{says}"), outcome
+    for words in (("list", "w", "--wrong"), ("stream", "w0"), ("sim", "w0", "w1")):
+        assert says not in program.run(*words).errors.decode(), words
+
+
+@case
+def a_name_that_is_not_text_is_refused(program):
+    for words in ((b"list", b"\xff"), (b"import", b"t", b"--suffix", b"\xe4")):
+        says = b"error: a word of the command line isn't UTF-8: a trace and its folder have names that are\n"
+        same(program.run(*words), Outcome(2, b"", says))
+    same(stored(program.folder), {})
+
+
+@case
+def a_trace_of_more_files_than_may_be_open_is_refused_first(program):
+    few = ("bash", "-c", 'ulimit -n 12; exec "$@"', "bash")
+    words = ("--kind", "wrap", "--count", "30", "--size", "0")
+    program.good("import", "w", *words, "--keep-open", stdin=drop(1) * 9)
+    before = stored(program.folder)
+    for command in ("list", "export", "info", "wipe", "import", "record"):
+        for name, options in (("w", ()), ("new", words if command in ("import", "record") else words[:4])):
+            outcome = program.run(command, name, *options, before=few, stdin=b"")
+            same((command, outcome.status, outcome.output), (command, 1, b""))
+            first, second = outcome.errors.decode().splitlines()
+            number = first.removeprefix(f"dbgrec: {name}").split(" ")[0]
+            same(first, f"dbgrec: {name}{number} can't be opened: Too many open files (os error 24)")
+            assert 0 < int(number) < 12, first
+            same(second, "the files of the trace are open at once, 31 of them: ulimit -n 47 lets them")
+            same(stored(program.folder), before)
+    enough = ("bash", "-c", 'ulimit -n 47; exec "$@"', "bash")
+    same(program.run("list", "w", before=enough), program.run("list", "w"))
+    same(program.run("import", "w", before=enough, stdin=drop(1) * 99).status, 0)
+
+
+@case
+def a_damage_under_a_choice_tells_how_many_are_shown(program):
+    data, place = damaged(message(EXAMPLE), drop(1), message(b"x"), message(EXAMPLE))
+    (program.folder / "t").write_bytes(data)
+    first = f"dbgrec: refused 1 Damaged file 0 at {place}\nt is damaged there: "
+    for options, told in {
+        ("--from", "1"): "3 of the 4 entries before it are listed",
+        ("--only", "drop"): "1 of the 4 entries before it is listed",
+        ("--mfa", "no:no"): "1 of the 4 entries before it is listed",
+        ("--pid", "<a@b.1.0.0>"): "1 of the 4 entries before it is listed",
+        ("--to", "9"): "the 4 entries before it are listed",
+        ("--only", "call", "--json"): "2 of the 4 entries before it are listed",
+        ("--json",): "the 4 entries before it are listed",
+    }.items():
+        outcome = program.run("list", "t", *options)
+        if options[:2] == ("--only", "call"):
+            told = "%s of the 4 entries before it %s listed" % ((n := outcome.output.count(b"\n")), "is" if n == 1 else "are")
+        same((outcome.status, outcome.errors), (1, f"{first}{told}\n".encode()))
+
+
+def at_a_terminal(program, *words, stdin=b""):
+    """What a command says where standard error is a terminal, and its standard output."""
+    screen, terminal = pty.openpty()
+    ran = subprocess.run([program.path, *words], cwd=program.folder, input=stdin, stdout=subprocess.PIPE, stderr=terminal, timeout=PATIENCE, check=False)
+    os.close(terminal)
+    said = read_to_end(screen).decode().replace("\r\n", "\n")
+    os.close(screen)
+    same(ran.returncode, 0)
+    return said, ran.stdout
+
+
+@case
+def opaque_entries_are_counted_at_a_terminal(program):
+    stream = (message(EXAMPLE) + message(b"x")) * 1_200 + drop(1)
+    program.good("import", "t", stdin=stream)
+    program.good("import", "w", *WRAP, "--size", "900K", stdin=stream)
+    many = "dbgrec: 1,200 of 2,401 entries are opaque here: -p shows them\n"
+    for words in (("list", "t"), ("list", "w"), ("stream",), ("list", "t", "--mfa", "no:no"), ("stream", "--only", "send"), ("list", "t", "--json")):
+        data = stream if words[0] == "stream" else b""
+        said, output = at_a_terminal(program, *words, stdin=data)
+        same((words, said, output), (words, many, program.good(*words, stdin=data)))
+    for words, said in {
+        ("list", "t", "--to", "2"): "dbgrec: 1 of 3 entries is opaque here: -p shows it\n",
+        ("list", "t", "--from", "2400"): "",
+        ("list", "-p", "t"): "",
+        ("export", "t"): "",
+        ("info", "t"): "",
+    }.items():
+        same((words, at_a_terminal(program, *words)[0]), (words, said))
+
+
+@case
+def a_trace_that_is_not_sealed_is_told_at_a_terminal(program):
+    for name, words in (("t", ()), ("w", WRAP)):
+        program.good("import", name, *words, "--keep-open", stdin=message(EXAMPLE) * 3)
+        whole = program.good("list", name)
+        for options in ((), ("--from", "2"), ("-p",)):
+            said, _ = at_a_terminal(program, "list", name, *options)
+            same(said, f"dbgrec: {name} is open: import goes on with it\n")
+        with program.start("import", name) as importer:
+            same(importer.line(), "resumed 3")
+            same(at_a_terminal(program, "list", name), (f"dbgrec: {name} is being written: list -f follows it\n", whole))
+            same(importer.end().status, 0)
+        same(at_a_terminal(program, "list", name), ("", whole))
+        program.good("wipe", name)
+        same(at_a_terminal(program, "list", name), ("", END))
 
 
 @case

@@ -102,3 +102,15 @@ def the_manual_page_has_its_parts_and_is_well_formed(program):
 @case
 def the_version_is_told(program):
     same(program.good("--version"), b"dbgrec 0.1.0\n")
+
+
+@case
+def sizes_have_units_in_both_cases_and_a_limit(program):
+    for size, is_taken in (("1k", "1024"), ("2K", "2048"), ("1m", "1048576"), ("4G", "4294967295"), ("4096M", "4294967295"), ("4194304k", "4294967295"), ("4294967295", "4294967295")):
+        program.good("import", size, "--kind", "wrap", "--size", size)
+        same(re.search(r"^size: (\d+) bytes$", program.good("info", size).decode(), re.MULTILINE)[1], is_taken)
+    for size in ("5G", "4097M", "4294967296", "1kk", "k", "1T", "-1", ""):
+        outcome = program.run("import", "t", f"--size={size}")
+        same((outcome.status, outcome.output), (2, b""))
+        says = "a number of bytes, at most 4294967295; k, M and G after it stand for powers of 1,024, as in 64k, and 4G for the most"
+        same(outcome.errors.decode().splitlines()[0], f"error: invalid value '{size}' for '--size <BYTES>': {says}")

@@ -39,6 +39,8 @@ pub struct LineWriter<L: LineRule, W: Write> {
     pub sent: usize,
     /// A line, or what is handed on for it, had no memory.
     pub is_refused: bool,
+    /// How many lines of entries were handed on, in whatever form.
+    pub entries: u64,
     pub given: Given,
     pub ghost part: { line.items ≡ rest_after [] given.bytes },
     pub ghost within: { sent ≤ vec_len made },
@@ -65,6 +67,11 @@ fn write_some<W: Write>(out: &mut W, bytes: &[u8]) -> (usize, io::Result<()>)
     (count, Ok(()))
 }
 
+/// Whether a line is that of an entry, which begins with its number.
+fn begins_entry(line: &[u8]) -> bool {
+    line.first().is_some_and(|byte| byte.is_ascii_digit())
+}
+
 impl<L: LineRule, W: Write> LineWriter<L, W> {
     /// Hands on to this writer.
     pub fn new(alloc: Global, rule: L, out: W) -> LineWriter<L, W>
@@ -82,6 +89,7 @@ impl<L: LineRule, W: Write> LineWriter<L, W> {
             made: Vec::new(alloc),
             sent: 0,
             is_refused: false,
+            entries: 0,
             given: Given::new(),
         }
     }
@@ -148,7 +156,9 @@ impl<L: LineRule, W: Write> LineWriter<L, W> {
         ensures all { IfOk result (λ count. count ≡ 1) }
     {
         self.make()?;
+        let is_entry = !self.made.is_empty() && begins_entry(&self.line);
         self.send()?;
+        self.entries = self.entries.saturating_add(u64::from(is_entry));
         Ok(1)
     }
 }

@@ -85,7 +85,7 @@ fn size<'a>(alloc: Global) -> Arg<'a> {
         alloc,
         "size",
         "BYTES",
-        "A new wrap goes on to its next file after more than this; K, M, G: powers of 1,024 [default: 131072]",
+        "A new wrap goes on to its next file after more than this; k, M, G: powers of 1,024, up to 4G [default: 131072]",
     )
 }
 
@@ -476,6 +476,7 @@ fn shown_in<'a>(alloc: Global, matches: &ArgMatches<'a>) -> Result<Shown, Misuse
     Ok(Shown {
         is_json: matches.get_flag("json"),
         choice: choice_in(alloc, matches)?,
+        is_plain: !matches.get_flag("pretty"),
     })
 }
 
@@ -528,6 +529,7 @@ fn request_in<'a>(alloc: Global, matches: &ArgMatches<'a>) -> Result<Request<'a>
                 Shown {
                     is_json: false,
                     choice: None,
+                    is_plain: false,
                 }
             },
         },

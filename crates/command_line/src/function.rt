@@ -26,10 +26,17 @@ pub fn is_quoted(text: &str) -> bool {
     text.len() > 1 && text.starts_with('\'') && text.ends_with('\'')
 }
 
-/// The function of a module, by its name, and its number of arguments after a stroke. None where either is missing.
+/// Whether an atom without quotes is the name of a fun, as `-load/2-fun-0-`.
+fn is_of_fun(text: &str) -> bool {
+    text.len() > 1 && text.starts_with('-') && text.ends_with('-')
+}
+
+/// The function of a module, by its name, and its number of arguments after the last stroke. None where either is missing.
 fn named<'a>(module: &'a str, text: &'a str) -> Option<Function<'a>> {
     let (name, arity) = match text.rsplit_once('/') {
-        Some((name, digits)) if !is_quoted(text) => (name, Some(digits.parse::<u64>().ok()?)),
+        Some((name, digits)) if !is_quoted(text) && !is_of_fun(text) => {
+            (name, Some(digits.parse::<u64>().ok()?))
+        }
         _ => (text, None),
     };
     if module.is_empty() || name.is_empty() {

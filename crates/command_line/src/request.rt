@@ -69,6 +69,8 @@ pub struct Shown {
     pub is_json: bool,
     /// The lines that are shown, where not all are.
     pub choice: Option<Choice>,
+    /// It may have lines that are opaque for want of `--pretty`.
+    pub is_plain: bool,
 }
 
 /// What a command line asks for.
@@ -131,6 +133,8 @@ pub enum TraceRequest<'a> {
 /// Why words aren't a command line.
 #[derive(Drop)]
 pub enum Misuse<'a> {
+    /// A word isn't UTF-8.
+    NotText,
     /// The words aren't of the form that the help shows, or ask for help.
     Form(Error),
     /// The value of `--size`.

@@ -8,11 +8,12 @@ ghost use Rattle.dbgrec.specs.Serving.{IsServed};
 ghost use Rattle.dbgrec.specs.Statuses.{EndsSo, Answers, Ends};
 
 use command_line::{Misuse, Request, asked_for};
-use exit_codes::{code_of, correct, no_memory};
+use exit_codes::{Reasons, code_of, correct, no_memory};
 use recorder::{StreamListing, follow_files, serve_files};
-use shown_listings::{Outlet, Output, show};
+use shown_listings::{Inlet, Outlet, Output, show};
 use simulator::serve_sim;
-use std::io::Read;
+use std::cell::Cell;
+use std::io::{ErrorKind, Read};
 use std::process::ExitCode;
 use std::sync::Wait;
 use std::{env, io};
@@ -39,7 +40,7 @@ fn serve<R: Wait, I: Read + Drop, W: Output>(
         Request::Stream { is_pretty, shown } => {
             let alloc = rt.alloc();
             let listing = StreamListing { alloc, is_pretty };
-            show(alloc, waiter, listing, shown, input, output)
+            show(rt, waiter, listing, shown, input, output)
         }
         Request::OfTrace { request, shown } => serve_files(
             rt, waiter, request, shown, input, output,
@@ -61,8 +62,13 @@ fn answer<R: Wait>(
     ghost world: { World }
     ensures { EndsSo world request.entry (exit_status result) }
 {
-    let done = serve(rt, waiter, request, rt.stdin(), output);
-    let code = code_of(rt, &done, output.reason());
+    let unread = Cell::new(None);
+    let done = serve(rt, waiter, request, Inlet::over(rt, &unread), output);
+    let reasons = Reasons {
+        unread: unread.get(),
+        unwritten: output.reason(),
+    };
+    let code = code_of(rt, &done, reasons);
     drop(done);
     code
 }
@@ -92,8 +98,10 @@ fn serve_words<R: Wait>(rt: &HostRuntime, waiter: &R, words: &[String]) -> ExitC
 }
 
 fn main(rt: HostRuntime) -> ExitCode {
-    let Some(words) = words(&rt).ok() else {
-        return no_memory(&rt);
+    let words = match words(&rt) {
+        Ok(words) => words,
+        Err(reason) if reason.kind() == ErrorKind::OutOfMemory => return no_memory(&rt),
+        Err(_) => return correct(&rt, Misuse::NotText),
     };
     let code = serve_words(&rt, &rt, words.as_slice());
     drop(words);

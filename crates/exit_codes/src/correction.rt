@@ -11,7 +11,8 @@ use command_line::Misuse;
 use std::process::ExitCode;
 
 /// What may stand for the number of `--size`.
-const A_SIZE: &str = "a number below 4294967296, with K, M or G after it or nothing";
+const A_SIZE: &str =
+    "a number of bytes, at most 4294967295; k, M and G after it stand for powers of 1,024, as in 64k, and 4G for the most";
 
 /// What may stand for the kinds of `--only`.
 const KINDS: &str =
@@ -24,6 +25,10 @@ const A_PROCESS: &str =
 /// What may stand for the function of `--mfa`.
 const A_FUNCTION: &str =
     "a module, as lists, a function, as lists:seq, or one of so many arguments, as lists:seq/2";
+
+/// What is said where a shell made several names of one, as of `w*`.
+const ONE_NAME: &str =
+    "One name is taken. That of a wrap is what the names of its files begin with: w, where they are w0, w1 and so on.";
 
 /// Tells that a word isn't one that the option takes, and what that takes.
 fn refuse(rt: &HostRuntime, word: &str, option: &str, taken: &str) -> ExitCode
@@ -45,6 +50,16 @@ fn refuse_pretty(rt: &HostRuntime, word: &str) -> ExitCode
     ExitCode::from(2)
 }
 
+/// Tells that a word isn't text.
+fn refuse_bytes(rt: &HostRuntime) -> ExitCode
+    ensures { exit_status result ≡ 2 }
+{
+    let _ = eprintln!(rt;
+        "error: a word of the command line isn't UTF-8: a trace and its folder have names that are"
+    );
+    ExitCode::from(2)
+}
+
 /// The status for words that aren't of the form that the help shows.
 fn form_status(kind: MisuseKind) -> u8
     ensures { result ≡ status_of_form kind }
@@ -56,6 +71,17 @@ fn form_status(kind: MisuseKind) -> u8
     }
 }
 
+/// Whether a word was one too many after the name of a trace. The text alone tells that.
+fn is_second_name(rt: &HostRuntime, error: &FormError) -> bool {
+    let Ok(text) = format!(in rt.alloc(); "{error}") else {
+        return false;
+    };
+    let Some(word) = text.strip_prefix("error: unexpected argument '") else {
+        return false;
+    };
+    !word.starts_with('-') && text.contains("<BASE>")
+}
+
 /// Tells what is wrong with the form of the words, or shows the help that they ask for.
 fn correct_form(rt: &HostRuntime, error: &FormError) -> ExitCode
     ensures { exit_status result ≡ status_of_form (kind_of error.now) }
@@ -65,6 +91,9 @@ fn correct_form(rt: &HostRuntime, error: &FormError) -> ExitCode
         return no_memory(rt);
     }
     let _ = error.print(rt);
+    if kind == MisuseKind::UnknownArgument && is_second_name(rt, error) {
+        let _ = eprintln!(rt; "\n{ONE_NAME}");
+    }
     ExitCode::from(form_status(kind))
 }
 
@@ -73,6 +102,7 @@ pub fn correct(rt: &HostRuntime, misuse: Misuse<'_>) -> ExitCode
     ensures { exit_status result ≡ status_of_misuse misuse.entry }
 {
     match misuse {
+        Misuse::NotText => refuse_bytes(rt),
         Misuse::Form(error) => correct_form(rt, &error),
         Misuse::Size(text) => refuse(rt, text, "--size <BYTES>", A_SIZE),
         Misuse::Kind(word) => refuse(rt, word, "--only <KIND[,KIND..]>", KINDS),

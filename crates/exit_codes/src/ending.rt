@@ -34,17 +34,34 @@ fn fail_to_write(rt: &HostRuntime, complaint: &Complaint, reason: Option<io::Err
     code
 }
 
-/// What the program ends with, once that was done. What it can't write is told with its reason.
-pub fn code_of(
-    rt: &HostRuntime,
-    done: &Result<(), Complaint>,
-    reason: Option<io::Error>,
-) -> ExitCode
+/// Tells that standard input can't be read, and why, where the system said it.
+fn fail_to_read(rt: &HostRuntime, complaint: &Complaint, reason: Option<io::Error>) -> ExitCode
+    ensures { exit_status result ≡ status_told complaint.now }
+{
+    let code = fail(rt, complaint);
+    if let Some(reason) = reason {
+        let _ = eprintln!(rt; "standard input can't be read: {reason}");
+    }
+    code
+}
+
+/// Why the system refused a read of standard input, and a write of standard output, where it did.
+#[derive(Clone, Copy, Debug)]
+pub struct Reasons {
+    pub unread: Option<io::Error>,
+    pub unwritten: Option<io::Error>,
+}
+
+/// What the program ends with, once that was done. What it can't read or write is told with its reason.
+pub fn code_of(rt: &HostRuntime, done: &Result<(), Complaint>, reasons: Reasons) -> ExitCode
     ensures { exit_status result ≡ status_of_done done.now }
 {
     match done {
         Ok(()) => ExitCode::SUCCESS,
-        Err(complaint) if complaint.is_of_writer() => fail_to_write(rt, complaint, reason),
+        Err(complaint) if complaint.is_of_writer() => {
+            fail_to_write(rt, complaint, reasons.unwritten)
+        }
+        Err(complaint) if complaint.is_of_reader() => fail_to_read(rt, complaint, reasons.unread),
         Err(complaint) => fail(rt, complaint),
     }
 }

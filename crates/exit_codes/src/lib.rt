@@ -5,4 +5,4 @@ mod correction;
 mod ending;
 
 pub use correction::correct;
-pub use ending::{code_of, no_memory};
+pub use ending::{Reasons, code_of, no_memory};

@@ -1,6 +1,7 @@
 //! The recorder: the commands over the files of a trace, and how what they tell is shown.
 #![tactic(auto)]
 
+mod awaiting;
 mod commands;
 mod files;
 mod following;
@@ -9,6 +10,7 @@ mod live;
 mod locked;
 mod serving;
 mod sites;
+mod state;
 mod streaming;
 
 pub use commands::{serve_stream, serve_trace};

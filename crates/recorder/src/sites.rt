@@ -8,7 +8,7 @@ ghost use Rattle.recorder.specs.{Commands.Changes, Commands.IsUntouched, Command
 use crate::files::Files;
 use command_line::{Asked, TraceRequest, Wanted};
 use trace_advice::{Complaint, FAILED_DISK, tell_idle, tell_idle_on_file};
-use trace_places::{Found, Place, find};
+use trace_places::{Crowded, Found, Place, find, is_crowded};
 
 /// The files of the trace that is asked for: locked, where they are to be changed. Standard error says what is worth
 /// knowing of it.
@@ -36,6 +36,21 @@ pub fn files_for<'a>(rt: &HostRuntime, request: &TraceRequest<'a>) -> Result<Fil
     }
 }
 
+/// Refuses a trace of more files than may be open at once, before one is made.
+fn check_room(rt: &HostRuntime, place: &Place<'_>) -> Result<(), Complaint>
+    ensures { IfErr result (λ complaint. status_told complaint ≡ 1) }
+{
+    let files = place.files();
+    match is_crowded(rt, files)? {
+        None => Ok(()),
+        Some(Crowded { file, reason }) => Err(Complaint::TooManyOpen {
+            name: place.name(rt.alloc(), file)?,
+            files,
+            reason,
+        }),
+    }
+}
+
 /// What was found of a trace that the command line names. What the files say of themselves counts, and what the command
 /// line says has to agree.
 fn found_to_read(rt: &HostRuntime, asked: Asked<'_>) -> Result<Found, Complaint>
@@ -52,6 +67,7 @@ fn found_to_read(rt: &HostRuntime, asked: Asked<'_>) -> Result<Found, Complaint>
             own,
         });
     }
+    check_room(rt, &Place::of(&asked, &found))?;
     if matches!(found, Found::File) {
         tell_idle_on_file(rt, &asked);
     }
@@ -87,7 +103,9 @@ fn files_to_write<'a>(rt: &HostRuntime, wanted: &Wanted<'a>) -> Result<Files<'a>
 {
     let asked = wanted.asked;
     let found = find(*rt, asked)?;
-    tell_idle(rt, wanted, Place::of(&asked, &found).kind);
+    let place = Place::of(&asked, &found);
+    check_room(rt, &place)?;
+    tell_idle(rt, wanted, place.kind);
     let files = Files::locked_at(*rt, asked, found)?;
     if !wanted.is_after_failure && files.has_failed()? {
         return Err(Complaint::AfterFailure);

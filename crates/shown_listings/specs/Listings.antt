@@ -5,6 +5,7 @@ use Rattle.chosen_lines.specs.declared.choice.Choice.{Choice}
 use Rattle.chosen_lines.specs.Lets.{lets}
 use Rattle.chosen_lines.specs.Lines.{line_let, HandsOn}
 use Rattle.json_lines.specs.Objects.{object_line}
+use Rattle.trace_advice.specs.Complaints.{with_shown}
 use Rattle.trace_advice.specs.declared.complaint.Complaint.{Complaint}
 use Rattle.trace_advice.specs.declared.complaint.Complaint.TheVariants as complaints
 use Rattle.script_port.specs.declared.fault.SimFault.TheVariants as faults
@@ -21,14 +22,14 @@ pub record Passes (hand : List ℕ → List ℕ) (Lists : Option (List ℕ) → 
   pub lists : Lists (Some held) holds
   pub hands : (text : List ℕ) → Appends (Some held) holds text → HandsOn hand text was now
 
--- how a listing ended is told; where it didn't end well and a line was refused memory, that is
-abbrev pub IsToldOf : Bool → Result Unit Complaint → Result Unit Complaint → Type 0
-IsToldOf is_refused (Ok done) result = result ≡ Ok tt
-IsToldOf is_refused (Err complaint) result = result ≡ Err (if is_refused then complaints.Fault faults.NoMemory None else complaint)
+-- how a listing ended of which so many entries are shown is told; where it didn't end well and a line was refused memory, that is
+abbrev pub IsToldOf : Bool → ℕ → Result Unit Complaint → Result Unit Complaint → Type 0
+IsToldOf is_refused entries (Ok done) result = result ≡ Ok tt
+IsToldOf is_refused entries (Err complaint) result = result ≡ Err (if is_refused then complaints.Fault faults.NoMemory None else with_shown entries complaint)
 
 -- a listing of which this is handed on for each line
 abbrev pub LineByLine : (List ℕ → List ℕ) → Listing → Listing
-LineByLine hand Lists result was now = (refused : Bool) × (done : Result Unit Complaint) × Passes hand (Lists done) was now × IsToldOf refused done result
+LineByLine hand Lists result was now = (refused : Bool) × (entries : ℕ) × (done : Result Unit Complaint) × Passes hand (Lists done) was now × IsToldOf refused entries done result
 
 -- how a listing is shown: as it is; the chosen lines of it; an object for each line; or an object for each chosen line
 abbrev pub Shows : Bool → Option Choice → Listing → Listing

@@ -3,9 +3,12 @@
 #![tactic(auto)]
 
 mod console;
+mod counted;
+mod inlet;
 mod listing;
 mod outlet;
 
 pub use console::{Console, console_for};
+pub use inlet::Inlet;
 pub use listing::{Listable, show};
 pub use outlet::{Outlet, Output, taken};

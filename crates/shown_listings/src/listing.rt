@@ -2,13 +2,14 @@
 ghost use Rattle.std.specs.Prelude.{◌≡◌, ℕ, List, Option, Result};
 ghost use Rattle.shown_listings.specs.Listings.{Listing, LineByLine, IsToldOf, Shows};
 
+use crate::counted::Counted;
 use crate::outlet::{Output, taken};
 use chosen_lines::{LineRule, LineWriter};
 use command_line::Shown;
 use json_lines::Objects;
 use script_port::SimFault;
 use std::alloc::Global;
-use std::io::{Read, Write};
+use std::io::{IsTerminal, Read, Write};
 use std::sync::Wait;
 use trace_advice::Complaint;
 
@@ -47,9 +48,9 @@ fn out_of<L: LineRule, W: Write>(lines: LineWriter<L, W>) -> W
     lines.out
 }
 
-/// How a listing ended, or that a line of it had no memory.
-fn told_of(done: Result<(), Complaint>, is_refused: bool) -> Result<(), Complaint>
-    ensures { IsToldOf is_refused done result }
+/// How a listing ended of which so many entries are shown, or that a line of it had no memory.
+fn told_of(done: Result<(), Complaint>, is_refused: bool, entries: u64) -> Result<(), Complaint>
+    ensures { IsToldOf is_refused entries done result }
 {
     match done {
         Ok(()) => Ok(()),
@@ -57,7 +58,7 @@ fn told_of(done: Result<(), Complaint>, is_refused: bool) -> Result<(), Complain
             if is_refused {
                 return Err(Complaint::from(SimFault::NoMemory));
             }
-            Err(complaint)
+            Err(complaint.with_shown(entries))
         }
     }
 }
@@ -79,13 +80,31 @@ impl<S: Listable, L: LineRule + Default> Listable for ByLine<S, L> {
         let mut lines = LineWriter::new(alloc, rule, taken(alloc, output));
         let done = listing.list(waiter, input, &mut lines);
         let is_refused = lines.is_refused;
+        let entries = lines.entries;
         *output = out_of(lines);
-        told_of(done, is_refused)
+        told_of(done, is_refused, entries)
     }
 }
 
-/// Shows a listing. The lines that are chosen are shown, as they are or as objects.
+/// Shows a listing. The lines that are chosen are shown, as they are or as objects. Where standard error is a terminal it says
+/// how many entries are opaque, also of those that are passed over.
 pub fn show<S: Listable, R: Wait, I: Read + Drop, W: Output>(
+    rt: &HostRuntime,
+    waiter: &R,
+    listing: S,
+    shown: Shown,
+    input: I,
+    output: &mut W,
+) -> Result<(), Complaint>
+    ensures { Shows shown.is_json shown.choice (S.lists listing (I.remaining input)) result (W.contents output.old) (W.contents output.new) }
+{
+    let is_on = shown.is_plain && rt.stderr().is_terminal();
+    let counted = Counted::new(rt, listing, is_on, &shown.choice);
+    show_lines(rt.alloc(), waiter, counted, shown, input, output)
+}
+
+/// Shows the lines of a listing that are chosen, as they are or as objects.
+fn show_lines<S: Listable, R: Wait, I: Read + Drop, W: Output>(
     alloc: Global,
     waiter: &R,
     listing: S,
@@ -95,7 +114,11 @@ pub fn show<S: Listable, R: Wait, I: Read + Drop, W: Output>(
 ) -> Result<(), Complaint>
     ensures { Shows shown.is_json shown.choice (S.lists listing (I.remaining input)) result (W.contents output.old) (W.contents output.new) }
 {
-    let Shown { is_json, choice } = shown;
+    let Shown {
+        is_json,
+        choice,
+        ..
+    } = shown;
     let Some(choice) = choice else {
         if is_json {
             return by_line(alloc, listing, Objects).list(waiter, input, output);

@@ -1,6 +1,6 @@
 //! What is told of a fault on standard error: a line, and after it what to do next.
 ghost use Rattle.std.specs.Prelude.{◌≡◌, None, IsTrue};
-ghost use Rattle.trace_advice.specs.Complaints.{status_told, IsToldAs};
+ghost use Rattle.trace_advice.specs.Complaints.{status_told, advice_shown, with_shown, IsToldAs};
 ghost use Rattle.trace_advice.specs.declared.complaint.Complaint.TheVariants as complaints;
 ghost use Rattle.script_port.specs.declared.fault.SimFault.TheVariants as faults;
 
@@ -16,7 +16,9 @@ use trace_port::{PortFault, ResumeFault};
 #[derive(Drop)]
 pub enum Advice {
     /// The trace is sealed.
-    Sealed,
+    Sealed {
+        name: String,
+    },
     /// An import ended, and its trace isn't sealed.
     GoesOn {
         kept: Option<Kept>,
@@ -29,11 +31,12 @@ pub enum Advice {
     Full {
         kept: Option<Kept>,
     },
-    /// The file is damaged; before that, so many entries are listed, or written.
+    /// The file is damaged; before that, so many entries are listed, or written, and so many of these are shown.
     Damaged {
         name: String,
         entries: u64,
         done: &'static str,
+        shown: u64,
     },
     /// The file is damaged, and the trace isn't opened.
     DamagedToOpen {
@@ -50,6 +53,37 @@ pub enum Advice {
     Misplaced {
         name: String,
     },
+    /// A file of a wrap that isn't there, or is there as it was before.
+    Missing {
+        name: String,
+        is_oldest: bool,
+        is_there: bool,
+    },
+    /// The file is one of a wrap. What is done with that has this name.
+    IsOfWrap {
+        name: String,
+        base: String,
+        suffix: String,
+        command: &'static str,
+    },
+    /// Neither file is there.
+    NotThere {
+        name: String,
+        other: Option<String>,
+    },
+    /// The files that are there hold nothing.
+    IsEmpty {
+        name: String,
+    },
+    /// The folder of a file isn't there.
+    NoFolder {
+        folder: String,
+    },
+    /// The name is a link to a file that isn't there.
+    NoTarget {
+        name: String,
+        target: String,
+    },
     /// A wrap is there, of which this is a file.
     ThereIsWrap {
         name: String,
@@ -60,11 +94,37 @@ pub enum Advice {
     },
 }
 
+impl Advice {
+    /// The same, where of the entries before a damage so many are shown.
+    fn with_shown(self, shown: u64) -> Advice
+        ensures { result ≡ advice_shown shown self }
+    {
+        match self {
+            Advice::Damaged {
+                name,
+                entries,
+                done,
+                shown: _,
+            } => Advice::Damaged {
+                name,
+                entries,
+                done,
+                shown,
+            },
+            other => other,
+        }
+    }
+}
+
 impl fmt::Display for Advice {
     fn fmt<W: fmt::Write>(&self, f: &mut fmt::Formatter<W>) -> fmt::Result {
         match self {
-            Advice::Sealed => {
-                f.write_str("the trace is sealed: export keeps its entries, wipe clears it")
+            Advice::Sealed { name } => {
+                let name = Shown(name.as_str());
+                write!(
+                    f,
+                    "{name} is sealed: export keeps its entries, wipe clears it"
+                )
             }
             Advice::GoesOn { kept } => tell_going_on(f, *kept),
             Advice::DiskFailed { kept } => {
@@ -76,7 +136,8 @@ impl fmt::Display for Advice {
                 name,
                 entries,
                 done,
-            } => tell_damaged(f, name.as_str(), *entries, done),
+                shown,
+            } => tell_damaged(f, name.as_str(), *entries, done, *shown),
             Advice::DamagedToOpen { name } => {
                 let name = Shown(name.as_str());
                 write!(
@@ -94,6 +155,39 @@ impl fmt::Display for Advice {
             Advice::Misplaced { name } => {
                 let name = Shown(name.as_str());
                 write!(f, "{name} isn't in its place")
+            }
+            Advice::Missing {
+                name,
+                is_oldest,
+                is_there,
+            } => tell_missing(f, name.as_str(), *is_oldest, *is_there),
+            Advice::IsOfWrap {
+                name,
+                base,
+                suffix,
+                command,
+            } => tell_wrap(f, name.as_str(), base.as_str(), suffix.as_str(), command),
+            Advice::NotThere { name, other } => tell_not_there(f, name.as_str(), other),
+            Advice::IsEmpty { name } => {
+                let name = Shown(name.as_str());
+                write!(
+                    f,
+                    "{name} is there and holds nothing: import begins a trace"
+                )
+            }
+            Advice::NoFolder { folder } => {
+                let folder = Shown(folder.as_str());
+                write!(
+                    f,
+                    "there is no folder {folder}: give another one, or make it"
+                )
+            }
+            Advice::NoTarget { name, target } => {
+                let (name, target) = (Shown(name.as_str()), Shown(target.as_str()));
+                write!(
+                    f,
+                    "{name} is a link to {target}, which isn't there: give another name, or remove the link"
+                )
             }
             Advice::ThereIsWrap { name } => {
                 let name = Shown(name.as_str());
@@ -119,8 +213,16 @@ fn tell_damaged<W: fmt::Write>(
     name: &str,
     entries: u64,
     done: &str,
+    shown: u64,
 ) -> fmt::Result {
     let name = Shown(name);
+    if shown < entries {
+        let verb = if shown == 1 { "is" } else { "are" };
+        return write!(
+            f,
+            "{name} is damaged there: {shown} of the {entries} entries before it {verb} {done}"
+        );
+    }
     match entries {
         0 => write!(f, "{name} is damaged there: no entry is {done}"),
         1 => write!(
@@ -131,6 +233,62 @@ fn tell_damaged<W: fmt::Write>(
             f,
             "{name} is damaged there: the {entries} entries before it are {done}"
         ),
+    }
+}
+
+/// Tells of a file of a wrap that isn't there, or is there as it was before.
+fn tell_missing<W: fmt::Write>(
+    f: &mut fmt::Formatter<W>,
+    name: &str,
+    is_oldest: bool,
+    is_there: bool,
+) -> fmt::Result {
+    let name = Shown(name);
+    let which = if is_oldest { ", the oldest," } else { "" };
+    let what = if is_there {
+        "an older copy: put the newer one back"
+    } else {
+        "missing: put it back"
+    };
+    write!(f, "{name}{which} is {what}, or clear the trace by wipe")
+}
+
+/// Tells which wrap a file is one of, and how that is named.
+fn tell_wrap<W: fmt::Write>(
+    f: &mut fmt::Formatter<W>,
+    name: &str,
+    base: &str,
+    suffix: &str,
+    command: &str,
+) -> fmt::Result {
+    let (name, base) = (Shown(name), Shown(base));
+    write!(
+        f,
+        "{name} is a file of the wrap {base}: dbgrec {command} {base}"
+    )?;
+    if !suffix.is_empty() {
+        let suffix = Shown(suffix);
+        write!(f, " --suffix {suffix}")?;
+    }
+    Ok(())
+}
+
+/// Tells where nothing is there.
+fn tell_not_there<W: fmt::Write>(
+    f: &mut fmt::Formatter<W>,
+    name: &str,
+    other: &Option<String>,
+) -> fmt::Result {
+    let name = Shown(name);
+    match other {
+        Some(other) => {
+            let other = Shown(other.as_str());
+            write!(
+                f,
+                "neither {name} nor {other} is there: import begins a trace"
+            )
+        }
+        None => write!(f, "{name} isn't there: import begins a trace"),
     }
 }
 
@@ -159,6 +317,12 @@ pub enum Complaint {
     },
     /// A sync failed while the trace was written.
     AfterFailure,
+    /// So many files have to be open at once, and this one can't be.
+    TooManyOpen {
+        name: String,
+        files: u32,
+        reason: io::Error,
+    },
     /// What stands for that can't be removed.
     Mark {
         name: String,
@@ -187,6 +351,33 @@ impl Complaint {
             self,
             Complaint::Fault {
                 fault: SimFault::OfFile { .. } | SimFault::InUse { .. },
+                advice: _
+            }
+        )
+    }
+
+    /// The same, where of the entries before a damage so many are shown.
+    pub fn with_shown(self, shown: u64) -> Complaint
+        ensures { result ≡ with_shown shown self }
+    {
+        match self {
+            Complaint::Fault { fault, advice } => Complaint::Fault {
+                fault,
+                advice: match advice {
+                    Some(advice) => Some(advice.with_shown(shown)),
+                    None => None,
+                },
+            },
+            other => other,
+        }
+    }
+
+    /// Whether the reader failed.
+    pub fn is_of_reader(&self) -> bool {
+        matches!(
+            self,
+            Complaint::Fault {
+                fault: SimFault::Read,
                 advice: _
             }
         )
@@ -243,6 +434,11 @@ impl fmt::Display for Complaint {
                 write!(f, "{name}: --count is {given}, and the trace's is {own}")
             }
             Complaint::AfterFailure => tell_failed_disk(f),
+            Complaint::TooManyOpen {
+                name,
+                files,
+                reason,
+            } => tell_too_many(f, name.as_str(), *files, *reason),
             Complaint::Mark { name, reason } => {
                 let name = Shown(name.as_str());
                 write!(f, "{name} can't be removed: {reason}")
@@ -258,6 +454,24 @@ fn tell_advice<W: fmt::Write>(f: &mut fmt::Formatter<W>, advice: &Option<Advice>
     }
 }
 
+/// Files beside those of a trace that are open, and some to spare.
+const OTHER_FILES: u32 = 16;
+
+fn tell_too_many<W: fmt::Write>(
+    f: &mut fmt::Formatter<W>,
+    name: &str,
+    files: u32,
+    reason: io::Error,
+) -> fmt::Result {
+    let name = Shown(name);
+    let limit = files.saturating_add(OTHER_FILES);
+    write!(f, "{name} can't be opened: {reason}\n")?;
+    write!(
+        f,
+        "the files of the trace are open at once, {files} of them: ulimit -n {limit} lets them"
+    )
+}
+
 fn tell_foreign<W: fmt::Write>(
     f: &mut fmt::Formatter<W>,
     name: &str,
@@ -269,9 +483,10 @@ fn tell_foreign<W: fmt::Write>(
         write!(
             f,
             " (it looks like an entry stream: dbgrec stream < {name})"
-        )?;
+        )
+    } else {
+        f.write_str("\nit stays as it is: give another name")
     }
-    Ok(())
 }
 
 /// The file that a refusal names as damaged.

@@ -1,11 +1,13 @@
 //! What is told on standard error: a fault of a command with what to do next, and options that have no effect.
 #![tactic(auto)]
 
+mod absence;
 mod complaint;
 mod fault;
 mod kept;
 mod notices;
 
+pub use absence::{in_the_way, instead, wrap_instead};
 pub use complaint::{Advice, Complaint, FAILED_DISK, damaged_file, is_full, is_of_several, told};
 pub use fault::fault_of_reading;
 pub use kept::{Kept, fault_in_input};

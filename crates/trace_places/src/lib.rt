@@ -3,8 +3,12 @@
 
 mod lookup;
 mod place;
+mod room;
 mod shown;
+mod spot;
 
-pub use lookup::{Found, find, first_wrap_file, has_bytes};
+pub use lookup::{Found, Member, find, first_wrap_file, has_bytes, wrap_of};
 pub use place::{Kind, Place, Turn};
+pub use room::{Crowded, is_crowded};
 pub use shown::Shown;
+pub use spot::{Spot, spot_of};

@@ -65,6 +65,30 @@ fn header_in(rt: HostRuntime, name: String) -> Result<Option<SegHeader>, AllocEr
     Ok(first_header(&mut store).unwrap_or(None))
 }
 
+/// A file of a wrap: what the names of that wrap's files begin and end with.
+#[derive(Drop)]
+pub struct Member {
+    pub base: String,
+    pub suffix: String,
+}
+
+/// The wrap of which the file of this name is one, where its header says so.
+pub fn wrap_of(rt: HostRuntime, name: &str) -> Result<Option<Member>, AllocError> {
+    let alloc = rt.alloc();
+    let Some(header) = header_in(rt, String::from_str(alloc, name)?)? else {
+        return Ok(None);
+    };
+    let file = file_in_turn(header.spec, header.generation);
+    let number = format!(in alloc; "{file}")?;
+    match name.rsplit_once(number.as_str()) {
+        Some((base, suffix)) if header.spec != StoreSpec::File => Ok(Some(Member {
+            base: String::from_str(alloc, base)?,
+            suffix: String::from_str(alloc, suffix)?,
+        })),
+        _ => Ok(None),
+    }
+}
+
 /// Whether a wrap with this header has it in file `k`. Two wraps may share a name: `t10` is a file of `t` and of `t1`.
 fn is_in_place(header: &SegHeader, k: u32) -> bool
     ensures { IsTrue result ↔ IsInFile header.now k }

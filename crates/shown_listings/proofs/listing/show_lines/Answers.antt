@@ -1,4 +1,4 @@
-use Rattle.shown_listings.proofs.listing.show.Goals as goal
+use Rattle.shown_listings.proofs.listing.show_lines.Goals as goal
 
 pub returns-then-is_json-2 : goal.returns-then-is_json-2
 returns-then-is_json-2 g c =

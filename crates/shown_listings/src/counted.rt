@@ -1,0 +1,243 @@
+//! A plain listing, of which the entries that are opaque are counted.
+ghost use Rattle.std.specs.Prelude.{◌≡◌};
+
+use crate::listing::Listable;
+use crate::outlet::{Output, taken};
+use chosen_lines::{Choice, cut_word, number_told};
+use std::alloc::Global;
+use std::fmt;
+use std::io::{self, Read, Write};
+use std::sync::Wait;
+use trace_advice::Complaint;
+
+/// The longest number of an entry, and the word of its kind.
+const HEAD: usize = 32;
+
+/// The numbers of the entries that are counted.
+#[derive(Clone, Copy, Debug)]
+struct Range {
+    first: u64,
+    last: u64,
+}
+
+impl Range {
+    /// Those that a choice asks for.
+    fn of(choice: &Option<Choice>) -> Range {
+        let (first, last) = match choice {
+            Some(choice) => (choice.from, choice.to),
+            None => (None, None),
+        };
+        Range {
+            first: first.unwrap_or(0),
+            last: last.unwrap_or(u64::MAX),
+        }
+    }
+}
+
+/// How many entries are listed, and how many of them as opaque.
+#[derive(Clone, Copy, Debug)]
+struct Sight {
+    entries: u64,
+    opaque: u64,
+}
+
+/// A number with commas between its thousands.
+#[derive(Clone, Copy)]
+struct Grouped(u64);
+
+/// The units that a comma stands after, the greatest first, and one.
+const UNITS: [u64; 7] = [
+    1_000_000_000_000_000_000,
+    1_000_000_000_000_000,
+    1_000_000_000_000,
+    1_000_000_000,
+    1_000_000,
+    1_000,
+    1,
+];
+
+impl fmt::Display for Grouped {
+    fn fmt<W: fmt::Write>(&self, f: &mut fmt::Formatter<W>) -> fmt::Result {
+        let mut has_begun = false;
+        for unit in UNITS {
+            let part = self.0 / unit % 1_000;
+            if has_begun {
+                let (hundreds, tens, ones) = (part / 100, part / 10 % 10, part % 10);
+                write!(f, ",{hundreds}{tens}{ones}")?;
+            } else if part > 0 || unit == 1 {
+                write!(f, "{part}")?;
+                has_begun = true;
+            }
+        }
+        Ok(())
+    }
+}
+
+impl fmt::Display for Sight {
+    fn fmt<W: fmt::Write>(&self, f: &mut fmt::Formatter<W>) -> fmt::Result {
+        let (opaque, entries) = (Grouped(self.opaque), Grouped(self.entries));
+        match self.opaque {
+            1 => write!(f, "1 of {entries} entries is opaque here: -p shows it"),
+            _ => write!(
+                f,
+                "{opaque} of {entries} entries are opaque here: -p shows them"
+            ),
+        }
+    }
+}
+
+/// What is counted of the lines that pass.
+#[derive(Drop)]
+struct Tally {
+    is_on: bool,
+    range: Range,
+    sight: Sight,
+    /// What the line began with that isn't at its end.
+    head: [u8; HEAD],
+    length: usize,
+}
+
+impl Tally {
+    fn new(is_on: bool, range: Range) -> Tally {
+        Tally {
+            is_on,
+            range,
+            sight: Sight {
+                entries: 0,
+                opaque: 0,
+            },
+            head: [0; HEAD],
+            length: 0,
+        }
+    }
+
+    /// Counts the entry of the line that ends, if it is one's.
+    fn end_line(&mut self) {
+        let length = self.length.min(HEAD);
+        let (word, rest) = cut_word(&self.head[..length]);
+        if let Some(number) = number_told(word)
+            && self.range.first <= number
+            && number <= self.range.last
+        {
+            let (kind, _) = cut_word(rest);
+            let is_opaque = kind == b"opaque".as_slice();
+            self.sight.entries = self.sight.entries.saturating_add(1);
+            self.sight.opaque = self.sight.opaque.saturating_add(u64::from(is_opaque));
+        }
+        self.length = 0;
+    }
+
+    /// Keeps what a line begins with.
+    fn go_on(&mut self, part: &[u8]) {
+        for byte in part {
+            if self.length >= HEAD {
+                return;
+            }
+            self.head[self.length] = *byte;
+            self.length += 1;
+        }
+    }
+
+    /// Takes what was written.
+    fn note(&mut self, bytes: &[u8]) {
+        let mut is_new = false;
+        for part in bytes.split(|byte| *byte == b'\n') {
+            if is_new {
+                self.end_line();
+            }
+            is_new = true;
+            self.go_on(part);
+        }
+    }
+}
+
+/// A writer that counts the entries whose lines pass.
+#[derive(Drop)]
+struct Counting<W: Write> {
+    out: W,
+    tally: Tally,
+}
+
+impl<W: Write> Write for Counting<W> {
+    ghost contents = { λ counting. W.contents counting.out };
+
+    #[inline(always)]
+    fn write(&mut self, bytes: &[u8]) -> io::Result<usize> {
+        let count = self.out.write(bytes)?;
+        if self.tally.is_on {
+            self.tally.note(&bytes[..count]);
+        }
+        Ok(count)
+    }
+
+    fn flush(&mut self) -> io::Result<()> {
+        self.out.flush()
+    }
+}
+
+impl<W: Output> Output for Counting<W> {
+    fn none(alloc: Global) -> Counting<W> {
+        Counting {
+            out: W::none(alloc),
+            tally: Tally::new(false, Range::of(&None)),
+        }
+    }
+}
+
+/// The writer below, and what was counted.
+fn ended<W: Write>(counting: Counting<W>) -> (W, Sight)
+    ensures { result.0 ≡ counting.out }
+{
+    (counting.out, counting.tally.sight)
+}
+
+/// A listing, at whose end standard error tells how many of its entries are opaque, where that is asked for.
+pub struct Counted<S> {
+    rt: HostRuntime,
+    listing: S,
+    is_on: bool,
+    range: Range,
+}
+
+impl<S: Listable> Counted<S> {
+    /// Those entries alone are counted that a choice may show by their numbers.
+    pub fn new(rt: &HostRuntime, listing: S, is_on: bool, choice: &Option<Choice>) -> Counted<S>
+        ensures { result.listing ≡ listing }
+    {
+        Counted {
+            rt: *rt,
+            listing,
+            is_on,
+            range: Range::of(choice),
+        }
+    }
+}
+
+impl<S: Listable> Listable for Counted<S> {
+    ghost lists = { λ listed had. S.lists listed.listing had };
+
+    fn list<R: Wait, I: Read + Drop, W: Output>(
+        self,
+        waiter: &R,
+        input: I,
+        output: &mut W,
+    ) -> Result<(), Complaint> {
+        let Counted {
+            rt,
+            listing,
+            is_on,
+            range,
+        } = self;
+        let mut counting = Counting {
+            out: taken(rt.alloc(), output),
+            tally: Tally::new(is_on, range),
+        };
+        let done = listing.list(waiter, input, &mut counting);
+        let (out, sight) = ended(counting);
+        *output = out;
+        if done.is_ok() && sight.opaque > 0 {
+            let _ = eprintln!(rt; "dbgrec: {sight}");
+        }
+        done
+    }
+}
