@@ -4,13 +4,9 @@ use Rattle.trace_store.specs.Disk.{Image}
 use Rattle.trace_store.specs.Device.{device_of}
 use Rattle.stores.specs.FolderStore.{honest_of, reads_of}
 use Rattle.stores.specs.declared.folder_store.FolderStore.{FolderStore}
-use Rattle.std.proofs.lemmas.List.{length-map}
-use Rattle.entry_codec.specs.Seen.{view, views}
-use Rattle.entry_codec.specs.Entries.{joined}
-use Rattle.recovery.specs.Views.{total}
-use Rattle.recovery.specs.Stores.{Reads, Blank, Holds}
-use Rattle.recovery.specs.Recovery.{Recovers, Shows, IsEmpty}
-use Rattle.recovery.specs.declared.window.Recovered.{Recovered}
+use Rattle.recovery.specs.Stores.{Chain, IsStore, IsBlank, readings, view_of, is_blank, holds}
+use Rattle.recovery.specs.Outlined.{Outlines, HasNothing, IsOutlineOf}
+use Rattle.recovery.specs.declared.outlined.Outlined.{Outlined}
 use Rattle.segment.specs.Seen.{spec_seen}
 use Rattle.segment.specs.declared.specification.StoreSpec.{StoreSpec}
 use Rattle.script_port.specs.PortOpenings.{first_told}
@@ -46,14 +42,12 @@ status_with kept (complaints.Fault fault None) = refl
 status_with kept _ = refl
 
 -- what was read has so many entries in all
-pub total_read : (image : Image) (r : Recovered) (n : ℕ) → Recovers image r → n ≡ r.first + length (views r.entries.items) → HasTotal image n
+pub total_read : (image : Image) (r : Outlined) (n : ℕ) → Outlines (readings image) r → n ≡ r.total → HasTotal image n
 total_read image r n reads is = by_spec r.spec reads
   where
-    by_spec : (spec : Option StoreSpec) → MatchOption spec (Reads image Blank × IsEmpty r) (λ s. (v : _) × Reads image (Holds (spec_seen s) v r.sealed) × Shows v r) → HasTotal image n
-    by_spec None none =
-        let count : length (views r.entries.items) ≡ length r.entries.items = length-map r.entries.items view in
-        blank none.0 (omega (arith, is, none.1.first, none.1.entries, count))
-    by_spec (Some spec) there = whole (spec_seen spec) there.0 r.sealed there.1 (omega (arith, is, there.2.first, ap (λ (l : List _). length l) there.2.entries))
+    by_spec : (spec : Option StoreSpec) → MatchOption spec (IsBlank (readings image) × HasNothing r) (λ s. (c : Chain) × IsStore (spec_seen s) c (readings image) × IsOutlineOf (spec_seen s) c r) → HasTotal image n
+    by_spec None none = blank (is_blank none.0) (omega (arith, is, none.1.total))
+    by_spec (Some spec) there = whole (spec_seen spec) (view_of (spec_seen spec) there.0) there.0.newest.sealed (holds (spec_seen spec) there.0 there.1) (omega (arith, is, there.2.numbers.total))
 
 -- what is found after an import is what it kept
 pub keeps_found : (opened : AnyOpening) (origin : Origin) (rules : Rules) (mid last new : FolderStore) (was is : Outside) (come : List ℕ) (incoming : Incoming) (done : Result Unit SimFault) (Writes : List ℕ → Type 0) (skip before : ℕ) (kept : Kept)
