@@ -143,6 +143,38 @@ def a_wrap_in_which_an_entry_is_missing_has_no_last_line(program):
         assert outcome.errors.startswith(b"dbgrec: refused 3 Sequence\n"), outcome
 
 
+def three_large_files(program, middle_size, *before):
+    """A wrap of three files of 10 megabytes each, the middle one of this size, by how many entries each header says come before it."""
+    batches = [message(bytes(95)) * 1000] * 100
+    for file, count in enumerate(before):
+        size = middle_size if file == 1 else 9_999_999
+        (program.folder / f"t{file}").write_bytes(segment(wrap_header(file, count=4, before=count, size=size), *batches))
+
+
+def refused_in_8(program, says):
+    """A trace is refused so by each command that reads it, in 8 MB."""
+    for command in ("list", "export", "info"):
+        outcome = program.run(command, "t", before=SMALL)
+        same((outcome.status, outcome.errors[: len(says)]), (1, says))
+
+
+@case
+def a_large_wrap_that_is_refused_is_refused_in_8_megabytes(program):
+    three_large_files(program, 9_999_999, 0, 100_000, 200_000)
+    same(program.run("list", "t", before=SMALL).status, 0)
+    middle = program.folder / "t1"
+    whole = middle.read_bytes()
+    place = len(whole) - 1
+    middle.write_bytes(whole[:place] + b"\2")
+    refused_in_8(program, f"dbgrec: refused 1 Damaged file 1 at {place}\n".encode())
+    middle.write_bytes(whole[:5] + b"\t" + whole[6:])
+    refused_in_8(program, b"dbgrec: refused 1 Damaged file 1 at 0\n")
+    three_large_files(program, 9_999_998, 0, 100_000, 200_000)
+    refused_in_8(program, b"dbgrec: refused 2 Mixed\nt0 and t1 don't belong together\n")
+    three_large_files(program, 9_999_999, 0, 100_000, 200_001)
+    refused_in_8(program, b"dbgrec: refused 3 Sequence\nt1 and t2 don't belong together\n")
+
+
 @case
 def the_first_line_of_a_wrap_comes_before_its_files_are_read(program):
     entries = [message(bytes(95))] * 390_000

@@ -13,14 +13,18 @@ use std::alloc::{AllocError, Global};
 use std::io::{self, Write};
 use trace_advice::{Complaint, fault_of_reading};
 use trace_info::Info;
-use trace_reader::{FileFound, Host, ReadFault, Watched};
+use trace_reader::{Host, ReadFault, TraceSummary, Watched};
 
 /// How often a trace that isn't whole is read again at most, while another process writes it.
 const AGAIN: u32 = 4;
 
 /// What its files were found to hold, together, and whether another process has the trace.
-fn gathered(files: &Files<'_>, found: Vec<FileFound>) -> Result<Info, AllocError> {
-    let mut info = Info::new(files.alloc(), files.is_held()?);
+fn gathered(files: &Files<'_>, summary: TraceSummary) -> Result<Info, AllocError> {
+    let TraceSummary {
+        files: found,
+        outlined,
+    } = summary;
+    let mut info = Info::new(files.alloc(), outlined, files.is_held()?);
     let mut file: u32 = 0;
     for one in found {
         info.add(file, files.name(file)?, one)?;
@@ -33,8 +37,8 @@ fn gathered(files: &Files<'_>, found: Vec<FileFound>) -> Result<Info, AllocError
 fn look_once(files: &mut Files<'_>) -> Result<Info, ReadFault>
     ensures there { LooksOver files.old.store files.new.store (OnOk result (IsStanding standings.Ours (reads_of files.old.store))) }
 {
-    let found = files.sum_up()?;
-    match gathered(files, found) {
+    let summary = files.sum_up()?;
+    match gathered(files, summary) {
         Ok(info) => Ok(info),
         Err(_) => Err(ReadFault::NoMemory),
     }
@@ -60,7 +64,7 @@ fn doing_of(info: &Info) -> Doing {
     if info.is_written {
         Doing::ReadingAgain
     } else {
-        Doing::Counting(info.before_damage)
+        Doing::Counting(info.before_damage())
     }
 }
 

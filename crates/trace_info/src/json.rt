@@ -121,10 +121,8 @@ impl Info {
     /// Its open files, the oldest first.
     fn files_as_json(&self, alloc: Global) -> Result<Value, AllocError> {
         let mut files = Vec::new(alloc);
-        let mut has_fallen = self.has_fallen();
         for part in &self.parts {
-            files.push(part.as_json(alloc, !has_fallen)?)?;
-            has_fallen = false;
+            files.push(part.as_json(alloc, self.is_kept(part))?)?;
         }
         for name in &self.headless {
             let name = name.as_str();
@@ -183,8 +181,8 @@ impl Part {
         let mut object = Map::new(alloc);
         put_text(alloc, &mut object, "name", self.name.as_str())?;
         put_number(alloc, &mut object, "generation", summary.header.generation)?;
-        put_number(alloc, &mut object, "entries", summary.counted.entries)?;
-        put_number(alloc, &mut object, "bytes", summary.counted.bytes)?;
+        put_number(alloc, &mut object, "entries", summary.counted.tally.entries)?;
+        put_number(alloc, &mut object, "bytes", summary.counted.tally.bytes)?;
         put(alloc, &mut object, "kept", Value::from(is_kept))?;
         put(alloc, &mut object, "damaged_at", number(damaged_at))?;
         Ok(Value::Object(object))

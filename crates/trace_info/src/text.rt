@@ -61,10 +61,8 @@ fn tell_totals<W: fmt::Write>(f: &mut fmt::Formatter<W>, info: &Info) -> fmt::Re
 }
 
 fn tell_files<W: fmt::Write>(f: &mut fmt::Formatter<W>, info: &Info) -> fmt::Result {
-    let mut has_fallen = info.has_fallen();
     for part in &info.parts {
-        tell_file(f, part, has_fallen)?;
-        has_fallen = false;
+        tell_file(f, part, info.is_kept(part))?;
     }
     for name in &info.headless {
         let name = Shown(name.as_str());
@@ -73,23 +71,19 @@ fn tell_files<W: fmt::Write>(f: &mut fmt::Formatter<W>, info: &Info) -> fmt::Res
     Ok(())
 }
 
-fn tell_file<W: fmt::Write>(
-    f: &mut fmt::Formatter<W>,
-    part: &Part,
-    has_fallen: bool,
-) -> fmt::Result {
+fn tell_file<W: fmt::Write>(f: &mut fmt::Formatter<W>, part: &Part, is_kept: bool) -> fmt::Result {
     let name = Shown(part.name.as_str());
     let summary = &part.summary;
     write!(f, "file {name}: ")?;
     if summary.header.spec != StoreSpec::File {
         write!(f, "generation {}, ", summary.header.generation)?;
     }
-    let counted = &summary.counted;
-    write!(f, "entries {}, bytes {}", counted.entries, counted.bytes)?;
+    let tally = summary.counted.tally;
+    write!(f, "entries {}, bytes {}", tally.entries, tally.bytes)?;
     if let End::Damaged { place } = summary.end {
         write!(f, ", damaged at {place}")?;
     }
-    f.write_str(if has_fallen { ", not kept\n" } else { "\n" })
+    f.write_str(if is_kept { "\n" } else { ", not kept\n" })
 }
 
 /// How many messages there are of each kind of which there are any.
