@@ -21,7 +21,11 @@ TOLD = f"dbgrec: {FAILED}\n".encode()
 
 DEVICE = b'dbgrec: refused 1 Device: "t": Input/output error (os error 5)\n'
 
-NOT_GONE_ON = f"{FAILED}: export it elsewhere, or go on with --after-failure\n".encode()
+
+def not_gone_on(place):
+    """What an import tells that ended as its disk failed, where its trace has the input up to this byte."""
+    return f"{FAILED}: export it elsewhere, or go on with --after-failure, of a file with --skip {place} too\n".encode()
+
 
 # entries that all differ
 ENTRIES = [drop(number + 1) for number in range(60)]
@@ -57,7 +61,6 @@ def fail(program, after, *words, file="/t", stdin=b"".join(ENTRIES)):
 def a_failed_sync_leaves_a_mark(program):
     outcome = fail(program, 40, "import", "t", "--flush", "always")
     same((outcome.status, outcome.output), (1, b"created\n"))
-    same(outcome.errors, DEVICE + NOT_GONE_ON)
     same(sorted(stored(program.folder)), ["t", "t.failed"])
     mark = (program.folder / "t.failed").read_text()
     same(mark, "A sync of this trace failed; what was covered last may not be on the disk.\n")
@@ -66,6 +69,7 @@ def a_failed_sync_leaves_a_mark(program):
     entries = split(exported.output)
     same((exported, entries), (Outcome(0, b"".join(entries), TOLD), ENTRIES[: len(entries)]))
     assert 10 < len(entries) < 30
+    same(outcome.errors, DEVICE + not_gone_on(len(exported.output)))
     lines = [f"{number} drop {number + 1}" for number in range(len(entries))]
     same(program.run("list", "t"), Outcome(0, listing(0, 0, lines), TOLD))
 
@@ -78,7 +82,7 @@ def a_broken_stream_whose_flush_fails_names_both(program):
     same((outcome.status, outcome.output), (1, b"created\n"))
     place = len(ENTRIES[0])
     faults = b'dbgrec: "t": Input/output error (os error 5)\n' + f"dbgrec: refused 4 BadOp at {place}\n".encode()
-    same(outcome.errors, faults + NOT_GONE_ON)
+    same(outcome.errors, faults + not_gone_on(place))
 
 
 @case

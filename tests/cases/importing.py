@@ -435,7 +435,7 @@ def what_a_pausing_writer_wrote_is_covered(program):
             importer.write(message(EXAMPLE)[:20])
             importer.kill()
         same(program.good("list", name, *read), listing_of(entries))
-        same(program.good("import", name, *kind), f"resumed {len(entries)}\nsealed {len(entries)}\n".encode())
+        same(program.good("record", name, *kind), f"resumed {len(entries)}\n".encode())
 
 
 @case

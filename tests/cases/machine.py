@@ -149,7 +149,7 @@ def a_folder_that_may_not_be_changed_is_told(program):
         os.chmod(program.folder / "closed", 0o000)
         denied = "Permission denied (os error 13)"
         for command in ("record", "import"):
-            same(program.run(command, "shut/t", before=nobody), told(1, f'dbgrec: refused 3 Device: "shut/t": {denied}'))
+            same(program.run(command, "shut/t", stdin=drop(1), before=nobody), told(1, f'dbgrec: refused 3 Device: "shut/t": {denied}'))
             same(program.run(command, "closed/t", before=nobody), told(1, f'dbgrec: "closed/t" can\'t be locked: {denied}'))
         same(program.run("wipe", "shut/t", before=nobody), told(1, "dbgrec: shut/t: no such trace\nneither shut/t nor shut/t0 is there: import begins a trace"))
         for command in ("list", "export"):
