@@ -7,7 +7,8 @@ ghost use Rattle.trace_advice.specs.Complaints.{status_told};
 ghost use Rattle.recorder.specs.{Files.OnlyLooks, Files.LooksOver};
 ghost use Rattle.script_port.specs.Faults.{status_of};
 
-use crate::files::{Doing, Files};
+use crate::doing::Doing;
+use crate::files::Files;
 use script_port::SimFault;
 use std::alloc::{AllocError, Global};
 use std::io::{self, Write};

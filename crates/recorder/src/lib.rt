@@ -3,6 +3,7 @@
 
 mod awaiting;
 mod commands;
+mod doing;
 mod files;
 mod following;
 mod informing;

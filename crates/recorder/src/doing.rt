@@ -1,0 +1,29 @@
+//! What was done when a fault came.
+
+/// What was done when a fault came, as far as it says what to do next.
+#[derive(Clone, Copy, Debug, PartialEq, Eq)]
+pub enum Doing {
+    /// So many entries are listed.
+    Listing(u64),
+    /// So many entries are written.
+    Exporting(u64),
+    /// So many entries are counted.
+    Counting(u64),
+    /// It was read again, since another process writes it.
+    ReadingAgain,
+    Opening,
+    Importing,
+    Other,
+}
+
+impl Doing {
+    /// The command that does it.
+    pub fn command(self) -> &'static str {
+        match self {
+            Doing::Exporting(_) => "export",
+            Doing::Counting(_) => "info",
+            Doing::Opening | Doing::Importing => "import",
+            Doing::Listing(_) | Doing::ReadingAgain | Doing::Other => "list",
+        }
+    }
+}
