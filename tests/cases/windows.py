@@ -164,8 +164,9 @@ def a_large_wrap_that_is_refused_is_refused_in_8_megabytes(program):
     same(program.run("list", "t", before=SMALL).status, 0)
     middle = program.folder / "t1"
     whole = middle.read_bytes()
-    place = len(whole) - 1
-    middle.write_bytes(whole[:place] + b"\2")
+    # the first entry of the last batch is none
+    place = len(whole) - 100_006
+    middle.write_bytes(whole[: place + 5] + b"\2" + whole[place + 6 :])
     refused_in_8(program, f"dbgrec: refused 1 Damaged file 1 at {place}\n".encode())
     middle.write_bytes(whole[:5] + b"\t" + whole[6:])
     refused_in_8(program, b"dbgrec: refused 1 Damaged file 1 at 0\n")
