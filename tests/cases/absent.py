@@ -220,12 +220,12 @@ def a_wrap_that_is_gone_on_with_takes_its_own_count_of_files(program):
 
 @case
 def sizes_are_taken_in_powers_of_1024(program):
-    sizes = {"0K": 0, "1K": 1_024, "128K": 131_072, "1M": 1_048_576, "3G": 3_221_225_472, "4194303K": 4_294_966_272, "77": 77}
+    sizes = {"0K": 0, "1K": 1_024, "128K": 131_072, "1M": 1_048_576, "3G": 3_221_225_472, "4194303K": 4_294_966_272, "77": 77, "4G": 2**32 - 1, "4194304k": 2**32 - 1, "1m": 1_048_576}
     for text, size in sizes.items():
         program.good("record", f"w{text}-", *WRAP, "--size", text)
         same((program.folder / f"w{text}-0").read_bytes()[8:12], size.to_bytes(4, "big"))
     before = stored(program.folder)
-    for text in ("4G", "4194304K", "4096M", "K", "1KB", "1 K", "1.5K", "-1K", "1T", "18446744073709551616K", "18014398509481984K"):
+    for text in ("5G", "4194305K", "4097M", "4294967296", "K", "1KB", "1 K", "1.5K", "-1K", "1T", "18446744073709551616K", "18014398509481984K"):
         outcome = program.run("import", "t", *WRAP, f"--size={text}")
         assert outcome.status == 2 and outcome.errors and not outcome.output, f"{text}: {outcome}"
     same(stored(program.folder), before)
