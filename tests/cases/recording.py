@@ -95,8 +95,9 @@ def a_trace_of_another_kind_is_refused(program):
     program.good("record", "t0", stdin=b"abandon\n")
     program.refused("record", "t", *SMALL_WRAP, says="dbgrec: refused 3 WrongKind")
     program.good("record", "w", *SMALL_WRAP, stdin=b"abandon\n")
-    program.refused("record", "w0", says="dbgrec: refused 3 WrongKind")
-    program.refused("import", "w0", stdin=drop(1), says="dbgrec: refused 3 WrongKind")
+    for command in ("record", "import"):
+        program.refused(command, "w0", stdin=drop(1), says="dbgrec: refused 3 WrongKind
+w0 is a file of the wrap w: dbgrec import w")
     same(program.good("record", "w", *SMALL_WRAP), b"resumed 0\n")
 
 

@@ -284,4 +284,4 @@ def a_long_listing_shows_on_a_terminal_how_far_it_is(program):
         entries = int(words[0])
         same((words[1::2], words[4]), ([b"entries,", b"bytes,", b"dropped\x1b[K"], b"7"))
         same((entries % 1_024, int(words[2])), (0, len(drop(7)) + (entries - 1) * len(message(EXAMPLE))))
-    assert said.endswith(b"\r\x1b[K"), said
+    assert said.endswith(b"\r\x1b[Kdbgrec: t is open: import goes on with it\r\n"), said
