@@ -96,8 +96,7 @@ def a_trace_of_another_kind_is_refused(program):
     program.refused("record", "t", *SMALL_WRAP, says="dbgrec: refused 3 WrongKind")
     program.good("record", "w", *SMALL_WRAP, stdin=b"abandon\n")
     for command in ("record", "import"):
-        program.refused(command, "w0", stdin=drop(1), says="dbgrec: refused 3 WrongKind
-w0 is a file of the wrap w: dbgrec import w")
+        program.refused(command, "w0", stdin=drop(1), says="dbgrec: refused 3 WrongKind\nw0 is a file of the wrap w: dbgrec import w")
     same(program.good("record", "w", *SMALL_WRAP), b"resumed 0\n")
 
 
