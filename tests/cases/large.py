@@ -82,19 +82,23 @@ def told(program, *words, stdin=b""):
 
 
 def check(program, name, kind, count):
-    """A trace of so many entries is read, followed and gone on with."""
+    """A trace of so many entries is read and gone on with."""
     same(summed(program, "export", name), sum_of(ENTRY for _ in range(count)))
     same(told(program, "list", name), Outcome(0, lines_of(count) + b"end_of_trace\n", b""))
     found = json.loads(told(program, "info", "--json", name).output)
-    same(found["trace"]["entries"], count)
+    same(found["entries"], count)
     same(told(program, "import", name, *kind, "--keep-open", stdin=ENTRY), Outcome(0, f"resumed {count}\nkept {count + 1}\n".encode(), b""))
     same(told(program, "record", name, *kind, stdin=b"abandon\n"), Outcome(0, f"resumed {count + 1}\nok\n".encode(), b""))
-    follower = subprocess.Popen([*LIMITED, program.path, "list", "-f", name], cwd=program.folder, stdout=subprocess.PIPE, stderr=subprocess.PIPE)
+
+
+def check_followed(program, name, count):
+    """A file trace of so many entries is followed until it is sealed. Of a wrap the first look still holds its entries."""
+    follower = subprocess.Popen([*LIMITED, program.path, "list", "-f", name], cwd=program.folder, stdout=subprocess.PIPE, stderr=subprocess.PIPE, bufsize=0)
     with contextlib.closing(follower.stdout):
         some = follower.stdout.read(1)
-        same(told(program, "record", name, *kind, stdin=b"seal\n").status, 0)
+        same(told(program, "record", name, stdin=b"seal\n").status, 0)
         output, errors = follower.communicate(timeout=PATIENCE)
-    same((some + output, errors, follower.returncode), (lines_of(count + 1) + b"end_of_trace\n", b"", 0))
+    same((some + output, errors, follower.returncode), (lines_of(count) + b"end_of_trace\n", b"", 0))
 
 
 def damage(path, at):
@@ -107,7 +111,7 @@ def damage(path, at):
 def refusals(program, name, kind):
     """What each command says of a damaged trace, but for the numbers."""
     found = []
-    for words in (("list", name), ("export", name), ("info", name), ("list", "-f", name), ("import", name, *kind, "--keep-open"), ("record", name, *kind)):
+    for words in (("list", name), ("export", name), ("info", name), ("import", name, *kind, "--keep-open"), ("record", name, *kind)):
         outcome = program.run(*words, stdin=ENTRY, before=LIMITED)
         same((words, outcome.status), (words, 1))
         found.append(re.sub(rb"\d+", b"N", outcome.errors).replace(name.encode(), b"NAME"))
@@ -117,7 +121,9 @@ def refusals(program, name, kind):
 
 @case
 def a_file_of_a_gigabyte_is_read_and_gone_on_with_in_24_megabytes(program):
-    check(program, "t", (), file_trace(program, "t", 17_000))
+    count = file_trace(program, "t", 17_000)
+    check(program, "t", (), count)
+    check_followed(program, "t", count + 1)
 
 
 @case
@@ -138,7 +144,7 @@ def a_file_of_a_gigabyte_that_is_damaged_is_refused_as_a_small_one(program):
 @case
 def a_wrap_of_a_gigabyte_that_is_damaged_is_refused_as_a_small_one(program):
     said = []
-    for name, runs, last in (("s", 10, 5), ("l", RUN, RUN - 100)):
+    for name, runs, last in (("small", 10, 5), ("large", RUN, RUN - 100)):
         wrap_trace(program, name, runs, last)
         damage(program.folder / f"{name}3", 36 + (len(ENTRY) + 5) * (runs // 2) + 5)
         said.append(refusals(program, name, WRAP[:2]))
