@@ -16,7 +16,7 @@ CASES, case = group()
 
 WRAP = ("--kind", "wrap")
 
-SEALED = "dbgrec: refused 1 Sealed\nt is sealed: export keeps its entries, wipe clears it"
+SEALED = "dbgrec: refused 1 Sealed\n{} is sealed: export keeps its entries, wipe clears it"
 
 TRACES = ("plain", "stamped", "mono", "wrap", "ip", "node")
 
@@ -37,8 +37,8 @@ def imports(program, stream, *words):
 def an_import_is_sealed_at_the_end_of_its_input(program):
     imports(program, message(EXAMPLE) + drop(3))
     same(program.good("list", "t"), listing(0, 0, [example_line(0), "1 drop 3"]))
-    program.refused("import", "t", stdin=message(EXAMPLE), says=SEALED)
-    program.refused("record", "t", says=SEALED)
+    program.refused("import", "t", stdin=message(EXAMPLE), says=SEALED.format("t"))
+    program.refused("record", "t", says=SEALED.format("t"))
     same(program.good("export", "t"), message(EXAMPLE) + drop(3))
     same(program.good("wipe", "t"), b"ok\n")
     imports(program, drop(4))
@@ -64,7 +64,7 @@ def an_input_without_a_byte_does_nothing(program):
         before = stored(program.folder)
         same(program.run("import", name, *kind), NOTHING)
         same(stored(program.folder), before)
-        program.refused("import", name, *kind, stdin=drop(1), says=SEALED)
+        program.refused("import", name, *kind, stdin=drop(1), says=SEALED.format(name))
         for file in before:
             (program.folder / file).unlink()
 

@@ -54,7 +54,7 @@ def a_damaged_file_is_told_with_its_place(program):
     says = "dbgrec: refused 5 Recover 1 Damaged file 0 at 36\n"
     says += "t is damaged there: list shows the entries before it, wipe clears the trace"
     for command in ("record", "import"):
-        program.refused(command, "t", says=says)
+        program.refused(command, "t", stdin=drop(1), says=says)
 
 
 @case

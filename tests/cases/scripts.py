@@ -30,6 +30,9 @@ NEW_FILE_HEADER = b"DBT2" + bytes(31)
 # a batch of no entries
 SEAL = b"\1" + bytes(4)
 
+# what an import of one entry into no trace answers
+IMPORTED = b"created\nsealed 1\n"
+
 
 def lines(*words):
     return "".join(f"{line}\n" for line in words)
@@ -237,18 +240,19 @@ def options_are_read_in_any_order_and_either_form(program):
     commands = [
         (f"record {read} --size 0", b"created\n", "t/trace0.log", wrap_header(0, size=0)),
         ("wipe t/trace --count 2 --kind wrap --suffix .log", b"ok\n", None, None),
-        ("import t/trace --flush always --kind=wrap --suffix=.log --count=2 --time=1", b"created\nsealed 0\n", "t/trace0.log", timed_header(2, 1)),
-        (f"export {read}", b"", None, None),
+        ("import t/trace --flush always --kind=wrap --suffix=.log --count=2 --time=3600000", IMPORTED, "t/trace0.log", timed_header(2, 3_600_000)),
+        (f"export {read}", drop(1), None, None),
         ("record --time 4294967295 --kind file trace", b"created\n", "trace", NEW_FILE_HEADER),
         ("list trace", b"end_of_trace\n", None, None),
-        ("import other --flush never --size 4294967295", b"created\nsealed 0\n", "other", NEW_FILE_HEADER),
-        ("import third", b"created\nsealed 0\n", "third", NEW_FILE_HEADER),
+        ("import other --flush never --size 4294967295", IMPORTED, "other", NEW_FILE_HEADER),
+        ("import third", IMPORTED, "third", NEW_FILE_HEADER),
     ]
     for words, output, name, header in commands:
-        outcome = program.run(*words.split())
+        outcome = program.run(*words.split(), stdin=drop(1) if output == IMPORTED else b"")
         same((words, outcome.status, outcome.output), (words, 0, output))
         if name:
-            same((words, (program.folder / name).read_bytes()), (words, b"\1" + header.replace(b"DBT1", b"DBT2") + SEAL))
+            entries = [drop(1)] if output == IMPORTED else []
+            same((words, (program.folder / name).read_bytes()), (words, segment(header.replace(b"DBT1", b"DBT2"), *entries)[:-1] + SEAL))
     same(os.listdir(program.folder / "t"), ["trace0.log"])
 
 

@@ -117,7 +117,7 @@ def missing_from(program, base, name, what):
     outcome = program.run("info", base)
     same((outcome.status, outcome.errors), (1, f"dbgrec: refused 3 Sequence\n{second}\n".encode()))
     for command in ("import", "record"):
-        program.refused(command, base, says=f"dbgrec: refused 5 Recover 3 Sequence\n{second}")
+        program.refused(command, base, stdin=drop(1), says=f"dbgrec: refused 5 Recover 3 Sequence\n{second}")
 
 
 @case
@@ -144,7 +144,7 @@ def a_file_of_a_wrap_that_is_asked_for_says_so(program):
         program.good("import", base, "--kind", "wrap", "--count", "3", "--size", "0", *words, "--keep-open", stdin=drop(1) * 8)
         shown, ends = (f'"{base}"', f'"{base}2"') if " " in base else (base, f"{base}2{suffix}")
         for command in ("list", "export", "info", "import"):
-            outcome = program.run(command, f"{base}2{suffix}")
+            outcome = program.run(command, f"{base}2{suffix}", stdin=drop(1))
             option = f" --suffix {suffix}" if suffix else ""
             same((command, outcome.status), (command, 1))
             same(outcome.errors.split(b"\n")[1].decode(), f"{ends} is a file of the wrap {shown}: dbgrec {command} {shown}{option}")
