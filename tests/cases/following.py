@@ -129,10 +129,10 @@ def a_trace_that_is_not_there_is_waited_for(program):
             time.sleep(0.05)
             same(follower.process.poll(), None)
             with program.start("import", name, *words) as importer:
-                same(importer.line(), "created")
                 for number in range(14):
                     importer.write(message(EXAMPLE))
                     same(follower.line(), example_line(number))
+                same(importer.line(), "created")
                 same(importer.end().status, 0)
             same(end_of(follower), Outcome(0, END, b""))
 

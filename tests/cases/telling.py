@@ -251,10 +251,12 @@ def a_trace_that_is_not_sealed_is_told_at_a_terminal(program):
             said, _ = at_a_terminal(program, "list", name, *options)
             same(said, f"dbgrec: {name} is open: import goes on with it\n")
         with program.start("import", name) as importer:
+            importer.write(message(EXAMPLE)[:1])
             same(importer.line(), "resumed 3")
             same(at_a_terminal(program, "list", name), (f"dbgrec: {name} is being written: list -f follows it\n", whole))
+            importer.write(message(EXAMPLE)[1:])
             same(importer.end().status, 0)
-        same(at_a_terminal(program, "list", name), ("", whole))
+        same(at_a_terminal(program, "list", name), ("", program.good("list", name)))
         program.good("wipe", name)
         same(at_a_terminal(program, "list", name), ("", END))
 

@@ -5,6 +5,7 @@ import shutil
 import subprocess
 
 from cases import REPOSITORY, Skipped, group
+from entries import drop
 from program import same
 
 CASES, case = group()
@@ -91,7 +92,7 @@ def the_manual_page_names_the_options_of_the_help(program):
 @case
 def the_manual_page_has_its_parts_and_is_well_formed(program):
     found = re.findall(r"^\.Sh (.+)$", PAGE.read_text(), re.MULTILINE)
-    wanted = ["NAME", "SYNOPSIS", "DESCRIPTION", "OPTIONS", "FILES", "EXIT STATUS", "EXAMPLES", "DIAGNOSTICS", "SEE ALSO"]
+    wanted = ["NAME", "SYNOPSIS", "DESCRIPTION", "OPTIONS", "FILES", "EXIT STATUS", "EXAMPLES", "DIAGNOSTICS", "SEE ALSO", "CAVEATS"]
     same(found, wanted)
     if not shutil.which("mandoc"):
         raise Skipped("there is no mandoc to look at the page's form")
@@ -107,7 +108,7 @@ def the_version_is_told(program):
 @case
 def sizes_have_units_in_both_cases_and_a_limit(program):
     for size, is_taken in (("1k", "1024"), ("2K", "2048"), ("1m", "1048576"), ("4G", "4294967295"), ("4096M", "4294967295"), ("4194304k", "4294967295"), ("4294967295", "4294967295")):
-        program.good("import", size, "--kind", "wrap", "--size", size)
+        program.good("import", size, "--kind", "wrap", "--size", size, stdin=drop(1))
         same(re.search(r"^size: (\d+) bytes$", program.good("info", size).decode(), re.MULTILINE)[1], is_taken)
     for size in ("5G", "4097M", "4294967296", "1kk", "k", "1T", "-1", ""):
         outcome = program.run("import", "t", f"--size={size}")
