@@ -38,6 +38,7 @@ import memory
 import pretty
 import readings
 import recording
+import replacing
 import rows
 import scripts
 import telling
@@ -46,7 +47,7 @@ import wording
 from cases import Skipped
 from program import Program
 
-GROUPS = (rows, scripts, emitting, readings, listing, pretty, choosing, json_listing, recording, importing, info, foreign, absent, keeping, telling, crashes, images, machine, faults, locking, live, following, windows, large, wording, installing, memory, libraries)
+GROUPS = (rows, scripts, emitting, readings, listing, pretty, choosing, json_listing, recording, importing, info, foreign, absent, keeping, telling, crashes, images, machine, faults, locking, replacing, live, following, windows, large, wording, installing, memory, libraries)
 
 
 def words():
@@ -67,7 +68,7 @@ def copied(program, folder):
 
 
 def run(case, program, folder):
-    """Runs a case, and answers what is told of it."""
+    """Runs a case, and answers what is told of it. Its files go with it: some are of a gigabyte."""
     folder.mkdir()
     try:
         case(Program(program, folder))
@@ -75,6 +76,8 @@ def run(case, program, folder):
         return f"skipped ({why})"
     except Exception:
         return "FAILED\n" + traceback.format_exc()
+    finally:
+        shutil.rmtree(folder, ignore_errors=True)
     return "ok"
 
 

@@ -261,13 +261,16 @@ def the_folder_of_a_wrap_is_synced_once(program):
     found = syncs(program, "record", "w", *words, stdin=b"abandon\n")
     same(folders_in(found, program.folder), 1)
     same(len(set(found)), 1_002)
-    same(folders_in(syncs(program, "wipe", "w"), program.folder), 1)
+    wiped = syncs(program, "wipe", "w")
+    # once as it begins, and once for each file that replaces another
+    replaced = sum(path.endswith(".replacement") for path in wiped)
+    same((replaced, folders_in(wiped, program.folder)), (1_000, 1_001))
 
 
 @case
 def each_new_file_has_its_folder_synced(program):
     found = syncs(program, "import", "w", *WRAP, stdin=drop(1) * 90)
-    files = sorted(set(found) - {str(program.folder)})
+    files = sorted(path for path in set(found) - {str(program.folder)} if not path.endswith(".replacement"))
     same(len(files), 4)
     for path in files:
         # a file's first sync, and that of the folder, stand before its next one

@@ -18,7 +18,7 @@ WRAP = ("--kind", "wrap")
 
 SEALED = "dbgrec: refused 1 Sealed\n{} is sealed: export keeps its entries, wipe clears it"
 
-TRACES = ("plain", "stamped", "mono", "wrap", "ip", "node")
+TRACES = ("plain", "stamped", "mono", "wrap", "ip", "node", "forms")
 
 
 def stream_of(name):

@@ -45,6 +45,13 @@ def small_disk(folder):
         subprocess.run(["umount", str(disk)], check=True)
 
 
+def fill(disk):
+    """Fills a disk with a file."""
+    with open(disk / "other", "wb", buffering=0) as other, contextlib.suppress(OSError):
+        for _ in range(1_024):
+            other.write(bytes(4_096))
+
+
 def check_prefix(program, entries, *words):
     """Fails unless what is stored is a prefix of the entries, and answers its length."""
     left = split(program.good("export", *words))
@@ -95,9 +102,7 @@ def a_full_disk_under_a_wrap_is_told_with_the_file(program):
 @case
 def a_disk_without_room_for_a_trace_is_told(program):
     with small_disk(program.folder) as disk:
-        with open(disk / "other", "wb", buffering=0) as other, contextlib.suppress(OSError):
-            for _ in range(1_024):
-                other.write(bytes(4_096))
+        fill(disk)
         full = ' "disk/t": No space left on device (os error 28)'
         same(program.run("record", "disk/t"), told(1, f"dbgrec: refused 3 Device:{full}"))
         program.refused("list", "disk/t", says="dbgrec: disk/t: no such trace\ndisk/t is there and holds nothing: import begins a trace")

@@ -1,9 +1,11 @@
 /*
  * Calls of the system as the cases want them, for a program that this library is preloaded into:
- *   CALLS       a file that gets a line for each call that ended well: "sync PATH", "write PLACE HEX PATH", "cut LENGTH PATH"
+ *   CALLS       a file that gets a line for each call that ended well: "make PATH", "sync PATH", "write PLACE HEX PATH",
+ *               "cut LENGTH PATH", "rename FROM TO", "remove PATH"
  *   FAIL_SYNC   the end of a path, of which one sync fails ..
  *   FAIL_AFTER  .. behind so many (0 where it isn't said) ..
  *   FAIL_ERROR  .. with this number of errno (5, EIO, where it isn't said)
+ *   FAIL_RENAME each rename fails with this number of errno
  *   INTERRUPT   each second read of standard input is interrupted
  *   MOVE_FROM   a file, which gets another name ..
  *   MOVE_TO     .. this one ..
@@ -12,6 +14,7 @@
 #define _GNU_SOURCE
 #include <errno.h>
 #include <fcntl.h>
+#include <stdarg.h>
 #include <stdio.h>
 #include <stdlib.h>
 #include <string.h>
@@ -49,6 +52,39 @@ static void note(const char *what, const char *path)
         close(log);
     }
     errno = reason;
+}
+
+int open(const char *path, int flags, ...)
+{
+    va_list rest;
+    va_start(rest, flags);
+    int file = (int)syscall(SYS_openat, AT_FDCWD, path, flags, flags & O_CREAT ? va_arg(rest, mode_t) : 0);
+    va_end(rest);
+    if (file >= 0 && flags & O_EXCL)
+        note("make", path_of(file));
+    return file;
+}
+
+int rename(const char *from, const char *to)
+{
+    static char what[4200];
+    if (getenv("FAIL_RENAME")) {
+        errno = number("FAIL_RENAME", EPERM);
+        return -1;
+    }
+    int answer = (int)syscall(SYS_rename, from, to);
+    snprintf(what, sizeof what, "rename %s", from);
+    if (answer == 0)
+        note(what, to);
+    return answer;
+}
+
+int unlink(const char *path)
+{
+    int answer = (int)syscall(SYS_unlink, path);
+    if (answer == 0)
+        note("remove", path);
+    return answer;
 }
 
 static int is_to_fail(const char *path)
@@ -121,7 +157,7 @@ int ftruncate64(int file, off_t length)
 int flock(int file, int how)
 {
     static int locks;
-    if (getenv("MOVE_FROM") && ++locks == number("MOVE_LOCK", 1) && rename(getenv("MOVE_FROM"), getenv("MOVE_TO")))
+    if (getenv("MOVE_FROM") && ++locks == number("MOVE_LOCK", 1) && syscall(SYS_rename, getenv("MOVE_FROM"), getenv("MOVE_TO")))
         abort();
     return (int)syscall(SYS_flock, file, how);
 }

@@ -9,6 +9,9 @@ from program import PATIENCE, same
 
 SOURCE = pathlib.Path(__file__).resolve().parent / "preloaded.c"
 
+# how many words come before the path of a call
+WORDS = {"make": 1, "sync": 1, "cut": 2, "write": 3, "rename": 2, "remove": 1}
+
 
 def with_library(program, **wanted):
     """Words that run a command with the library preloaded, and the calls as they are wanted."""
@@ -28,4 +31,4 @@ def calls_of(program, *words, stdin=b"", status=0):
     same(outcome.status, status)
     lines = log.read_text().splitlines() if log.exists() else []
     log.unlink(missing_ok=True)
-    return [line.split(" ", {"sync": 1, "cut": 2, "write": 3}[line.split(" ", 1)[0]]) for line in lines]
+    return [line.split(" ", WORDS[line.split(" ", 1)[0]]) for line in lines]
