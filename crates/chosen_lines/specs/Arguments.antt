@@ -26,6 +26,7 @@ scan_bare scan byte =
     else if opens byte then record next { depth = scan.depth + 1 }
     else if closes scan.is_arrow byte then scan_closed next
     else if byte == 44 && scan.depth == 0 then record next { commas = scan.commas + 1 }
+    else if byte == 124 && scan.depth == 0 then record next { is_improper = true }
     else next
 
 abbrev pub scan_by_quote : Option ℕ → Scan → ℕ → Scan
@@ -38,12 +39,16 @@ scanned scan byte = if scan.is_over then scan else scan_by_quote scan.quote scan
 
 -- nothing is read yet
 abbrev pub unread : Scan
-unread = record { depth = 0; quote = None; is_escaped = false; is_arrow = false; commas = 0; is_over = false }
+unread = record { depth = 0; quote = None; is_escaped = false; is_arrow = false; commas = 0; is_improper = false; is_over = false }
 
--- the members of a list, of what stands after its first bracket: one more than the commas between them
-abbrev pub member_count : List ℕ → ℕ
-member_count [] = 0
-member_count (byte ∷ rest) = if byte == 93 then 0 else (fold scanned unread (byte ∷ rest)).commas + 1
+-- the members of a list of which so much is read: one more than the commas between them, and none of an improper one
+abbrev pub count_of : Scan → Option ℕ
+count_of scan = if scan.is_improper then None else Some (scan.commas + 1)
+
+-- the members of a list, of what stands after its first bracket
+abbrev pub member_count : List ℕ → Option ℕ
+member_count [] = Some 0
+member_count (byte ∷ rest) = if byte == 93 then Some 0 else count_of (fold scanned unread (byte ∷ rest))
 
 -- one byte of a text in quotes
 unfoldable pub spelled : Letters → ℕ → Letters
@@ -63,11 +68,11 @@ character_count text = (fold spelled no_letters text).count
 abbrev pub is_brace : ℕ → Bool
 is_brace byte = byte == 125
 
--- The number of arguments, of what stands after a function's name: the members of a list, which is told as a text where
+-- The number of arguments, of what stands after a function's name: the members of a proper list, which is told as a text where
 -- they are all printable, or a number.
 abbrev pub arity_told : List ℕ → Option ℕ
 arity_told [] = None
 arity_told (byte ∷ rest) =
-    if byte == 91 then Some (member_count rest)
+    if byte == 91 then member_count rest
     else if byte == 34 then Some (character_count rest)
     else number_told (before_first is_brace (byte ∷ rest))

@@ -16,6 +16,8 @@ pub struct Scan {
     pub is_arrow: bool,
     /// Commas between members of the list itself.
     pub commas: usize,
+    /// What isn't a list stands at its end, after a bar.
+    pub is_improper: bool,
     /// The list has ended.
     pub is_over: bool,
 }
@@ -38,6 +40,7 @@ impl Scan {
         is_escaped: false,
         is_arrow: false,
         commas: 0,
+        is_improper: false,
         is_over: false,
     };
 
@@ -107,6 +110,11 @@ impl Scan {
         } else if byte == b',' && self.depth == 0 {
             Scan {
                 commas: self.commas + 1,
+                ..next
+            }
+        } else if byte == b'|' && self.depth == 0 {
+            Scan {
+                is_improper: true,
                 ..next
             }
         } else {

@@ -26,15 +26,18 @@ fn letters_of(text: &[u8]) -> Letters
     letters
 }
 
-/// The members of a list, of what stands after its first bracket.
-fn member_count(text: &[u8]) -> usize
+/// The members of a proper list, of what stands after its first bracket.
+fn member_count(text: &[u8]) -> Option<u64>
     ensures { result ≡ member_count text.now }
 {
-    match text.first() {
-        None => 0,
-        Some(b']') => 0,
-        Some(_) => scan_of(text).commas + 1,
+    if text.is_empty() || text.starts_with(b"]") {
+        return Some(0);
     }
+    let scan = scan_of(text);
+    if scan.is_improper {
+        return None;
+    }
+    Some(scan.commas as u64 + 1)
 }
 
 /// The number of arguments, of what stands after a function's name.
@@ -42,7 +45,7 @@ pub fn arity_told(rest: &[u8]) -> Option<u64>
     ensures { result ≡ arity_told rest.now }
 {
     match rest.split_first()? {
-        (b'[', members) => Some(member_count(members) as u64),
+        (b'[', members) => member_count(members),
         (b'"', text) => Some(letters_of(text).count as u64),
         _ => number_told(cut_at(b'}', rest).0),
     }

@@ -10,10 +10,9 @@ mod members;
 mod signs;
 mod words;
 
-pub use arguments::Scan;
 pub use choice::{Choice, is_of_call};
 pub use counts::arity_told;
 pub use given::Given;
 pub use line_writer::{LineRule, LineWriter};
-pub use members::{after, after_word_of_call, members_of};
+pub use members::{after, cut_member, function_of, members_of};
 pub use words::{cut_word, index_of, number_told};

@@ -1,28 +1,10 @@
 -- What the text of a trace message tells of its process and its function.
-use Rattle.std.specs.Prelude.{ℕ, ◌+◌, Bool, Option, Some, None, List, [], ◌∷◌, ◌++◌, ◌&&◌, ◌||◌, nat_lt, take, drop, codes, is_some, is_none, if◌then◌else◌}
+use Rattle.std.specs.Prelude.{ℕ, Bool, Option, Some, None, List, [], ◌++◌, ◌&&◌, ◌||◌, codes, is_some, is_none, if◌then◌else◌}
 use Rattle.std.specs.Fmt.{decimal}
 use Rattle.std.specs.Option.{option_and_then, option_map}
-use Rattle.chosen_lines.specs.Arguments.{scanned, unread, arity_told}
-use Rattle.chosen_lines.specs.Members.{after, members_of, after_word_of_call}
+use Rattle.chosen_lines.specs.Arguments.{arity_told}
+use Rattle.chosen_lines.specs.Members.{after, members_of, first_member, after_first_member, function_of}
 use Rattle.chosen_lines.specs.Lets.{is_of_call}
-use Rattle.chosen_lines.specs.declared.arguments.Scan.{Scan}
-
--- the first member of a list has ended
-abbrev pub has_ended : Scan → Bool
-has_ended scan = scan.is_over || nat_lt 0 scan.commas
-
--- how many bytes the first member has in what comes after so much of it
-unfoldable pub size_after : Scan → List ℕ → ℕ
-size_after scan [] = 0
-size_after scan (byte ∷ rest) = if has_ended (scanned scan byte) then 0 else 1 + size_after (scanned scan byte) rest
-
--- the first of these members, which have commas between them
-abbrev pub first_member : List ℕ → List ℕ
-first_member members = take (size_after unread members) members
-
--- what stands after it
-abbrev pub after_first_member : List ℕ → List ℕ
-after_first_member members = drop (size_after unread members) members
 
 -- what begins as a process or a port does, and not as a binary
 abbrev pub is_process : List ℕ → Bool
@@ -52,13 +34,9 @@ with_name of_module members = option_map (with_arguments of_module (first_member
 abbrev pub function_in : List ℕ → Option Function
 function_in members = option_and_then (with_name (first_member members)) (after (codes ",") (after_first_member members))
 
--- the function that is told to be called or returned from after the first of these members
-abbrev pub function_after : List ℕ → Option Function
-function_after members = option_and_then function_in (after_word_of_call (after_first_member members))
-
 -- the function of which a message of this kind tells
 abbrev pub function_told : List ℕ → List ℕ → Option Function
-function_told kind told = if is_of_call kind then option_and_then function_after (members_of told) else None
+function_told kind told = if is_of_call kind then option_and_then function_in (option_and_then function_of (members_of told)) else None
 
 abbrev pub arity_text : Option ℕ → List ℕ
 arity_text None = []

@@ -1,11 +1,10 @@
 //! What the text of a trace message tells of its process and its function.
-ghost use Rattle.std.specs.Prelude.{◌≡◌, ◌≤◌, length, option_map};
+ghost use Rattle.std.specs.Prelude.{◌≡◌, option_map};
 ghost use Rattle.std.specs.Option.{option_copied};
-ghost use Rattle.chosen_lines.specs.Arguments.{unread};
 ghost use Rattle.json_lines.specs.Seen.{seen};
-ghost use Rattle.json_lines.specs.Told.{size_after, first_member, after_first_member, is_process, process_in, process_told, function_in, function_told};
+ghost use Rattle.json_lines.specs.Told.{is_process, process_in, process_told, function_in, function_told};
 
-use chosen_lines::{Scan, after, after_word_of_call, arity_told, is_of_call, members_of};
+use chosen_lines::{after, arity_told, cut_member, function_of, is_of_call, members_of};
 
 /// A function, as a message tells it.
 #[derive(Clone, Copy, Debug)]
@@ -14,29 +13,6 @@ pub struct Called<'a> {
     pub name: &'a [u8],
     /// The number of its arguments, where it can be counted.
     pub arity: Option<u64>,
-}
-
-/// How many bytes the first of these members has.
-fn first_size(members: &[u8]) -> usize
-    ensures size { result ≡ size_after unread members.now }
-    ensures within { result ≤ length members.now }
-{
-    let mut scan = Scan::UNREAD;
-    for (index, byte) in members.iter().enumerate() {
-        scan = scan.read(*byte);
-        if scan.is_over || scan.commas > 0 {
-            return index;
-        }
-    }
-    members.len()
-}
-
-/// The first of these members, and what stands after it.
-fn cut_member(members: &[u8]) -> (&[u8], &[u8])
-    ensures first { result.0.now ≡ first_member members.now }
-    ensures rest { result.1.now ≡ after_first_member members.now }
-{
-    members.split_at(first_size(members))
 }
 
 /// Whether it begins as a process or a port does.
@@ -86,6 +62,5 @@ pub fn function_told<'a>(kind: &[u8], told: &'a [u8]) -> Option<Called<'a>>
     if !is_of_call(kind) {
         return None;
     }
-    let (_process, rest) = cut_member(members_of(told)?);
-    function_in(after_word_of_call(rest)?)
+    function_in(function_of(members_of(told)?)?)
 }

@@ -1,9 +1,9 @@
 use Rattle.std.proofs.Common.{◌≡◌, true, false, nat_lt, arith}
 use Rattle.std.proofs.lemmas.Bool.{or_left, or_right, or_from, lt-ltb, le-ltb}
-use Rattle.json_lines.specs.Told.{has_ended}
-use Rattle.json_lines.proofs.Measuring.{size-here, size-there, size-all}
-use Rattle.json_lines.proofs.told.first_size.Goals as goal
-use Rattle.json_lines.proofs.told.first_size.Goals.{then-scan-via-then-scan, then-scan-via-else-scan+then-scan-gt0}
+use Rattle.chosen_lines.specs.Members.{has_ended}
+use Rattle.chosen_lines.proofs.Measuring.{size-here, size-there, size-all}
+use Rattle.chosen_lines.proofs.members.first_size.Goals as goal
+use Rattle.chosen_lines.proofs.members.first_size.Goals.{then-scan-via-then-scan, then-scan-via-else-scan+then-scan-gt0}
 
 pub returns-then-scan-clause-size : goal.returns-then-scan-clause-size
 returns-then-scan-clause-size c =

@@ -3,7 +3,7 @@ use Rattle.std.proofs.Common.{◌≡◌, ℕ, zero, suc, ◌+◌, ◌<◌, ◌�
 use Rattle.std.proofs.lemmas.List.{drop_all}
 use Rattle.chosen_lines.specs.Arguments.{scanned}
 use Rattle.chosen_lines.specs.declared.arguments.Scan.{Scan}
-use Rattle.json_lines.specs.Told.{has_ended, size_after}
+use Rattle.chosen_lines.specs.Members.{has_ended, size_after}
 
 -- one byte of what is left
 size-step : (scan : Scan) (xs : List ℕ) (i : ℕ) → i < length xs

@@ -1,7 +1,7 @@
 use Rattle.std.proofs.Common.{◌≡◌, ◌+◌, ◌≤◌, drop}
 use Rattle.chosen_lines.specs.Arguments.{unread}
-use Rattle.json_lines.specs.Told.{size_after}
-use Rattle.json_lines.proofs.told.first_size.Given as goal
+use Rattle.chosen_lines.specs.Members.{size_after}
+use Rattle.chosen_lines.proofs.members.first_size.Given as goal
 
 abbrev pub invariant-loop-index : goal.invariant-loop-index
 invariant-loop-index l = record {
