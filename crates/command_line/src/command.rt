@@ -3,7 +3,7 @@ ghost use Rattle.std.specs.Prelude.{◌≡◌, IfOk, string_bytes};
 ghost use Rattle.std.specs.Option.{option_map, option_copied};
 
 use crate::function::{Function, function_in};
-use crate::kind::{Listing, kind_named};
+use crate::kind::is_kind;
 use crate::process::is_process;
 use crate::request::{
     Asked, Ending, Flushing, Misuse, Request, Rules, Shape, Shown, TraceRequest, Wanted,
@@ -200,7 +200,7 @@ fn only<'a>(alloc: Global) -> Arg<'a> {
         alloc,
         "only",
         "KIND[,KIND..]",
-        "Shows the entries of these kinds",
+        "Shows the entries of these kinds, as --pretty does",
     )
 }
 
@@ -209,7 +209,7 @@ fn pid<'a>(alloc: Global) -> Arg<'a> {
         alloc,
         "pid",
         "PID",
-        "Shows what this process did, of the text that a listing has for it, with or without < and >",
+        "Shows what this process did, of the text that a listing has for it, with or without < and >, as --pretty does",
     )
 }
 
@@ -218,7 +218,7 @@ fn mfa<'a>(alloc: Global) -> Arg<'a> {
         alloc,
         "mfa",
         "M[:F[/A]]",
-        "Shows calls of these functions, and what they return or raise",
+        "Shows calls of these functions, and what they return or raise, as --pretty does",
     )
 }
 
@@ -403,15 +403,13 @@ fn rules_in(matches: &ArgMatches<'_>) -> Rules {
     }
 }
 
-/// The kinds that are shown, if each word is one that a listing of this style may have.
-fn kinds_in<'a>(text: &'a str, is_pretty: bool) -> Result<&'a str, Misuse<'a>>
+/// The kinds that are shown, if each word is one.
+fn kinds_in<'a>(text: &'a str) -> Result<&'a str, Misuse<'a>>
     ensures { IfOk result (λ kinds. kinds.now ≡ text.entry.now) }
 {
     for word in text.split(',') {
-        match kind_named(word) {
-            None => return Err(Misuse::Kind(word)),
-            Some(Listing::Pretty) if !is_pretty => return Err(Misuse::PrettyKind(word)),
-            Some(_) => {}
+        if !is_kind(word) {
+            return Err(Misuse::Kind(word));
         }
     }
     Ok(text)
@@ -450,7 +448,7 @@ fn kept(alloc: Global, text: Option<&str>) -> Result<Option<String>, AllocError>
 fn kinds_asked<'a>(matches: &ArgMatches<'a>) -> Result<Option<&'a str>, Misuse<'a>> {
     match matches.get_str("only") {
         None => Ok(None),
-        Some(text) => Ok(Some(kinds_in(text, matches.get_flag("pretty"))?)),
+        Some(text) => Ok(Some(kinds_in(text)?)),
     }
 }
 
@@ -471,12 +469,20 @@ fn choice_in<'a>(alloc: Global, matches: &ArgMatches<'a>) -> Result<Option<Choic
     Ok(if choice.is_all() { None } else { Some(choice) })
 }
 
+/// Whether any term is shown. What looks at kinds, processes or functions looks at those of such a listing.
+fn is_pretty(matches: &ArgMatches<'_>) -> bool {
+    matches.get_flag("pretty")
+        || ["only", "pid", "mfa"]
+            .iter()
+            .any(|name| matches.get_str(name).is_some())
+}
+
 /// How a listing is to be shown.
 fn shown_in<'a>(alloc: Global, matches: &ArgMatches<'a>) -> Result<Shown, Misuse<'a>> {
     Ok(Shown {
         is_json: matches.get_flag("json"),
         choice: choice_in(alloc, matches)?,
-        is_plain: !matches.get_flag("pretty"),
+        is_plain: !is_pretty(matches),
     })
 }
 
@@ -493,7 +499,7 @@ fn trace_request_in<'a>(
         }),
         "list" => Some(TraceRequest::List {
             asked: asked_in(matches),
-            is_pretty: matches.get_flag("pretty"),
+            is_pretty: is_pretty(matches),
         }),
         "export" => Some(TraceRequest::Export(asked_in(matches))),
         "info" => Some(TraceRequest::Info {
@@ -516,7 +522,7 @@ fn request_in<'a>(alloc: Global, matches: &ArgMatches<'a>) -> Result<Request<'a>
     if name == "list" && matches.get_flag("follow") {
         return Ok(Request::Follow {
             asked: asked_in(matches),
-            is_pretty: matches.get_flag("pretty"),
+            is_pretty: is_pretty(matches),
             shown: shown_in(alloc, matches)?,
         });
     }
@@ -534,7 +540,7 @@ fn request_in<'a>(alloc: Global, matches: &ArgMatches<'a>) -> Result<Request<'a>
             },
         },
         None if name == "stream" => Request::Stream {
-            is_pretty: matches.get_flag("pretty"),
+            is_pretty: is_pretty(matches),
             shown: shown_in(alloc, matches)?,
         },
         None => Request::Sim,

@@ -1,14 +1,7 @@
 //! The words for kinds of entries.
 
-/// Which listings have a kind.
-#[derive(Clone, Copy, Debug, PartialEq, Eq)]
-pub enum Listing {
-    Any,
-    Pretty,
-}
-
-/// The kinds of every listing.
-const KINDS: [&str; 9] = [
+/// The kinds of a readable listing, those of every listing first.
+const KINDS: [&str; 32] = [
     "call",
     "return",
     "exception",
@@ -18,10 +11,6 @@ const KINDS: [&str; 9] = [
     "other",
     "opaque",
     "drop",
-];
-
-/// The other kinds of a readable one.
-const PRETTY_KINDS: [&str; 22] = [
     "return_to",
     "spawn",
     "spawned",
@@ -44,19 +33,10 @@ const PRETTY_KINDS: [&str; 22] = [
     "gc_max_heap_size",
     "open",
     "closed",
+    "seq_trace",
 ];
 
-fn contains(kinds: &[&str], word: &str) -> bool {
-    kinds.iter().any(|kind| *kind == word)
-}
-
-/// The listings that have the kind of this word, if it is one.
-pub fn kind_named(word: &str) -> Option<Listing> {
-    if contains(&KINDS, word) {
-        Some(Listing::Any)
-    } else if contains(&PRETTY_KINDS, word) {
-        Some(Listing::Pretty)
-    } else {
-        None
-    }
+/// Whether a listing may have a kind of this word.
+pub fn is_kind(word: &str) -> bool {
+    KINDS.iter().any(|kind| *kind == word)
 }

@@ -69,7 +69,7 @@ pub struct Shown {
     pub is_json: bool,
     /// The lines that are shown, where not all are.
     pub choice: Option<Choice>,
-    /// It may have lines that are opaque for want of `--pretty`.
+    /// It isn't readable: it may have lines that are opaque for want of `--pretty`.
     pub is_plain: bool,
 }
 
@@ -141,8 +141,6 @@ pub enum Misuse<'a> {
     Size(&'a str),
     /// A word of `--only` that is no kind.
     Kind(&'a str),
-    /// A word of `--only` that is a kind with `--pretty` alone.
-    PrettyKind(&'a str),
     /// The value of `--pid`.
     Process(&'a str),
     /// The value of `--mfa`.

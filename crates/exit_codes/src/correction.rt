@@ -16,7 +16,7 @@ const A_SIZE: &str =
 
 /// What may stand for the kinds of `--only`.
 const KINDS: &str =
-    "call, return, exception, send, send_lost, receive, other, opaque or drop, several with commas between them; with --pretty also OTP's other words, as spawn and exit";
+    "call, return, exception, send, send_lost, receive, other, opaque, drop or one of OTP's other words, as spawn, exit and seq_trace; several with commas between them";
 
 /// What may stand for the process of `--pid`.
 const A_PROCESS: &str =
@@ -36,16 +36,6 @@ fn refuse(rt: &HostRuntime, word: &str, option: &str, taken: &str) -> ExitCode
 {
     let _ = eprintln!(rt;
         "error: invalid value '{word}' for '{option}': {taken}\n\nFor more information, try '--help'."
-    );
-    ExitCode::from(2)
-}
-
-/// Tells that a kind is one of OTP's own words, which a plain listing doesn't have.
-fn refuse_pretty(rt: &HostRuntime, word: &str) -> ExitCode
-    ensures { exit_status result ≡ 2 }
-{
-    let _ = eprintln!(rt;
-        "error: '--only {word}' needs '--pretty': without it such a message is other or opaque\n\nFor more information, try '--help'."
     );
     ExitCode::from(2)
 }
@@ -106,7 +96,6 @@ pub fn correct(rt: &HostRuntime, misuse: Misuse<'_>) -> ExitCode
         Misuse::Form(error) => correct_form(rt, &error),
         Misuse::Size(text) => refuse(rt, text, "--size <BYTES>", A_SIZE),
         Misuse::Kind(word) => refuse(rt, word, "--only <KIND[,KIND..]>", KINDS),
-        Misuse::PrettyKind(word) => refuse_pretty(rt, word),
         Misuse::Process(text) => refuse(rt, text, "--pid <PID>", A_PROCESS),
         Misuse::Function(text) => refuse(rt, text, "--mfa <M[:F[/A]]>", A_FUNCTION),
     }
