@@ -5,7 +5,9 @@ _dbgrec() {
     local commands="import list export info wipe stream record sim"
     local readers="--kind --suffix --count" new="--size --time --after-failure"
     local chosen="--pretty --json --from --to --only --pid --mfa"
-    local kinds="call return exception send send_lost receive other opaque drop" kind told=
+    local kinds="call return exception send send_lost receive other opaque drop seq_trace return_to spawn spawned exit" kind told=
+    kinds+=" register unregister link unlink getting_linked getting_unlinked in in_exiting out out_exiting out_exited"
+    kinds+=" gc_minor_start gc_minor_end gc_major_start gc_major_end gc_max_heap_size open closed"
 
     # bash parts `--kind=wrap` at the sign
     if [[ $word == = ]]; then

@@ -22,6 +22,7 @@ import emitting
 import faults
 import following
 import foreign
+import forms
 import images
 import importing
 import info
@@ -47,7 +48,7 @@ import wording
 from cases import Skipped
 from program import Program
 
-GROUPS = (rows, scripts, emitting, readings, listing, pretty, choosing, json_listing, recording, importing, info, foreign, absent, keeping, telling, crashes, images, machine, faults, locking, replacing, live, following, windows, large, wording, installing, memory, libraries)
+GROUPS = (rows, scripts, emitting, readings, listing, pretty, forms, choosing, json_listing, recording, importing, info, foreign, absent, keeping, telling, crashes, images, machine, faults, locking, replacing, live, following, windows, large, wording, installing, memory, libraries)
 
 
 def words():

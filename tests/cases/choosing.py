@@ -1,5 +1,5 @@
 """Cases of the options that choose the lines of a listing. Which lines are to be shown is found in the messages
-themselves, read by the tables; the lines are those of the whole listing."""
+themselves, read by the tables; the lines are those of the whole listing, readable where the option looks at a message."""
 
 import dataclasses
 import random
@@ -14,7 +14,7 @@ CASES, case = group()
 
 STYLES = ((), ("-p",))
 
-KINDS = "call return exception send send_lost receive other opaque drop".split()
+KINDS = [*"call return exception send send_lost receive seq_trace other opaque drop".split(), *OTHER_WORDS]
 
 WRAP = ("--kind", "wrap", "--count", "3", "--size", "4000")
 
@@ -42,8 +42,16 @@ def told_by(entry):
         found.process = text(parts[1])
         if parts[2] == ("atom", ATOM_OF_EVENT.get(found.kind)):
             module, name, last = parts[3][1]
-            found.function = (text(module), text(name), last[1] if last[0] == "int" else len(last[1][0]))
+            found.function = (text(module), text(name), arity_of(last))
     return found
+
+
+def arity_of(last):
+    """A number of arguments; None where they are an improper list."""
+    if last[0] == "int":
+        return last[1]
+    members, tail = last[1]
+    return len(members) if tail is None else None
 
 
 @dataclasses.dataclass
@@ -55,6 +63,10 @@ class Asked:
     kinds: tuple = None
     process: str = None
     function: tuple = None
+
+    def is_of_messages(self):
+        """Whether more than a number is asked for."""
+        return (self.kinds, self.process, self.function) != (None, None, None)
 
     def lets(self, number, shown, found):
         """Whether the line of an entry is shown: its number, the word of its kind, and what its message tells."""
@@ -106,12 +118,18 @@ class Listed:
         if style or stored == split(self.stream):
             yield ("stream", *style), self.stream, split(self.stream)
 
+    def whole_for(self, words, asked):
+        """The whole listing and the entries of which these words show those that are asked for."""
+        if asked.is_of_messages() and "-p" not in words:
+            words = (words[0], "-p", *words[1:])
+        return self.whole[words]
+
     def shows(self, asked, *options, styles=STYLES):
         """Checks each listing with these options, which ask for that."""
         lines = 0
         for style in styles:
             for words, data, _ in self.listings(style):
-                listing, entries = self.whole[words]
+                listing, entries = self.whole_for(words, asked)
                 expected = chosen(listing, entries, asked)
                 same(self.program.good(*words, *options, stdin=data), expected)
                 lines += expected.count(b"\n")
@@ -143,10 +161,8 @@ def each_kind_is_chosen_by_its_word(program):
     listed = Listed(program, stream_of("node"))
     for word in KINDS:
         listed.shows(Asked(kinds=(word,)), "--only", word)
-    for word in OTHER_WORDS:
-        listed.shows(Asked(kinds=(word,)), "--only", word, styles=(("-p",),))
     listed.shows(Asked(kinds=("send", "receive", "call")), "--only", "send,receive,call")
-    listed.shows(Asked(kinds=("spawn", "exit")), "--only=spawn,exit", styles=(("-p",),))
+    listed.shows(Asked(kinds=("spawn", "exit")), "--only=spawn,exit")
 
 
 @case
@@ -189,14 +205,14 @@ def a_port_is_chosen_and_a_name_with_a_stroke(program):
     calls = [b"\x83\x68\x04" + short_atom("trace") + pid + short_atom("call") + b"\x68\x03" + short_atom("m") + short_atom(name) + b"\x61\x02" for name in names]
     stream = b"".join(map(message, [opened, *calls, head + pid + short_atom("send") + b"\x6a" + port]))
     listed = Listed(program, stream)
-    listed.shows(Asked(process="#Port<n@h.4.7>"), "--pid", "#Port<n@h.4.7>", styles=(("-p",),))
+    listed.shows(Asked(process="#Port<n@h.4.7>"), "--pid", "#Port<n@h.4.7>")
     for words in ("'n@h.example'.90.0.7", "<'n@h.example'.90.0.7>"):
-        listed.shows(Asked(process="<'n@h.example'.90.0.7>"), "--pid", words, styles=(("-p",),))
+        listed.shows(Asked(process="<'n@h.example'.90.0.7>"), "--pid", words)
     for name in names:
         bare = (f"m:{name}",) if name.endswith("-") else ()
         for words in (f"m:{name}/2", f"m:'{name}'/2", f"m:'{name}'", *bare):
             if "'" not in words or name != "f":
-                listed.shows(Asked(function=("m", name if name == "f" else f"'{name}'")), "--mfa", words, styles=(("-p",),))
+                listed.shows(Asked(function=("m", name if name == "f" else f"'{name}'")), "--mfa", words)
 
 
 @case
@@ -260,13 +276,13 @@ def random_messages_are_chosen(program):
         if "'" not in module + name:
             listed.shows(Asked(function=(module, name, arity)), "--mfa", f"{module}:{name}/{arity}")
     for word in ("call", "other", "spawn"):
-        listed.shows(Asked(kinds=(word,)), "--only", word, styles=(("-p",),))
+        listed.shows(Asked(kinds=(word,)), "--only", word)
 
 
 @case
 def what_is_listed_of_a_broken_stream_is_chosen_too(program):
     stream = stream_of("plain")
-    whole = program.run("stream", stdin=stream[:-1])
+    whole = program.run("stream", "-p", stdin=stream[:-1])
     outcome = program.run("stream", "--only", "call", stdin=stream[:-1])
     same((outcome.status, outcome.errors), (whole.status, whole.errors))
     same(outcome.output, chosen(whole.output, split(stream), Asked(kinds=("call",))))
@@ -284,7 +300,6 @@ def what_no_listing_can_show_is_refused(program):
     for command in (("stream",), ("list", "t")):
         misused(program, *command, "--only", "calls", says="'calls'")
         misused(program, *command, "--only", "call,", says="call, return, exception, send")
-        misused(program, *command, "--only", "spawn", says="needs '--pretty'")
         misused(program, *command, "--from", "x", says="--from")
         misused(program, *command, "--to=-1", says="--to")
         for function in ("", ":f", "m:", "m:f/", "m:f/x", "m:/2", "m,n", "m:f/1,m:g/2"):

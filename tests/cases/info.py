@@ -17,7 +17,7 @@ WRAP = ("--kind", "wrap")
 WORDS = (
     "call return exception return_to send send_lost receive spawn spawned exit register unregister link unlink "
     "getting_linked getting_unlinked in in_exiting out out_exiting out_exited gc_minor_start gc_minor_end "
-    "gc_major_start gc_major_end gc_max_heap_size open closed opaque other"
+    "gc_major_start gc_major_end gc_max_heap_size open closed seq_trace opaque other"
 ).split()
 
 # a message with a time stamp: {trace_ts,<nonode@nohost.80.0.0>,'receive',ok,STAMP}

@@ -7,6 +7,7 @@ import shutil
 import subprocess
 
 from cases import REPOSITORY, Skipped, group, is_root
+from choosing import KINDS
 from program import PATIENCE, Program, same
 from wording import COMMANDS, PAGE
 
@@ -22,7 +23,7 @@ FILES = {
 VALUES = {
     "--kind": ["file", "wrap"],
     "--flush": ["always", "never", "paused"],
-    "--only": ["call", "drop", "exception", "opaque", "other", "receive", "return", "send", "send_lost"],
+    "--only": sorted(KINDS),
 }
 
 # what a completion of these words would put in the place of the last one
@@ -132,7 +133,7 @@ def the_completion_offers_what_the_help_names(program):
             same(offered(program, command, "trace", option, "=", ""), VALUES[option])
             same(offered(program, command, "trace", option, "="), VALUES[option])
     same(offered(program, "list", "--count", ""), [])
-    same(offered(program, "list", "--only", "call,re"), ["call,receive", "call,return"])
+    same(offered(program, "list", "--only", "call,re"), ["call,receive", "call,register", "call,return", "call,return_to"])
 
 
 @case

@@ -33,7 +33,7 @@ def told_of_message(kind, text, entry):
         found["pid"] = told.process
     if told.function and kind in ATOM_OF_EVENT:
         module, name, arity = told.function
-        found["mfa"] = f"{module}:{name}/{arity}" if arity < 2**64 else f"{module}:{name}"
+        found["mfa"] = f"{module}:{name}/{arity}" if arity is not None and arity < 2**64 else f"{module}:{name}"
     return found | {"text": text}
 
 
@@ -139,7 +139,7 @@ def the_objects_of_chosen_lines_are_written(program):
     options = ("--from", "3", "--to=300", "--only", "call,return,drop", "--json")
     for style in STYLES:
         for words, data, _ in listed.listings(style):
-            listing, entries = listed.whole[words]
+            listing, entries = listed.whole_for(words, asked)
             check(chosen(listing, entries, asked), entries, program.good(*words, *options, stdin=data))
 
 

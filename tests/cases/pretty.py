@@ -148,10 +148,11 @@ def the_kind_goes_by_the_sorts_of_the_members(program):
     arity, reason = of[b"\x61\x02"], b"\x68\x02" + atom + text
     rows = [[], [text], [improper, text], [text, text, text], *([function] for function in of.values())]
     rows += [[arity, text], [of[b"\x6a"], text], [arity, reason], [of[b"\x6a"], reason], [arity, b"\x68\x02" + text + atom]]
-    stamps = [[], [b"\x61\x09"], [b"\x68\x03" + b"\x61\x01" * 3], [b"\x68\x02" + b"\x61\x01" * 2], [b"\x6e\x09\x00" + bytes([255]) * 9]]
-    words = [*OTHER_WORDS, "call", "return_from", "exception_from", "send", "send_to_non_existing_process", "receive", "seq"]
+    rows += [[*row, b"\x61\x03"] for row in rows]
+    stamps = [[], [b"\x61\x09"], [b"\x68\x03" + b"\x61\x01" * 3], [b"\x68\x02" + b"\x61\x01" * 2], [b"\x68\x01\x61\x01"], [b"\x6e\x09\x00" + bytes([255]) * 9]]
+    words = [*OTHER_WORDS, "call", "return_from", "exception_from", "send", "send_to_non_existing_process", "receive", "seq_trace"]
     messages = []
-    for head, tracee, word, row, stamp in itertools.product(("trace", "trace_ts", "tracer"), (pid, port, atom), words, rows, stamps):
+    for head, tracee, word, row, stamp in itertools.product(("trace", "trace_ts", "seq_trace"), (pid, port, atom), words, rows, stamps):
         parts = [short_atom(head), tracee, short_atom(word), *row, *stamp]
         messages.append(b"\x83\x68" + bytes([len(parts)]) + b"".join(parts))
     lists(program, messages)
