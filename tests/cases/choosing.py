@@ -141,8 +141,9 @@ def stream_of(name):
 
 
 def functions_in(stream):
-    """The functions that the messages tell of."""
-    return sorted({found.function for entry in split(stream) if entry[0] == 0 and (found := told_by(entry)).function})
+    """The functions that the messages tell of, with a number of arguments."""
+    found = {told_by(entry).function for entry in split(stream) if entry[0] == 0}
+    return sorted(function for function in found if function and function[2] is not None)
 
 
 @case
