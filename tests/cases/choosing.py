@@ -8,7 +8,7 @@ import struct
 from cases import STREAMS, group
 from entries import drop, kept, message, split
 from program import same
-from terms import AnyReader, OTHER_WORDS, Unread, Writer, kind, short_atom, text
+from terms import AnyReader, OTHER_WORDS, Unread, Writer, kind, name_text, short_atom, text
 
 CASES, case = group()
 
@@ -30,8 +30,8 @@ class Told:
     function: tuple = ()
 
 
-def told_by(entry):
-    """What the message of an entry tells."""
+def told_by(entry, name=name_text):
+    """What the message of an entry tells, by the text of an atom."""
     try:
         term = AnyReader(entry[5:]).whole()
     except Unread:
@@ -39,10 +39,10 @@ def told_by(entry):
     found = Told(kind(term))
     sort, parts = term
     if sort == "tuple" and len(parts) > 2 and parts[0] in (("atom", "trace"), ("atom", "trace_ts")):
-        found.process = text(parts[1])
+        found.process = text(parts[1], name)
         if parts[2] == ("atom", ATOM_OF_EVENT.get(found.kind)):
-            module, name, last = parts[3][1]
-            found.function = (text(module), text(name), arity_of(last))
+            module, function, last = parts[3][1]
+            found.function = (text(module, name), text(function, name), arity_of(last))
     return found
 
 

@@ -159,6 +159,38 @@ def the_kind_goes_by_the_sorts_of_the_members(program):
 
 
 @case
+def control_characters_beyond_ascii_are_told_by_their_numbers(program):
+    atom, node = b"\x77\x06a\xc2\x9b31m", b"\x77\x05n\xc2\x80@h"
+    texts = {
+        atom: r"'a\23331m'",
+        b"\x73\x02\x9f\xa0": "'\\237\u00a0'",
+        b"\x58" + node + bytes(12): r"<'n\200@h'.0.0.0>",
+        b"\x59" + node + bytes(8): r"#Port<'n\200@h'.0.0>",
+        b"\x5a\x00\x01" + node + bytes(8): r"#Ref<'n\200@h'.0.0>",
+        b"\x71" + atom + atom + b"\x61\x02": r"fun 'a\23331m':'a\23331m'/2",
+    }
+    # the pid comes twice: the text of the one before may be kept
+    listed = [f"{number} other {text}" for number, text in enumerate([*texts.values()] * 2)]
+    same(program.good("stream", "-p", stdin=b"".join(message(b"\x83" + data) for data in [*texts] * 2)), listing(0, 0, listed))
+
+
+@case
+def a_binary_is_text_of_utf8_where_it_can_be(program):
+    texts = {
+        "h\u00e5ll".encode(): '<<"h\u00e5ll"/utf8>>',
+        b"l\xe5ng": '<<"l\u00e5ng">>',
+        "\u20ac\n\"\U0001f600".encode(): '<<"\u20ac\\n\\"\U0001f600"/utf8>>',
+        "\u00e5\u0085".encode(): "<<195,165,194,133>>",
+        "\ufffe".encode(): "<<239,191,190>>",
+        b"\xc3\xa5\xc3": '<<"\u00c3\u00a5\u00c3">>',
+        b"abc": '<<"abc">>',
+        b"\x7f": "<<127>>",
+    }
+    stream = b"".join(message(b"\x83\x6d" + len(data).to_bytes(4, "big") + data) for data in texts)
+    same(program.good("stream", "-p", stdin=stream), listing(0, 0, [f"{number} other {text}" for number, text in enumerate(texts.values())]))
+
+
+@case
 def a_depth_of_256_is_listed_and_257_is_opaque(program):
     openings = [b"\x68\x01", b"\x69\x00\x00\x00\x01", b"\x6c\x00\x00\x00\x01\x61\x09", b"\x74\x00\x00\x00\x01\x61\x09"]
     messages = [b"\x83" + opening * depth + b"\x77\x01x" for opening in openings for depth in (255, 256, 257)]

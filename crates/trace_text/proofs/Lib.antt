@@ -1,4 +1,5 @@
 pub mod Digits
+pub mod Characters
 pub mod SpelledLemmas
 pub mod Telling
 pub mod WholeDecimal

@@ -6,6 +6,7 @@ pub mod Spelled
 pub mod AnyTerm
 pub mod SpellsAny
 pub mod AnyReading
+pub mod Controls
 pub mod Pretty
 pub mod PrettyWords
 pub mod Sights

@@ -8,6 +8,7 @@ mod any_term;
 mod atom_text;
 mod big_text;
 mod char_text;
+mod controls;
 mod float_text;
 mod last_pid;
 mod line;
