@@ -1,5 +1,6 @@
 """Cases of a trace that is followed: `list --follow`."""
 
+import re
 import signal
 import subprocess
 import time
@@ -15,6 +16,10 @@ CASES, case = group()
 END = b"end_of_trace\n"
 
 SMALL = ("--kind", "wrap", "--count", "2", "--size", "100")
+
+# seconds after which a follower to whom nothing comes waits for long, and reads of a second that it makes then at most
+LONG = 2.5
+FEW = 100
 
 
 def end_of(follower):
@@ -67,6 +72,26 @@ def objects_and_chosen_lines_of_what_is_added_come_at_once(program):
             same(lines.encode() + end_of(told).output, program.good("list", "--json", "t"))
             same(end_of(chosen), Outcome(0, END, b""))
             same(f"{first}\n{lost}\n".encode() + end_of(both).output, program.good("list", "--json", "--to", "0", "t"))
+
+
+def reads_of(follower):
+    """How many calls a follower has made that read."""
+    with open(f"/proc/{follower.process.pid}/io", encoding="ascii") as counts:
+        return int(re.search(r"syscr: (\d+)", counts.read())[1])
+
+
+@case
+def a_follower_to_whom_nothing_comes_reads_seldom_and_then_lists_what_comes(program):
+    program.good("import", "w", *WRAP, "--keep-open", stdin=message(EXAMPLE) * 3)
+    with program.start("list", "-f", "w") as follower:
+        same([follower.line() for _ in range(3)], [example_line(number) for number in range(3)])
+        time.sleep(LONG)
+        before = reads_of(follower)
+        time.sleep(2)
+        made = reads_of(follower) - before
+        assert 0 < made <= 2 * FEW, made
+        program.good("import", "w", *WRAP, stdin=drop(1))
+        same(end_of(follower), Outcome(0, b"3 drop 1\n" + END, b""))
 
 
 @case

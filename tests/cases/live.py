@@ -2,6 +2,7 @@
 
 import contextlib
 import fcntl
+import json
 import struct
 import threading
 import time
@@ -145,6 +146,23 @@ def a_wrap_that_is_written_is_never_refused(program):
 
 
 @case
+def what_a_wrap_holds_that_is_written_is_told_in_numbers(program):
+    windows = []
+    with program.start("import", "w", *WRAP) as importer:
+        same(importer.opens(), "created")
+        with Feeder(importer) as feeder:
+            feeder.wait(A_LAP)
+            for _ in range(TRIES // 2):
+                told = json.loads(program.good("info", "--json", "w"))
+                same((told["entries"], told["state"]), (told["last"] - told["first"] + 1, "being written"))
+                windows.append((told["first"], told["entries"]))
+                feeder.tries += 1
+        same(importer.end().status, 0)
+    never_goes_back(windows)
+    assert windows[0][0] < windows[-1][0], "it didn't turn meanwhile"
+
+
+@case
 def a_wrap_that_is_begun_is_never_refused(program):
     """Its files are made while it is listed and exported: what isn't there at first is there at the next look."""
     entries = b"".join(entry(number) for number in range(ENTRIES))
@@ -212,7 +230,7 @@ def a_wrap_that_stays_refused_while_it_is_locked_says_so(program):
 
 
 @case
-def a_large_wrap_that_is_written_is_read_through_before_its_first_line(program):
+def a_wrap_that_is_written_is_listed_up_to_its_damage_as_any(program):
     sent = message(bytes(60_000))
     header = {"size": 1_170_000, "count": 4}
     for file in range(3):
@@ -226,11 +244,8 @@ def a_large_wrap_that_is_written_is_read_through_before_its_first_line(program):
         same(program.good("list", *wrap), listing(0, 0, lines))
         same(program.good("export", *wrap), sent * 60)
         (program.folder / "w1").write_bytes(damaged)
-        for command in ("list", "export"):
+        for command, output in (("list", "".join(f"{line}\n" for line in lines[:20]).encode()), ("export", sent * 20)):
             ran = program.run(command, *wrap)
-            same((ran.status, ran.output), (1, b""))
+            same((ran.status, ran.output), (1, output))
             same(ran.errors.decode().splitlines(), ["dbgrec: refused 1 Damaged file 1 at 36", ADVICE])
-    # nobody writes it: what stands before the damage is shown at once
-    for command, output in (("list", "".join(f"{line}\n" for line in lines[:20]).encode()), ("export", sent * 20)):
-        ran = program.run(command, *wrap)
-        same((ran.status, ran.output), (1, output))
+

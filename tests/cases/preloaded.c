@@ -6,6 +6,7 @@
  *   FAIL_AFTER  .. behind so many (0 where it isn't said) ..
  *   FAIL_ERROR  .. with this number of errno (5, EIO, where it isn't said)
  *   FAIL_RENAME each rename fails with this number of errno
+ *   KILL_BEFORE the program is killed before the call of this number that changes a file or a folder, syncs or locks
  *   INTERRUPT   each second read of standard input is interrupted
  *   MOVE_FROM   a file, which gets another name ..
  *   MOVE_TO     .. this one ..
@@ -14,6 +15,7 @@
 #define _GNU_SOURCE
 #include <errno.h>
 #include <fcntl.h>
+#include <signal.h>
 #include <stdarg.h>
 #include <stdio.h>
 #include <stdlib.h>
@@ -27,6 +29,13 @@ static int number(const char *name, int otherwise)
 {
     const char *text = getenv(name);
     return text ? atoi(text) : otherwise;
+}
+
+static void begin(void)
+{
+    static int begun;
+    if (getenv("KILL_BEFORE") && ++begun == number("KILL_BEFORE", 0))
+        kill(getpid(), SIGKILL);
 }
 
 static const char *path_of(int file)
@@ -56,6 +65,8 @@ static void note(const char *what, const char *path)
 
 int open(const char *path, int flags, ...)
 {
+    if (flags & O_CREAT)
+        begin();
     va_list rest;
     va_start(rest, flags);
     int file = (int)syscall(SYS_openat, AT_FDCWD, path, flags, flags & O_CREAT ? va_arg(rest, mode_t) : 0);
@@ -68,6 +79,7 @@ int open(const char *path, int flags, ...)
 int rename(const char *from, const char *to)
 {
     static char what[4200];
+    begin();
     if (getenv("FAIL_RENAME")) {
         errno = number("FAIL_RENAME", EPERM);
         return -1;
@@ -81,6 +93,7 @@ int rename(const char *from, const char *to)
 
 int unlink(const char *path)
 {
+    begin();
     int answer = (int)syscall(SYS_unlink, path);
     if (answer == 0)
         note("remove", path);
@@ -99,6 +112,7 @@ static int is_to_fail(const char *path)
 static int sync_as_wanted(int file, long call)
 {
     const char *path = path_of(file);
+    begin();
     if (is_to_fail(path)) {
         errno = number("FAIL_ERROR", EIO);
         return -1;
@@ -122,6 +136,7 @@ int fdatasync(int file)
 ssize_t pwrite(int file, const void *data, size_t size, off_t place)
 {
     static char what[2 * MOST + 100];
+    begin();
     ssize_t written = syscall(SYS_pwrite64, file, data, size, place);
     if (written > MOST)
         abort();
@@ -142,6 +157,7 @@ ssize_t pwrite64(int file, const void *data, size_t size, off_t place)
 int ftruncate(int file, off_t length)
 {
     char what[100];
+    begin();
     int answer = (int)syscall(SYS_ftruncate, file, length);
     snprintf(what, sizeof what, "cut %lld", (long long)length);
     if (answer == 0)
@@ -157,6 +173,7 @@ int ftruncate64(int file, off_t length)
 int flock(int file, int how)
 {
     static int locks;
+    begin();
     if (getenv("MOVE_FROM") && ++locks == number("MOVE_LOCK", 1) && syscall(SYS_rename, getenv("MOVE_FROM"), getenv("MOVE_TO")))
         abort();
     return (int)syscall(SYS_flock, file, how);

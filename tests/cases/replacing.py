@@ -2,8 +2,11 @@
 
 import contextlib
 import fcntl
+import itertools
+import json
 import os
 import shutil
+import signal
 import subprocess
 import threading
 
@@ -35,7 +38,12 @@ def go_on(program, name="w", before=(), last=90):
     """Goes on with the wrap, and fails unless it is right then."""
     outcome = program.run("import", name, *WRAP, "--keep-open", stdin=b"".join(DROPS[9:last]), before=before)
     same(outcome, Outcome(0, f"resumed 9\nkept {last}\n".encode(), b""))
-    first, left = window(DROPS[:last], 0, 3)
+    check_window(program, last, name)
+
+
+def check_window(program, count, name="w"):
+    """So many entries were accepted, of which the wrap keeps the last."""
+    first, left = window(DROPS[:count], 0, 3)
     same(program.good("list", name), listing_of(left, first, sum(range(1, first + 1))))
 
 
@@ -395,3 +403,26 @@ def a_wrap_of_1001_files_is_read_with_1024_handles(program):
     going_on = program.run("import", *words, "--keep-open", before=limited(1_024), stdin=drop(1) * 9)
     same(going_on, Outcome(0, b"resumed 999\nkept 1008\n", b""))
     same(len(stored(program.folder)), 1_001)
+
+
+@case
+def a_kill_before_any_call_of_a_turn_leaves_what_is_listed_and_gone_on_with(program):
+    """Each entry ends a run. What a kill leaves is the wrap of a prefix, and the next recorder goes on with it."""
+    begin(program)
+    begun = stored(program.folder)
+    given = b"".join(DROPS[9:13])
+    for number in itertools.count(1):
+        for name in os.listdir(program.folder):
+            (program.folder / name).unlink()
+        for name, data in begun.items():
+            (program.folder / name).write_bytes(data)
+        ran = program.run("import", "w", *WRAP, "--keep-open", stdin=given, before=with_library(program, KILL_BEFORE=number))
+        if ran.status == 0:
+            break
+        same(ran.status, -signal.SIGKILL)
+        kept = json.loads(program.good("info", "--json", "w"))["last"] + 1
+        assert 9 <= kept <= 13, kept
+        check_window(program, kept)
+        same(program.good("import", "w", *WRAP, "--keep-open", stdin=b"".join(DROPS[kept:20])), f"resumed {kept}\nkept 20\n".encode())
+        check_window(program, 20)
+    assert number > 30, "a turn has more calls"

@@ -56,6 +56,7 @@ fn look_over(files: &mut Files<'_>) -> Result<Info, ReadFault>
             return Ok(info);
         }
         drop(info);
+        files.reopen();
         made += 1;
     }
 }

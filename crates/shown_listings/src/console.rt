@@ -16,6 +16,12 @@ const BETWEEN: u64 = 200;
 /// Milliseconds between two reads of an input that has nothing to read yet.
 const PAUSE: u64 = 10;
 
+/// Milliseconds between two looks at a trace to which nothing is added for long.
+const LONGEST_PAUSE: u64 = 1_000;
+
+/// How often a pause is doubled at most.
+const DOUBLINGS: u32 = 7;
+
 /// The system's clock, and standard error.
 #[derive(Drop)]
 pub struct Console {
@@ -103,6 +109,11 @@ impl Host for Console {
 
     fn pause(&mut self) {
         thread::sleep(&self.rt, Duration::from_millis(PAUSE));
+    }
+
+    fn rest(&mut self, idle: u32) {
+        let pause = PAUSE << idle.min(DOUBLINGS);
+        thread::sleep(&self.rt, Duration::from_millis(pause.min(LONGEST_PAUSE)));
     }
 }
 

@@ -14,4 +14,3 @@ pub mod MemDisk
 pub mod Crashes
 pub mod MemStore
 pub mod CopyLaws
-pub mod CopyStore

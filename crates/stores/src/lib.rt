@@ -1,9 +1,7 @@
-//! Stores of numbered files: one in memory, with every image that a crash may leave, one over the files of a folder, and a
-//! copy in memory that is only read.
+//! Stores of numbered files: one in memory, with every image that a crash may leave, and one over the files of a folder.
 #![tactic(auto)]
 
 mod call_record;
-mod copy_store;
 mod counts;
 mod crash;
 mod device_call;
@@ -21,7 +19,6 @@ mod pick;
 mod record;
 mod tally;
 
-pub use copy_store::CopyStore;
 pub use failure_mark::FailureMark;
 pub use fault::{FileFault, LockFault};
 pub use folder_store::FolderStore;
