@@ -38,6 +38,7 @@ use Rattle.recorder.specs.Files.{OnlyLooks, LooksOver, WasRecorded, WasFed, IsKe
 use Rattle.trace_recording.specs.Incoming.{Outside, outside}
 use Rattle.trace_recording.specs.Beginning.{Begins, EndsWithin, IsUnread}
 use Rattle.trace_recording.specs.declared.incoming.Incoming.{Incoming}
+use Rattle.trace_port.specs.Limits.{greatest_limit}
 use Rattle.script_port.specs.PortOpenings.{first_told, FitsStore, GoesOnOrBegins}
 use Rattle.trace_recording.specs.Openings.{wanted, KeepsTrace, IsWhyNotOpened}
 use Rattle.trace_places.specs.Places.{file_count, turn_of}
@@ -87,7 +88,7 @@ pub data Clears (clearing : Clearing) (old new : FolderStore) (was now : Option 
 -- a port was opened for a trace of this kind
 pub record IsOpened (spec : Spec) (old new : FolderStore) (opened : AnyOpening) (origin : Origin) : Type 0 where
   pub suits : FitsStore folder.ghosts opened new
-  pub opens : honest_of new → GoesOnOrBegins (reads_of old) (first_told opened (device new)) spec origin
+  pub opens : honest_of new → GoesOnOrBegins (reads_of old) (first_told opened (device new)) spec greatest_limit origin
   pub ours : honest_of new → HasNoForeign (reads_of old)
   pub moments : honest_of new → KeepsTrace (device old) (device new) spec
 

@@ -1,8 +1,10 @@
 -- A trace that is followed, look by look.
-use Rattle.std.specs.Prelude.{◌≡◌, ◌⊎◌, ℕ, Bool, Option, None, List, [], Result, Ok, Err}
+use Rattle.std.specs.Prelude.{◌≡◌, ◌⊎◌, ℕ, Bool, Option, None, List, Result, Ok, Err}
 use Rattle.std.specs.Io.KnownBytes.{Appends, Keeps}
-use Rattle.stores.specs.Events.{World}
-use Rattle.stores.specs.FolderStore.{past_of, honest_of, reads_of}
+use Rattle.trace_store.specs.Disk.{Image}
+use Rattle.stores.specs.CallRecords.{bytes_of}
+use Rattle.stores.specs.Events.{files_after, made_anew}
+use Rattle.stores.specs.FolderStore.{past_of, honest_of}
 use Rattle.stores.specs.declared.folder_store.FolderStore.{FolderStore}
 use Rattle.trace_text.specs.Lines.{end_text}
 use Rattle.trace_text.specs.declared.style.Style.{Style}
@@ -16,7 +18,6 @@ use Rattle.trace_follower.specs.declared.place.Look.{Look}
 use Rattle.trace_follower.specs.declared.place.Look.TheVariants as looks
 use Rattle.trace_advice.specs.Faults.{read_fault}
 use Rattle.trace_advice.specs.Complaints.{status_told}
-use Rattle.trace_places.specs.Places.{file_count}
 use Rattle.recorder.specs.Commands.{IsToldOf, style_of}
 use Rattle.recorder.specs.Files.{OnlyLooks}
 use Rattle.trace_advice.specs.declared.complaint.Complaint.{Complaint}
@@ -42,64 +43,88 @@ pub record IsNew (style : Style) (follower : Follower) : Type 0 where
   pub number : number_in follower ≡ 0
   pub place : follower.place ≡ None
 
--- a store over the files as they are now, of which nothing was asked yet
-pub record IsAnew (count : ℕ) (store : FolderStore) : Type 0 where
-  pub world : World
-  pub past : past_of store ≡ record { world = world; count = count; events = [] }
-
--- the store in which the files are: the one that was there, or one over the files as they are now; since then it was only looked at
-pub record IsLookedAt (count : ℕ) (old new : FolderStore) : Type 0 where
+-- the store was made anew over the files as they are now, and then they were only looked at
+pub record LooksAnew (old new : FolderStore) : Type 0 where
   pub start : FolderStore
-  pub is : (start ≡ old) ⊎ IsAnew count start
-  pub looked : (new ≡ start) ⊎ OnlyLooks start new
+  pub anew : past_of start ≡ made_anew (past_of old)
+  pub only_looks : OnlyLooks start new
 
--- one look at the files, by a store of its own: what it told is what was added since the last, as far as that store is honest
-pub record IsLook (count : ℕ) (old new : Follower) (was now : Option (List ℕ)) (look : Look) : Type 0 where
-  pub before : FolderStore
-  pub after : FolderStore
-  pub anew : IsAnew count before
-  pub only_looks : OnlyLooks before after
-  pub looked : honest_of after → HasLooked (style_in old) (reads_of before) (number_in old) (number_in new) was now new.place old.place look
+-- what a store that is made anew finds
+abbrev pub found_anew : FolderStore → Image
+found_anew store = bytes_of (files_after (made_anew (past_of store)))
+
+-- one look at the files as they are now: what it told is what was added since the last, as far as they are honest
+pub record IsLook (files looked : FolderStore) (old new : Follower) (was now : Option (List ℕ)) (look : Look) : Type 0 where
+  pub anew : LooksAnew files looked
+  pub found : honest_of looked
+      → HasLooked (style_in old) (found_anew files) (number_in old) (number_in new) was now new.place old.place look
   pub told : HasTold (style_in old) (number_in old) (number_in new) was now
   pub same_style : style_in new ≡ style_in old
 
+-- a look under which the files changed: it told nothing, and the next goes on where it began
+pub record IsMadeAgain (files looked : FolderStore) (old new : Follower) (was now : Option (List ℕ)) : Type 0 where
+  pub anew : LooksAnew files looked
+  pub number : number_in new ≡ number_in old
+  pub place : new.place ≡ old.place
+  pub same_style : style_in new ≡ style_in old
+  pub told : HasTold (style_in old) (number_in old) (number_in new) was now
+
 -- what came of one look
-abbrev pub IsSeen : ℕ → Follower → Follower → Option (List ℕ) → Option (List ℕ) → Seen → Type 0
-IsSeen count old new was now seen.Waits = IsLook count old new was now looks.Waits
-IsSeen count old new was now seen.Sealed = IsLook count old new was now looks.Sealed
-IsSeen count old new was now seen.Changed = (number_in new ≡ number_in old) × (new.place ≡ old.place) × (style_in new ≡ style_in old) × HasTold (style_in old) (number_in old) (number_in new) was now
+abbrev pub IsSeen : FolderStore → FolderStore → Follower → Follower → Option (List ℕ) → Option (List ℕ) → Seen → Type 0
+IsSeen files looked old new was now seen.Waits = IsLook files looked old new was now looks.Waits
+IsSeen files looked old new was now seen.Sealed = IsLook files looked old new was now looks.Sealed
+IsSeen files looked old new was now seen.Changed = IsMadeAgain files looked old new was now
 
--- looks one after the other, what each told written out before the next; where the files changed under a look, it told nothing and the next goes on where it began
-pub data Looks (count : ℕ) (first : Follower) (was : Option (List ℕ)) : Follower → Option (List ℕ) → Type 0 where
-  none : Looks count first was first was
-  waits : (mid last : Follower) (met told now : Option (List ℕ)) → Looks count first was mid met → IsLook count mid last met told looks.Waits → Keeps told now → Looks count first was last now
-  again : (mid last : Follower) (met told now : Option (List ℕ)) → Looks count first was mid met → IsSeen count mid last met told seen.Changed → Keeps told now
-      → Looks count first was last now
+-- it didn't come to the seal
+abbrev pub GoesOn : Seen → Type 0
+GoesOn seen.Sealed = ⊥
+GoesOn came = Unit {0}
 
--- how it ended: the last look came to the seal, and the last line was written; or a look failed, or what was told couldn't be written out
-pub data Ends (count : ℕ) (mid : Follower) (met now : Option (List ℕ)) : Result Unit ReadFault → Type 0 where
-  sealed : (last : Follower) (told : Option (List ℕ)) → IsLook count mid last met told looks.Sealed → Appends told now end_text → Ends count mid met now (Ok tt)
-  no_end : (last : Follower) (told : Option (List ℕ)) (fault : ReadFault) → IsLook count mid last met told looks.Sealed → AppendsPrefix told now end_text → Ends count mid met now (Err fault)
-  not_written_out : (last : Follower) → Looks count mid met last now → Ends count mid met now (Err faults.Write)
-  failed : (last : Follower) (fault : ReadFault) → IsStopped (style_in mid) (number_in mid) (number_in last) met now fault → Ends count mid met now (Err fault)
+-- what looks go on from: the store as the last one left it, what was told, and what the writer holds
+pub record Stand : Type 0 where
+  pub files : FolderStore
+  pub follower : Follower
+  pub holds : Option (List ℕ)
 
--- looks from a follower on, and how they ended
-pub record HasFollowed (count : ℕ) (first : Follower) (was now : Option (List ℕ)) (result : Result Unit ReadFault) : Type 0 where
-  pub last : Follower
-  pub met : Option (List ℕ)
-  pub looks : Looks count first was last met
-  pub ends : Ends count last met now result
+-- a look from one such stand to another, where this is what came of it
+abbrev pub Sees : Stand → Stand → Seen → Type 0
+Sees old new came = IsSeen old.files new.files old.follower new.follower old.holds new.holds came
 
--- a trace was followed from its first entry on, and what was told is written out
-pub record FollowsTrace (style : Style) (count : ℕ) (was now : Option (List ℕ)) (result : Result Unit Complaint) : Type 0 where
+-- looks one after the other that didn't come to the seal, what each told written out before the next
+pub data Looks (first : Stand) : Stand → Type 0 where
+  none : Looks first first
+  more : (mid last : Stand) (came : Seen) (now : Option (List ℕ)) → Looks first mid → Sees mid last came
+      → GoesOn came → Keeps last.holds now → Looks first (record last { holds = now })
+
+-- how it ended: the last look came to the seal, and the last line was written; or a look failed, or what was told
+-- couldn't be written out
+pub data Ends (mid : Stand) (files : FolderStore) (now : Option (List ℕ)) : Result Unit ReadFault → Type 0 where
+  sealed : (follower : Follower) (told : Option (List ℕ)) → IsLook mid.files files mid.follower follower mid.holds told looks.Sealed
+      → Appends told now end_text → Ends mid files now (Ok tt)
+  no_end : (follower : Follower) (told : Option (List ℕ)) (fault : ReadFault)
+      → IsLook mid.files files mid.follower follower mid.holds told looks.Sealed → AppendsPrefix told now end_text → Ends mid files now (Err fault)
+  not_written_out : mid.files ≡ files → mid.holds ≡ now → Ends mid files now (Err faults.Write)
+  failed : (follower : Follower) (fault : ReadFault) → LooksAnew mid.files files
+      → IsStopped (style_in mid.follower) (number_in mid.follower) (number_in follower) mid.holds now fault → Ends mid files now (Err fault)
+
+-- looks from a stand on, and how they ended
+pub record HasFollowed (first : Stand) (files : FolderStore) (now : Option (List ℕ)) (result : Result Unit ReadFault) : Type 0 where
+  pub last : Stand
+  pub looks : Looks first last
+  pub ends : Ends last files now result
+
+-- a trace was followed from its first entry on, and what was told is written out; then its files were read at most
+pub record FollowsTrace (style : Style) (old new : FolderStore) (was now : Option (List ℕ)) (result : Result Unit Complaint) : Type 0 where
   pub first : Follower
   pub is_new : IsNew style first
   pub done : Result Unit ReadFault
   pub mid : Option (List ℕ)
-  pub followed : HasFollowed count first was mid done
+  pub left : FolderStore
+  pub followed : HasFollowed (record { files = old; follower = first; holds = was }) left mid done
   pub out : Keeps mid now
   pub told : IsToldSo done result
+  pub only_looks : (new ≡ left) ⊎ OnlyLooks left new
 
 -- the trace of these files was followed, in the style that was asked for
-abbrev pub Follows : Bool → Files → Option (List ℕ) → Option (List ℕ) → Result Unit Complaint → Type 0
-Follows is_pretty files was now result = FollowsTrace (style_of is_pretty) (file_count files.place.kind) was now result
+abbrev pub Follows : Bool → Files → Files → Option (List ℕ) → Option (List ℕ) → Result Unit Complaint → Type 0
+Follows is_pretty old new was now result = FollowsTrace (style_of is_pretty) old.store new.store was now result

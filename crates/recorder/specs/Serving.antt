@@ -25,7 +25,7 @@ ServesTrace request old saw result was now = (observed : Observations) × (new :
 
 -- how a trace is followed, as a listing
 abbrev pub KeepsOn : Bool → Files → Listing
-KeepsOn is_pretty files result was now = Follows is_pretty files was now result
+KeepsOn is_pretty old result was now = (new : Files) × Follows is_pretty old new was now result
 
 -- what is done with the files of a trace, as a listing
 abbrev pub Does : Task → Files → Outside → Listing

@@ -18,9 +18,9 @@ use Rattle.script_port.specs.declared.reply.Origin.{Origin}
 use Rattle.script_port.specs.declared.reply.Origin.TheVariants.{Resumed}
 
 -- its port was run
-pub was_run : (origin : Origin) (spec : Spec) (old new : MemStore) (over : Stretch) (left : Result (Option Leave) SimFault) (Writes : List ℕ → Type 0) → WasRun origin spec old new over left Writes → ComesOf origin spec old new over (ended_so left) Writes
-was_run origin spec old new over (Ok left) Writes run = run
-was_run origin spec old new over (Err fault) Writes run = run
+pub was_run : (origin : Origin) (spec : Spec) (limit : ℕ) (old new : MemStore) (over : Stretch) (left : Result (Option Leave) SimFault) (Writes : List ℕ → Type 0) → WasRun origin spec limit old new over left Writes → ComesOf origin spec limit old new over (ended_so left) Writes
+was_run origin spec limit old new over (Ok left) Writes run = run
+was_run origin spec limit old new over (Err fault) Writes run = run
 
 -- a line was run whole, in a script of the same kind
 pub whole_so : (of_desk here : Bool) (line : Line) (old new : MemStore) (behind to : Progress) (result : Result Unit SimFault) (was now : Option (List ℕ)) → here ≡ of_desk → IsRunWhole line old new (stretch here behind to) result was now

@@ -33,6 +33,7 @@ use Rattle.trace_script.specs.Reading.{Progress, HasNext, HasEnded}
 use Rattle.script_port.specs.Sides.{Alone}
 use Rattle.script_port.specs.Read.{Stretch, stretch, first_lines, ReadsNothing, IsNoLine}
 use Rattle.script_port.specs.Held.{WasHeld}
+use Rattle.trace_port.specs.Limits.{greatest_limit}
 use Rattle.script_port.specs.PortOpenings.{first_told, GoesOnOrBegins, IsNoSpec}
 use Rattle.simulator.specs.Stored.{TellsStore, TellsFiles}
 use Rattle.script_port.specs.Texts.{greeting, line_of}
@@ -68,10 +69,10 @@ RanOn (openings.Wrap opening) origin old new over left Writes =
     WasHeld (wrap_told mem.ghosts pending.ghosts) Alone (wrap_opened_told pending.ghosts opening (device old)) (greeting origin) (length (reads_of old)) over left (device new) Writes
 
 -- a port was made over the store, and the lines after this one were run on it until it was given up
-pub record WasRun (origin : Origin) (spec : Spec) (old new : MemStore) (over : Stretch) (left : Result (Option Leave) SimFault) (Writes : List ℕ → Type 0) : Type 0 where
+pub record WasRun (origin : Origin) (spec : Spec) (limit : ℕ) (old new : MemStore) (over : Stretch) (left : Result (Option Leave) SimFault) (Writes : List ℕ → Type 0) : Type 0 where
   pub mid : MemStore
   pub opening : AnyOpening
-  pub opens : GoesOnOrBegins (reads_of old) (first_told opening (device mid)) spec origin
+  pub opens : GoesOnOrBegins (reads_of old) (first_told opening (device mid)) spec limit origin
   pub moments : LeavesSo origin spec old mid
   pub ran : RanOn opening origin mid new over left Writes
 
@@ -81,10 +82,10 @@ ended_so (Ok left) = Ok left
 ended_so (Err fault) = Err (stops.Failed fault)
 
 -- what comes of a line that makes a port, and of the stretch of the script after it: it was run so, or there is no port
-abbrev pub ComesOf : Origin → Spec → MemStore → MemStore → Stretch → Result (Option Leave) Stop → (List ℕ → Type 0) → Type 0
-ComesOf origin spec old new over (Ok left) Writes = WasRun origin spec old new over (Ok left) Writes
-ComesOf origin spec old new over (Err (stops.Failed fault)) Writes = WasRun origin spec old new over (Err fault) Writes
-ComesOf origin spec old new over (Err (stops.Refused refusal)) Writes = LeavesSo origin spec old new × ReadsNothing over × Writes []
+abbrev pub ComesOf : Origin → Spec → ℕ → MemStore → MemStore → Stretch → Result (Option Leave) Stop → (List ℕ → Type 0) → Type 0
+ComesOf origin spec limit old new over (Ok left) Writes = WasRun origin spec limit old new over (Ok left) Writes
+ComesOf origin spec limit old new over (Err (stops.Failed fault)) Writes = WasRun origin spec limit old new over (Err fault) Writes
+ComesOf origin spec limit old new over (Err (stops.Refused refusal)) Writes = LeavesSo origin spec old new × ReadsNothing over × Writes []
 
 -- a crash left what was picked of the store and is answered of, or it can't leave that and the store stays as it is
 pub data Crashes (unsynced : Unsynced) (old new : MemStore) : List ℕ → Type 0 where
@@ -136,11 +137,11 @@ IsNoWrap old new result Writes = (new ≡ old) × (result ≡ Err (stops.Refused
 
 -- what comes of a line, and of the stretch of the script after it that its port takes
 abbrev pub Runs : Line → MemStore → MemStore → Stretch → Result (Option Leave) Stop → (List ℕ → Type 0) → Type 0
-Runs (lines.CreateFile limit) old new over result Writes = ComesOf Created File old new over result Writes
-Runs (lines.ResumeFile limit) old new over result Writes = ComesOf Resumed File old new over result Writes
-Runs (lines.CreateWrap size count) old new over result Writes = ComesOf Created (Wrap size count) old new over result Writes ⊎ (IsNoSpec (Wrap size count) × IsNoWrap old new result Writes × ReadsNothing over)
-Runs (lines.CreateTime millis count) old new over result Writes = ComesOf Created (Timed millis count) old new over result Writes ⊎ (IsNoSpec (Timed millis count) × IsNoWrap old new result Writes × ReadsNothing over)
-Runs lines.ResumeWrap old new over result Writes = (spec : Spec) → ComesOf Resumed spec old new over result Writes
+Runs (lines.CreateFile limit) old new over result Writes = ComesOf Created File limit old new over result Writes
+Runs (lines.ResumeFile limit) old new over result Writes = ComesOf Resumed File limit old new over result Writes
+Runs (lines.CreateWrap size count) old new over result Writes = ComesOf Created (Wrap size count) greatest_limit old new over result Writes ⊎ (IsNoSpec (Wrap size count) × IsNoWrap old new result Writes × ReadsNothing over)
+Runs (lines.CreateTime millis count) old new over result Writes = ComesOf Created (Timed millis count) greatest_limit old new over result Writes ⊎ (IsNoSpec (Timed millis count) × IsNoWrap old new result Writes × ReadsNothing over)
+Runs lines.ResumeWrap old new over result Writes = (spec : Spec) → ComesOf Resumed spec greatest_limit old new over result Writes
 Runs line old new over result Writes = DoesAlone line old new result Writes × ReadsNothing over
 
 -- a line was run whole: with its port, if it made one, the stretch of the script that this took, and what is answered once that is no more

@@ -6,6 +6,7 @@ ghost use Rattle.trace_script.specs.Lines.{IsWithinLimits, IsOfFiles};
 ghost use Rattle.segment.specs.Specification.{Spec, File};
 ghost use Rattle.wrap_port.specs.WrapSpecs.{wrap_seen};
 ghost use Rattle.script_port.specs.{LinesRun.Answering, LinesRun.RunsLines, PortOpenings.FitsStore, Texts.line_of};
+ghost use Rattle.trace_port.specs.Limits.{greatest_limit};
 ghost use Rattle.simulator.specs.Simulated.{ended_so, RanOn, ComesOf, Crashes, Does, DoesAlone, Runs, IsRunWhole, Simulates, IsOver, IsItsFault, IsRun, first_of as first_told};
 ghost use Rattle.trace_port.specs.declared.create.CreateFault.TheVariants as creating;
 ghost use Rattle.script_port.specs.declared.fault.SimFault.TheVariants as faults;
@@ -208,7 +209,7 @@ fn create_file<R: BufRead, W: Write>(
     script: &mut Script<'_, R>,
     answers: &mut Answers<'_, W>,
 ) -> Result<Option<Leave>, Stop>
-    ensures comes { RunsLines R.Read W.Write script.old script.new answers.old answers.new (λ over was now. ComesOf Created File store.old store.new over result (λ text. Appends was now text)) }
+    ensures comes { RunsLines R.Read W.Write script.old script.new answers.old answers.new (λ over was now. ComesOf Created File limit store.old store.new over result (λ text. Appends was now text)) }
 {
     match begin_create(alloc, &mut *store, limit) {
         Ok(opening) => {
@@ -227,7 +228,7 @@ fn resume_file<R: BufRead, W: Write>(
     script: &mut Script<'_, R>,
     answers: &mut Answers<'_, W>,
 ) -> Result<Option<Leave>, Stop>
-    ensures comes { RunsLines R.Read W.Write script.old script.new answers.old answers.new (λ over was now. ComesOf Resumed File store.old store.new over result (λ text. Appends was now text)) }
+    ensures comes { RunsLines R.Read W.Write script.old script.new answers.old answers.new (λ over was now. ComesOf Resumed File limit store.old store.new over result (λ text. Appends was now text)) }
 {
     match begin_resume(alloc, &mut *store, limit) {
         Ok(opening) => {
@@ -245,7 +246,7 @@ fn resume_wrap<R: BufRead, W: Write>(
     script: &mut Script<'_, R>,
     answers: &mut Answers<'_, W>,
 ) -> Result<Option<Leave>, Stop>
-    ensures comes { RunsLines R.Read W.Write script.old script.new answers.old answers.new (λ over was now. (spec : Spec) → ComesOf Resumed spec store.old store.new over result (λ text. Appends was now text)) }
+    ensures comes { RunsLines R.Read W.Write script.old script.new answers.old answers.new (λ over was now. (spec : Spec) → ComesOf Resumed spec greatest_limit store.old store.new over result (λ text. Appends was now text)) }
 {
     match wrap_port::begin_resume(alloc, &mut *store) {
         Ok(opening) => {
@@ -264,7 +265,7 @@ fn create_wrap<R: BufRead, W: Write>(
     script: &mut Script<'_, R>,
     answers: &mut Answers<'_, W>,
 ) -> Result<Option<Leave>, Stop>
-    ensures comes { RunsLines R.Read W.Write script.old script.new answers.old answers.new (λ over was now. ComesOf Created (wrap_seen spec) store.old store.new over result (λ text. Appends was now text)) }
+    ensures comes { RunsLines R.Read W.Write script.old script.new answers.old answers.new (λ over was now. ComesOf Created (wrap_seen spec) greatest_limit store.old store.new over result (λ text. Appends was now text)) }
 {
     match wrap_port::begin_create(alloc, &mut *store, spec) {
         Ok(opening) => {

@@ -14,10 +14,10 @@ returns-in-Ok g c =
             name = c.hold.ensures.held.name;
             of_desk = c.hold.ensures.held.of_desk;
             reader = c.hold.ensures.held.reader;
-            did = rw c.hold.ensures.held.did.1 (was_run Created _ c.args.store.now c.hold.new.store _ c.hold.ensures.held.did.0 _ (record {
+            did = rw c.hold.ensures.held.did.1 (was_run Created _ c.args.limit c.args.store.now c.hold.new.store _ c.hold.ensures.held.did.0 _ (record {
               mid = c.begin_create.new.store;
               opening = openings.File c.in-Ok.opening;
-              opens = begins (is_blank (e.created.blank tt)) refl (e.fits tt);
+              opens = begins (is_blank (e.created.blank tt)) refl e.limit (e.fits tt);
               moments = (c.begin_create.ensures.creates.any_moment tt, c.begin_create.ensures.creates.not_blank_stays tt);
               ran = c.hold.ensures.held.did.2;
             }));

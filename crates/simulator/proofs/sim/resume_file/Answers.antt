@@ -16,10 +16,10 @@ returns-in-Ok g c =
             name = c.hold.ensures.held.name;
             of_desk = c.hold.ensures.held.of_desk;
             reader = c.hold.ensures.held.reader;
-            did = rw c.hold.ensures.held.did.1 (was_run Resumed File c.args.store.now c.hold.new.store _ c.hold.ensures.held.did.0 _ (record {
+            did = rw c.hold.ensures.held.did.1 (was_run Resumed File c.args.limit c.args.store.now c.hold.new.store _ c.hold.ensures.held.did.0 _ (record {
               mid = c.begin_resume.new.store;
               opening = openings.File c.in-Ok.opening;
-              opens = goes_on found.0 found.1 found.2;
+              opens = goes_on found.0 found.1 e.limit found.2;
               moments = only_kept File c.args.store.now c.begin_resume.new.store c.begin_resume.ensures.device.kept;
               ran = c.hold.ensures.held.did.2;
             }));

@@ -14,10 +14,10 @@ returns-in-Ok g c =
         did = λ spec.
             let e = c.in-Ok.ensures in
             let found = e.fits tt in
-            rw c.hold.ensures.held.did.1 (was_run Resumed spec c.args.store.now c.hold.new.store _ c.hold.ensures.held.did.0 _ (record {
+            rw c.hold.ensures.held.did.1 (was_run Resumed spec _ c.args.store.now c.hold.new.store _ c.hold.ensures.held.did.0 _ (record {
               mid = c.begin_resume.new.store;
               opening = openings.Wrap c.in-Ok.opening;
-              opens = goes_on found.0 found.1 found.2;
+              opens = goes_on found.0 found.1 c.in-Ok.opening.longest found.2;
               moments = c.begin_resume.ensures.any_moment tt;
               ran = c.hold.ensures.held.did.2;
             }));
