@@ -1,5 +1,5 @@
 -- A trace that is followed, look by look.
-use Rattle.std.specs.Prelude.{◌≡◌, ◌⊎◌, ℕ, Bool, Option, None, List, Result, Ok, Err}
+use Rattle.std.specs.Prelude.{◌≡◌, ◌⊎◌, ℕ, ◌+◌, ◌≤◌, Bool, Option, None, List, Result, Ok, Err}
 use Rattle.std.specs.Io.KnownBytes.{Appends, Keeps}
 use Rattle.trace_store.specs.Disk.{Image}
 use Rattle.stores.specs.CallRecords.{bytes_of}
@@ -20,6 +20,7 @@ use Rattle.trace_advice.specs.Faults.{read_fault}
 use Rattle.trace_advice.specs.Complaints.{status_told}
 use Rattle.recorder.specs.Commands.{IsToldOf, style_of}
 use Rattle.recorder.specs.Files.{OnlyLooks}
+use Rattle.recorder.specs.Live.{MayHaveChanged}
 use Rattle.trace_advice.specs.declared.complaint.Complaint.{Complaint}
 use Rattle.recorder.specs.declared.files.Files.{Files}
 use Rattle.recorder.specs.declared.following.Seen.{Seen}
@@ -61,9 +62,11 @@ pub record IsLook (files looked : FolderStore) (old new : Follower) (was now : O
   pub told : HasTold (style_in old) (number_in old) (number_in new) was now
   pub same_style : style_in new ≡ style_in old
 
--- a look under which the files changed: it told nothing, and the next goes on where it began
+-- a look that was refused by a fault that may come of files that changed: it told nothing, and the next goes on where it began
 pub record IsMadeAgain (files looked : FolderStore) (old new : Follower) (was now : Option (List ℕ)) : Type 0 where
   pub anew : LooksAnew files looked
+  pub fault : ReadFault
+  pub changed : MayHaveChanged fault
   pub number : number_in new ≡ number_in old
   pub place : new.place ≡ old.place
   pub same_style : style_in new ≡ style_in old
@@ -90,11 +93,17 @@ pub record Stand : Type 0 where
 abbrev pub Sees : Stand → Stand → Seen → Type 0
 Sees old new came = IsSeen old.files new.files old.follower new.follower old.holds new.holds came
 
--- looks one after the other that didn't come to the seal, what each told written out before the next
-pub data Looks (first : Stand) : Stand → Type 0 where
-  none : Looks first first
-  more : (mid last : Stand) (came : Seen) (now : Option (List ℕ)) → Looks first mid → Sees mid last came
-      → GoesOn came → Keeps last.holds now → Looks first (record last { holds = now })
+-- how many looks in a row were refused, after one more
+abbrev pub refusals_after : Seen → ℕ → ℕ
+refusals_after seen.Changed n = n + 1
+refusals_after came n = 0
+
+-- looks one after the other that didn't come to the seal, what each told written out before the next; of those in a row
+-- at the end so many were refused, and never more than 31
+pub data Looks (first : Stand) : ℕ → Stand → Type 0 where
+  none : Looks first 0 first
+  more : (n : ℕ) (mid last : Stand) (came : Seen) (now : Option (List ℕ)) → Looks first n mid → Sees mid last came → GoesOn came
+      → refusals_after came n ≤ 31 → Keeps last.holds now → Looks first (refusals_after came n) (record last { holds = now })
 
 -- how it ended: the last look came to the seal, and the last line was written; or a look failed, or what was told
 -- couldn't be written out
@@ -110,7 +119,8 @@ pub data Ends (mid : Stand) (files : FolderStore) (now : Option (List ℕ)) : Re
 -- looks from a stand on, and how they ended
 pub record HasFollowed (first : Stand) (files : FolderStore) (now : Option (List ℕ)) (result : Result Unit ReadFault) : Type 0 where
   pub last : Stand
-  pub looks : Looks first last
+  pub refusals : ℕ
+  pub looks : Looks first refusals last
   pub ends : Ends last files now result
 
 -- a trace was followed from its first entry on, and what was told is written out; then its files were read at most
