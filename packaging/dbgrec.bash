@@ -31,8 +31,8 @@ _dbgrec() {
             case ${COMP_WORDS[1]} in
             import) offered="$readers $new --flush --keep-open --skip --help" ;;
             record) offered="$readers $new --help" ;;
-            list) offered="$readers $chosen --follow --help" ;;
-            export) offered="$readers --help" ;;
+            list) offered="$readers $chosen --follow --salvage --help" ;;
+            export) offered="$readers --salvage --help" ;;
             info) offered="$readers --json --help" ;;
             wipe) offered="$readers --force --help" ;;
             stream) offered="$chosen --help" ;;

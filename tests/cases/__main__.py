@@ -41,6 +41,7 @@ import readings
 import recording
 import replacing
 import rows
+import salvage
 import scripts
 import telling
 import windows
@@ -48,7 +49,7 @@ import wording
 from cases import Skipped
 from program import Program
 
-GROUPS = (rows, scripts, emitting, readings, listing, pretty, forms, choosing, json_listing, recording, importing, info, foreign, absent, keeping, telling, crashes, images, machine, faults, locking, replacing, live, following, windows, large, wording, installing, memory, libraries)
+GROUPS = (rows, scripts, emitting, readings, listing, pretty, forms, choosing, json_listing, recording, importing, info, foreign, absent, keeping, telling, crashes, images, machine, faults, locking, replacing, live, following, windows, salvage, large, wording, installing, memory, libraries)
 
 
 def words():

@@ -21,8 +21,8 @@ OF_LISTINGS = {"--pretty", "--json", "--from", "--to", "--only", "--pid", "--mfa
 COMMANDS = {
     "import": OF_NEW_FILES | {"--flush", "--keep-open", "--skip", "--after-failure"},
     "record": OF_NEW_FILES | {"--after-failure"},
-    "list": OF_FILES | OF_LISTINGS | {"--follow"},
-    "export": OF_FILES,
+    "list": OF_FILES | OF_LISTINGS | {"--follow", "--salvage"},
+    "export": OF_FILES | {"--salvage"},
     "info": OF_FILES | {"--json"},
     "wipe": OF_FILES | {"--force"},
     "stream": OF_LISTINGS,

@@ -6,7 +6,7 @@ use crate::function::{Function, function_in};
 use crate::kind::is_kind;
 use crate::process::is_process;
 use crate::request::{
-    Asked, Ending, Flushing, Misuse, Request, Rules, Shape, Shown, TraceRequest, Wanted,
+    Asked, Ending, Flushing, Form, Misuse, Request, Rules, Shape, Shown, TraceRequest, Wanted,
 };
 use crate::size::bytes_in;
 use chosen_lines::Choice;
@@ -244,18 +244,28 @@ fn follow<'a>(alloc: Global) -> Arg<'a> {
     .short('f')
 }
 
+/// The option that takes each file by itself.
+fn salvage<'a>(alloc: Global) -> Arg<'a> {
+    flag(
+        alloc,
+        "salvage",
+        "Where the trace is refused: shows what each of its files holds by itself, up to its damage, and what is missing between them; the exit status is 1",
+    )
+}
+
 fn list<'a>(alloc: Global, command: Command<'a>) -> Result<Command<'a>, AllocError> {
     let command = of_files(
         alloc,
         command,
         "With --from, --to, --only, --pid or --mfa it shows the entries of which all of these hold, each with its number, and all drop records.\n\nExample: dbgrec list -p trace",
     )?
-    .arg(follow(alloc))?;
+    .arg(follow(alloc))?
+    .arg(salvage(alloc).conflicts_with("follow")?)?;
     with_choice(alloc, command)
 }
 
 fn export<'a>(alloc: Global, command: Command<'a>) -> Result<Command<'a>, AllocError> {
-    of_files(alloc, command, "Example: dbgrec export trace > trace.out")
+    of_files(alloc, command, "Example: dbgrec export trace > trace.out")?.arg(salvage(alloc))
 }
 
 fn info<'a>(alloc: Global, command: Command<'a>) -> Result<Command<'a>, AllocError> {
@@ -486,6 +496,28 @@ fn shown_in<'a>(alloc: Global, matches: &ArgMatches<'a>) -> Result<Shown, Misuse
     })
 }
 
+/// The listing that is asked for.
+fn list_in<'a>(matches: &ArgMatches<'a>) -> TraceRequest<'a> {
+    let (asked, is_pretty) = (asked_in(matches), is_pretty(matches));
+    if matches.get_flag("salvage") {
+        let form = Form::Lines { is_pretty };
+        TraceRequest::Salvage { asked, form }
+    } else {
+        TraceRequest::List { asked, is_pretty }
+    }
+}
+
+/// The export that is asked for.
+fn export_in<'a>(matches: &ArgMatches<'a>) -> TraceRequest<'a> {
+    let asked = asked_in(matches);
+    if matches.get_flag("salvage") {
+        let form = Form::Stream;
+        TraceRequest::Salvage { asked, form }
+    } else {
+        TraceRequest::Export(asked)
+    }
+}
+
 /// What a subcommand of this name asks of a stored trace, if it is one for that.
 fn trace_request_in<'a>(
     name: &str,
@@ -497,11 +529,8 @@ fn trace_request_in<'a>(
             wanted: wanted_in(matches)?,
             rules: rules_in(matches),
         }),
-        "list" => Some(TraceRequest::List {
-            asked: asked_in(matches),
-            is_pretty: is_pretty(matches),
-        }),
-        "export" => Some(TraceRequest::Export(asked_in(matches))),
+        "list" => Some(list_in(matches)),
+        "export" => Some(export_in(matches)),
         "info" => Some(TraceRequest::Info {
             asked: asked_in(matches),
             is_json: matches.get_flag("json"),

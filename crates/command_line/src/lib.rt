@@ -10,5 +10,5 @@ mod size;
 
 pub use command::asked_for;
 pub use request::{
-    Asked, Ending, Flushing, Misuse, Request, Rules, Shape, Shown, TraceRequest, Wanted,
+    Asked, Ending, Flushing, Form, Misuse, Request, Rules, Shape, Shown, TraceRequest, Wanted,
 };

@@ -98,6 +98,18 @@ pub enum Request<'a> {
     },
 }
 
+/// How entries are written.
+#[derive(Clone, Copy, Debug, PartialEq, Eq)]
+pub enum Form {
+    /// As lines.
+    Lines {
+        /// Every term as a person at a node's shell would see it.
+        is_pretty: bool,
+    },
+    /// As an entry stream.
+    Stream,
+}
+
 /// What a command line asks of a stored trace.
 #[derive(Clone, Copy, Debug, PartialEq, Eq)]
 pub enum TraceRequest<'a> {
@@ -116,6 +128,11 @@ pub enum TraceRequest<'a> {
     },
     /// Write it as an entry stream.
     Export(Asked<'a>),
+    /// Write what each of its open files holds, whether or not they are a trace together.
+    Salvage {
+        asked: Asked<'a>,
+        form: Form,
+    },
     /// Tell what it holds, in numbers.
     Info {
         asked: Asked<'a>,

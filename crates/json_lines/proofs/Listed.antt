@@ -1,5 +1,5 @@
 -- The lines of a listing, by what they are made of.
-use Rattle.std.proofs.Common.{◌≡◌, ℕ, suc, ◌+◌, ◌≤◌, ◌<◌, ◌^◌, true, not, cond, Some, List, [], ◌∷◌, ◌++◌, length, take, drop, nat_le, codes, decimal, refl, sym, ◌∙◌, ap, subst, option_map, option_and_then, arith}
+use Rattle.std.proofs.Common.{◌≡◌, ℕ, suc, ◌+◌, ◌≤◌, ◌<◌, ◌^◌, true, not, cond, Some, None, List, [], ◌∷◌, ◌++◌, length, take, drop, nat_le, codes, decimal, refl, sym, ◌∙◌, ap, subst, option_map, option_and_then, arith}
 use Rattle.std.specs.Char.{is_ascii_digit, digit_value}
 use Rattle.std.specs.List.{position_or_len}
 use Rattle.std.specs.Str.{all_ascii_digits}
@@ -12,8 +12,8 @@ use Rattle.chosen_lines.specs.Lets.{number_of}
 use Rattle.chosen_lines.specs.Members.{after}
 use Rattle.chosen_lines.specs.Words.{is_blank, first_word, after_word, number_told}
 use Rattle.chosen_lines.proofs.Numbers.{told-number}
-use Rattle.json_lines.specs.Members.{of_number, of_text, of_count, of_entry, dropped_told, counts_told, of_other, of_line, members_of_line}
-use Rattle.json_lines.specs.Listed.{has_no_blank, before_line}
+use Rattle.json_lines.specs.Members.{of_number, of_text, of_count, of_entry, dropped_told, counts_told, missing_told, of_counts, of_other, of_line, members_of_line}
+use Rattle.json_lines.specs.Listed.{has_no_blank, before_line, missing_line}
 
 digit-least : (c : ℕ) → digit_value c < 10 → 48 ≤ c
 digit-least c small = grind (arith, nat_tests)
@@ -74,18 +74,26 @@ entry-told n kind told small unbroken =
 pub count-told : (name : List ℕ) (count : ℕ) → count < 2 ^ 64 → of_count name (decimal count) (number_told (decimal count)) ≡ of_number name count ∷ []
 count-told name count small = ap (of_count name (decimal count)) (decimal-told count small)
 
-pub before-told : (entries dropped : ℕ) → entries < 2 ^ 64 → dropped < 2 ^ 64
-    → members_of_line (before_line entries dropped) ≡ of_text (codes "kind") (codes "before") ∷ of_number (codes "entries") entries ∷ of_number (codes "dropped") dropped ∷ []
+-- the two numbers of such a line
+counts-told : (entries dropped : ℕ) → entries < 2 ^ 64 → dropped < 2 ^ 64 → counts_told (decimal entries ++ 32 ∷ (codes "dropped " ++ decimal dropped)) ≡ Some (entries, dropped)
 unfolding number_told after
-before-told entries dropped small_entries small_dropped =
-    let line : List ℕ = before_line entries dropped in
+counts-told entries dropped small_entries small_dropped =
     let after_entries : List ℕ = codes "dropped " ++ decimal dropped in
     let rest : List ℕ = decimal entries ++ 32 ∷ after_entries in
     let none = decimal-unbroken entries small_entries in
     let first : number_told (first_word rest) ≡ Some entries = ap number_told (word-first (decimal entries) after_entries none) ∙ decimal-told entries small_entries in
     let left : dropped_told rest ≡ Some dropped = ap (λ text. option_and_then number_told (after (codes "dropped ") text)) (word-after (decimal entries) after_entries none) ∙ decimal-told dropped small_dropped in
-    let counts : counts_told rest ≡ Some (entries, dropped) = ap (λ o. option_and_then (λ n. option_map (λ m. (n, m)) (dropped_told rest)) o) first ∙ ap (option_map (λ m. (entries, m))) left in
-    ap (of_other line) counts
+    ap (λ o. option_and_then (λ n. option_map (λ m. (n, m)) (dropped_told rest)) o) first ∙ ap (option_map (λ m. (entries, m))) left
+
+pub before-told : (entries dropped : ℕ) → entries < 2 ^ 64 → dropped < 2 ^ 64 → members_of_line (before_line entries dropped) ≡ of_counts (codes "before") (entries, dropped)
+unfolding number_told after
+before-told entries dropped small_entries small_dropped =
+    let line : List ℕ = before_line entries dropped in
+    ap (λ counts. of_other line counts (missing_told line)) (counts-told entries dropped small_entries small_dropped)
+
+pub missing-told : (entries dropped : ℕ) → entries < 2 ^ 64 → dropped < 2 ^ 64 → members_of_line (missing_line entries dropped) ≡ of_counts (codes "missing") (entries, dropped)
+unfolding number_told after
+missing-told entries dropped small_entries small_dropped = ap (of_other (missing_line entries dropped) None) (counts-told entries dropped small_entries small_dropped)
 
 pub end-told : members_of_line (codes "end_of_trace") ≡ of_text (codes "kind") (codes "end_of_trace") ∷ []
 unfolding number_told after

@@ -9,7 +9,7 @@ use Rattle.chosen_lines.specs.Words.{first_word, after_word, number_told, is_num
 use Rattle.json.specs.Tree.{HasNumbers, MembersHaveNumbers, depth, members_depth}
 use Rattle.json.proofs.Printed.Decimals.{IsNumber-decimal}
 use Rattle.json_lines.specs.Told.{process_told, function_told, function_text}
-use Rattle.json_lines.specs.Members.{Value, number, text, Member, of_text, of_some, of_count, of_message, of_told, dropped_told, counts_told, before_told, of_last, of_other, of_line, members_of_line}
+use Rattle.json_lines.specs.Members.{Value, number, text, Member, of_text, of_some, of_count, of_message, of_told, dropped_told, counts_told, before_told, missing_told, of_last, of_other, of_line, members_of_line}
 use Rattle.json_lines.specs.Objects.{value_of, members_as}
 
 abbrev IsSmall : Option ℕ → Type 0
@@ -81,12 +81,13 @@ small-of_told kind told =
 small-last : (line : List ℕ) → AreSmall (of_last line)
 small-last line = elim (bytes_eq line (codes "end_of_trace")) as (λ b. AreSmall (if b then of_text (codes "kind") line ∷ [] else of_text (codes "text") line ∷ [])) [ true ↦ (tt, tt) | false ↦ (tt, tt) ]
 
-small-other : (line : List ℕ) (counts : Option (ℕ × ℕ)) → AreTwoSmall counts → AreSmall (of_other line counts)
-small-other line None small = small-last line
-small-other line (Some counts) small = (tt, (small.0, (small.1, tt)))
+small-other : (line : List ℕ) (counts missing : Option (ℕ × ℕ)) → AreTwoSmall counts → AreTwoSmall missing → AreSmall (of_other line counts missing)
+small-other line None None small more = small-last line
+small-other line None (Some counts) small more = (tt, (more.0, (more.1, tt)))
+small-other line (Some counts) missing small more = (tt, (small.0, (small.1, tt)))
 
 small-line : (o : Option ℕ) (line : List ℕ) → IsSmall o → AreSmall (of_line o line)
-small-line None line small = small-other line (before_told line) (small-counts (after (codes "before entries ") line))
+small-line None line small = small-other line (before_told line) (missing_told line) (small-counts (after (codes "before entries ") line)) (small-counts (after (codes "missing entries ") line))
 small-line (Some n) line small = (small, (tt, small-of_told (kind_of line) (told_of line)))
 
 pub small-members : (line : List ℕ) → AreSmall (members_of_line line)

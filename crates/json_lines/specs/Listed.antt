@@ -14,3 +14,7 @@ entry_line n kind told = decimal n ++ 32 ∷ (kind ++ 32 ∷ told)
 -- the line of what came before the first entry
 abbrev pub before_line : ℕ → ℕ → List ℕ
 before_line entries dropped = codes "before entries " ++ (decimal entries ++ (codes " dropped " ++ decimal dropped))
+
+-- and of what is missing between two
+abbrev pub missing_line : ℕ → ℕ → List ℕ
+missing_line entries dropped = codes "missing entries " ++ (decimal entries ++ (codes " dropped " ++ decimal dropped))

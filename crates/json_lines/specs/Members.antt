@@ -57,17 +57,25 @@ counts_told rest = option_and_then (λ entries. option_map (λ dropped. (entries
 abbrev pub before_told : List ℕ → Option (ℕ × ℕ)
 before_told line = option_and_then counts_told (after (codes "before entries ") line)
 
+-- the same of a line that tells what is missing between two entries
+abbrev pub missing_told : List ℕ → Option (ℕ × ℕ)
+missing_told line = option_and_then counts_told (after (codes "missing entries ") line)
+
 -- the last line of a listing, or a line that no listing has
 abbrev pub of_last : List ℕ → List Member
 of_last line = if bytes_eq line (codes "end_of_trace") then of_text (codes "kind") line ∷ [] else of_text (codes "text") line ∷ []
 
--- a line that is no entry's
-abbrev pub of_other : List ℕ → Option (ℕ × ℕ) → List Member
-of_other line None = of_last line
-of_other line (Some counts) = of_text (codes "kind") (codes "before") ∷ of_number (codes "entries") counts.0 ∷ of_number (codes "dropped") counts.1 ∷ []
+-- a line that is no entry's, by what it tells of what came before, or else of what is missing
+abbrev pub of_counts : List ℕ → ℕ × ℕ → List Member
+of_counts kind counts = of_text (codes "kind") kind ∷ of_number (codes "entries") counts.0 ∷ of_number (codes "dropped") counts.1 ∷ []
+
+abbrev pub of_other : List ℕ → Option (ℕ × ℕ) → Option (ℕ × ℕ) → List Member
+of_other line None None = of_last line
+of_other line None (Some counts) = of_counts (codes "missing") counts
+of_other line (Some counts) missing = of_counts (codes "before") counts
 
 abbrev pub of_line : Option ℕ → List ℕ → List Member
-of_line None line = of_other line (before_told line)
+of_line None line = of_other line (before_told line) (missing_told line)
 of_line (Some n) line = of_entry n (kind_of line) (told_of line)
 
 -- the members of a line's object, in their order

@@ -3,7 +3,7 @@
 ghost use Rattle.std.specs.Prelude.{◌≡◌, ℕ, ◌<◌, ◌^◌, true, List, ◌∷◌, [], ◌++◌, codes, Some, Option};
 ghost use Rattle.std.specs.{Fmt.decimal, Io.KnownBytes.Appends};
 ghost use Rattle.json.specs.Json.{document};
-ghost use Rattle.json_lines.specs.Listed.{has_no_blank, entry_line, before_line};
+ghost use Rattle.json_lines.specs.Listed.{has_no_blank, entry_line, before_line, missing_line};
 ghost use Rattle.json_lines.specs.Members.{of_number, of_text, of_told, of_entry, members_of_line};
 ghost use Rattle.chosen_lines.specs.Lines.{HandsOn};
 ghost use Rattle.json_lines.specs.Objects.{object_of, object_text, object_line, objects_of};
@@ -28,5 +28,6 @@ pub fn entries_are_told()
 /// So do the lines that are no entry's.
 pub fn other_lines_are_told()
     ensures before { (entries dropped : ℕ) → entries < 2 ^ 64 → dropped < 2 ^ 64 → members_of_line (before_line entries dropped) ≡ of_text (codes "kind") (codes "before") ∷ of_number (codes "entries") entries ∷ of_number (codes "dropped") dropped ∷ [] }
+    ensures missing { (entries dropped : ℕ) → entries < 2 ^ 64 → dropped < 2 ^ 64 → members_of_line (missing_line entries dropped) ≡ of_text (codes "kind") (codes "missing") ∷ of_number (codes "entries") entries ∷ of_number (codes "dropped") dropped ∷ [] }
     ensures end { members_of_line (codes "end_of_trace") ≡ of_text (codes "kind") (codes "end_of_trace") ∷ [] }
 {}

@@ -3,3 +3,4 @@ pub mod Readings
 pub mod Commanding
 pub mod Followed
 pub mod Keeping
+pub mod Salvaged

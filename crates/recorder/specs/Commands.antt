@@ -1,5 +1,5 @@
 -- What a command does with the files of a trace.
-use Rattle.std.specs.Prelude.{◌≡◌, ◌⊎◌, ℕ, Bool, true, false, Option, None, List, [], Result, Ok, Err, IsSome, IfSome, OnOk, IfErr}
+use Rattle.std.specs.Prelude.{◌≡◌, ◌⊎◌, ℕ, Bool, true, false, Option, None, List, [], Result, Ok, Err, IsErr, IsSome, IfSome, OnOk, IfErr}
 use Rattle.std.specs.Io.KnownBytes.{Appends, Keeps}
 use Rattle.trace_store.specs.Disk.{Image}
 use Rattle.trace_store.specs.Moments.{LeavesOnly}
@@ -28,12 +28,15 @@ use Rattle.trace_reader.specs.declared.fault.WipeFault.{WipeFault}
 use Rattle.trace_reader.specs.declared.wiping.Clearing.{Clearing}
 use Rattle.trace_reader.specs.declared.wiping.Clearing.TheVariants.{Own, Any}
 use Rattle.command_line.specs.declared.request.Rules.{Rules}
+use Rattle.command_line.specs.declared.request.Form.{Form as Written}
+use Rattle.command_line.specs.declared.request.Form.TheVariants as written
 use Rattle.command_line.specs.declared.request.TraceRequest.{TraceRequest}
 use Rattle.command_line.specs.declared.request.TraceRequest.TheVariants as requests
 use Rattle.trace_advice.specs.Complaints.{status_told, IsToldAs}
 use Rattle.trace_advice.specs.Kept.{kept_told}
 use Rattle.script_port.specs.Faults.{status_of, run_fault}
 use Rattle.trace_advice.specs.Faults.{read_fault, wipe_fault}
+use Rattle.recorder.specs.Salvaging.{IsSalvage}
 use Rattle.recorder.specs.Files.{OnlyLooks, LooksOver, WasRecorded, WasFed, IsKeptOf}
 use Rattle.trace_recording.specs.Incoming.{Outside, outside}
 use Rattle.trace_recording.specs.Beginning.{Begins, EndsWithin, IsUnread}
@@ -135,6 +138,11 @@ abbrev pub style_of : Bool → Style
 style_of false = Plain
 style_of true = Pretty
 
+-- how entries are written
+abbrev pub written_as : Written → Form
+written_as (written.Lines is_pretty) = as_lines (style_of is_pretty)
+written_as written.Stream = as_bytes
+
 -- why the listing of a stream came to no end, and what is written then: by a fault, which is told, and the lines before it; or there was no room to read it, and nothing is written
 pub data EndsStream (style : Style) (had old new : Option (List ℕ)) (complaint : Complaint) : Type 0 where
   stopped : (fault : StreamFault) (left : Option (List ℕ)) → StopsBy style had left old new fault → complaint ≡ complaints.Fault (run_fault fault) None → EndsStream style had old new complaint
@@ -144,6 +152,7 @@ pub data EndsStream (style : Style) (had old new : Option (List ℕ)) (complaint
 abbrev pub Changes : TraceRequest → Type 0
 Changes (requests.List asked is_pretty) = ⊥
 Changes (requests.Export asked) = ⊥
+Changes (requests.Salvage asked form) = ⊥
 Changes (requests.Info asked is_json) = ⊥
 Changes _ = Unit {0}
 
@@ -151,6 +160,7 @@ Changes _ = Unit {0}
 abbrev pub Serves : TraceRequest → Files → Files → Outside → Observations → Option (List ℕ) → Option (List ℕ) → Result Unit Complaint → Type 0
 Serves (requests.List asked is_pretty) old new saw observed was now result = LooksOver old.store new.store (IsRead (ListsStore (style_of is_pretty)) (as_lines (style_of is_pretty)) (reads_of old.store) was now result)
 Serves (requests.Export asked) old new saw observed was now result = LooksOver old.store new.store (IsRead ExportsStore as_bytes (reads_of old.store) was now result)
+Serves (requests.Salvage asked form) old new saw observed was now result = LooksOver old.store new.store (IsSalvage (written_as form) (reads_of old.store) was now) × IsErr result × IfErr result (λ complaint. status_told complaint ≡ 1)
 Serves (requests.Info asked is_json) old new saw observed was now result = LooksOver old.store new.store (OnOk result (IsStanding standings.Ours (reads_of old.store))) × IfErr result (λ complaint. status_told complaint ≡ 1)
 Serves (requests.Wipe asked is_forced) old new saw observed was now result = (honest_of new.store → Clears (clearing_of is_forced) old.store new.store was now result)
     × (honest_of new.store → IsNotToWipe (clearing_of is_forced) (reads_of old.store) → OnlyLooks old.store new.store) × (honest_of new.store → LeavesOnly clock_of moments_of old.store new.store (IsClearing (images_of old.store)))

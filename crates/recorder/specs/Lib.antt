@@ -4,3 +4,4 @@ pub mod Commands
 pub mod Following
 pub mod Sites
 pub mod Serving
+pub mod Salvaging

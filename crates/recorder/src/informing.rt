@@ -110,7 +110,7 @@ fn flush<W: Write>(out: &mut W) -> Result<(), SimFault>
 }
 
 /// What is told of a trace that isn't whole, or isn't read at all.
-fn told(files: &mut Files<'_>, fault: ReadFault, doing: Doing) -> Complaint
+pub fn told(files: &mut Files<'_>, fault: ReadFault, doing: Doing) -> Complaint
     ensures status { status_told result ≡ 1 }
     ensures only_reads { OnlyLooks files.old.store files.new.store }
 {

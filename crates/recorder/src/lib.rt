@@ -9,6 +9,7 @@ mod following;
 mod informing;
 mod live;
 mod locked;
+mod salvaging;
 mod serving;
 mod sites;
 mod state;

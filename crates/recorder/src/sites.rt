@@ -28,6 +28,7 @@ pub fn files_for<'a>(rt: &HostRuntime, request: &TraceRequest<'a>) -> Result<Fil
             is_pretty: _,
         }
         | TraceRequest::Export(asked)
+        | TraceRequest::Salvage { asked, form: _ }
         | TraceRequest::Info { asked, is_json: _ } => files_to_read(rt, *asked),
         TraceRequest::Wipe {
             asked,

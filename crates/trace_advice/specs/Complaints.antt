@@ -25,4 +25,5 @@ advice_shown shown advice = advice
 
 abbrev pub with_shown : ℕ → Complaint → Complaint
 with_shown shown (complaints.Fault fault (Some advice)) = complaints.Fault fault (Some (advice_shown shown advice))
+with_shown shown (complaints.Salvaged salvage) = complaints.Salvaged (record salvage { shown = shown })
 with_shown shown complaint = complaint

@@ -5,6 +5,7 @@ ghost use Rattle.trace_advice.specs.declared.complaint.Complaint.TheVariants as 
 ghost use Rattle.script_port.specs.declared.fault.SimFault.TheVariants as faults;
 
 use crate::kept::{Kept, tell_full, tell_going_on, tell_skipping};
+use crate::salvage::Salvage;
 use recovery::RecoverFault;
 use script_port::{Refusal, SimFault};
 use std::alloc::AllocError;
@@ -328,6 +329,8 @@ pub enum Complaint {
         name: String,
         reason: io::Error,
     },
+    /// What is written isn't the trace.
+    Salvaged(Salvage),
 }
 
 /// What is told of a trace of which a sync failed.
@@ -356,7 +359,7 @@ impl Complaint {
         )
     }
 
-    /// The same, where of the entries before a damage so many are shown.
+    /// The same, where of the entries that are written so many are shown.
     pub fn with_shown(self, shown: u64) -> Complaint
         ensures { result ≡ with_shown shown self }
     {
@@ -368,6 +371,7 @@ impl Complaint {
                     None => None,
                 },
             },
+            Complaint::Salvaged(salvage) => Complaint::Salvaged(Salvage { shown, ..salvage }),
             other => other,
         }
     }
@@ -443,6 +447,7 @@ impl fmt::Display for Complaint {
                 let name = Shown(name.as_str());
                 write!(f, "{name} can't be removed: {reason}")
             }
+            Complaint::Salvaged(salvage) => write!(f, "{salvage}"),
         }
     }
 }

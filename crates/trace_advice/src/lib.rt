@@ -6,9 +6,11 @@ mod complaint;
 mod fault;
 mod kept;
 mod notices;
+mod salvage;
 
 pub use absence::{in_the_way, instead, wrap_instead};
 pub use complaint::{Advice, Complaint, FAILED_DISK, damaged_file, is_full, is_of_several, told};
 pub use fault::fault_of_reading;
 pub use kept::{Kept, fault_in_input};
 pub use notices::{tell_idle, tell_idle_on_file, tell_own};
+pub use salvage::Salvage;

@@ -18,3 +18,12 @@ returns-in-Import g c =
     let call = c.import in
     let saw = outside (g.R.Read.remaining c.args.input) 0 (observed c.args.watched.now.host.now) in
     subst (λ request. Serves request c.args.files.now call.new.files saw (observed call.new.watched.host.now) (contents c.args.watched.now.writer.now) (contents call.new.watched.writer.now) call.result) (sym c.in-Import.is) call.ensures
+
+pub returns-in-Salvage : goal.returns-in-Salvage
+returns-in-Salvage g c =
+    let contents = g.W.Write.contents in
+    let observed = g.H.Host.observed in
+    let call = c.salvage in
+    let saw = outside (g.R.Read.remaining c.args.input) 0 (observed c.args.watched.now.host.now) in
+    subst (λ request. Serves request c.args.files.now call.new.files saw (observed call.new.watched.host.now) (contents c.args.watched.now.writer.now) (contents call.new.watched.writer.now) call.result) (sym c.in-Salvage.is)
+    (call.ensures.salvage, call.ensures.never, call.ensures.status)

@@ -1,0 +1,117 @@
+//! What each open file of a trace holds by itself, whether or not the trace is refused.
+ghost use Rattle.std.specs.Prelude.{◌≡◌, IsErr, IfErr, IfOk};
+ghost use Rattle.stores.specs.FolderStore.{reads_of};
+ghost use Rattle.trace_advice.specs.Complaints.{status_told};
+ghost use Rattle.trace_reader.specs.WritesOut.{form_of};
+ghost use Rattle.recorder.specs.{Files.LooksOver, Commands.written_as, Salvaging.IsSalvage};
+
+use crate::commands::{style, written_out};
+use crate::doing::Doing;
+use crate::files::Files;
+use crate::informing::told;
+use crate::state::{Newest, is_closed};
+use command_line::Form;
+use std::alloc::AllocError;
+use std::io::Write;
+use trace_advice::{Complaint, Salvage};
+use trace_places::has_bytes;
+use trace_reader::{Host, Manner, ReadFault, Watched};
+use window_reader::Salvaged;
+
+/// How entries are written.
+fn manner(form: Form) -> Manner
+    ensures { form_of result ≡ written_as form }
+{
+    match form {
+        Form::Lines { is_pretty } => Manner::Lines(style(is_pretty)),
+        Form::Stream => Manner::Stream,
+    }
+}
+
+/// Whether a file is neither an open segment nor closed.
+fn is_passed(rt: &HostRuntime, name: &str) -> bool {
+    !is_closed(rt, name).unwrap_or(true) && Newest::later(None, rt, name).is_none()
+}
+
+/// The files that are.
+fn passed_over(rt: &HostRuntime, files: &Files<'_>) -> Result<Vec<String>, AllocError> {
+    let mut passed = Vec::new(files.alloc());
+    for file in 0..files.count() {
+        let name = files.name(file)?;
+        if is_passed(rt, name.as_str()) {
+            passed.push(name)?;
+        }
+    }
+    Ok(passed)
+}
+
+/// Whether no file has a byte.
+fn are_empty(rt: &HostRuntime, files: &Files<'_>) -> Result<bool, AllocError> {
+    for file in 0..files.count() {
+        if has_bytes(rt, files.name(file)?.as_str()) {
+            return Ok(false);
+        }
+    }
+    Ok(true)
+}
+
+/// Whether nothing was salvaged, since there is no trace.
+fn is_absent(rt: &HostRuntime, files: &Files<'_>, salvaged: &Salvaged) -> bool {
+    salvaged.files == 0 && are_empty(rt, files).unwrap_or(false)
+}
+
+/// What a salvage came to.
+fn summary(
+    rt: &HostRuntime,
+    files: &Files<'_>,
+    salvaged: &Salvaged,
+) -> Result<Complaint, AllocError>
+    ensures { IfOk result (λ complaint. status_told complaint ≡ 1) }
+{
+    Ok(Complaint::Salvaged(Salvage {
+        files: salvaged.files,
+        entries: salvaged.entries,
+        shown: salvaged.entries,
+        missing: salvaged.missing,
+        passed: passed_over(rt, files)?,
+    }))
+}
+
+/// The same, also where there is no memory for it.
+fn summary_at_least(rt: &HostRuntime, files: &Files<'_>, salvaged: &Salvaged) -> Complaint
+    ensures { status_told result ≡ 1 }
+{
+    match summary(rt, files, salvaged) {
+        Ok(complaint) => complaint,
+        Err(fault) => Complaint::from(fault),
+    }
+}
+
+/// Writes what each open file holds by itself. It never succeeds: what is written isn't the trace.
+pub fn salvage<W: Write, H: Host>(
+    rt: &HostRuntime,
+    files: &mut Files<'_>,
+    form: Form,
+    watched: &mut Watched<'_, W, H>,
+) -> Result<(), Complaint>
+    ensures salvage { LooksOver files.old.store files.new.store (IsSalvage (written_as form) (reads_of files.old.store) (W.contents watched.old.writer.now) (W.contents watched.new.writer.now)) }
+    ensures never { IsErr result }
+    ensures status { IfErr result (λ complaint. status_told complaint ≡ 1) }
+{
+    let done = files.salvage(manner(form), watched);
+    let flushed = watched.flush();
+    watched.host.clear();
+    match done {
+        Ok(salvaged) => match written_out(flushed) {
+            Ok(()) => {
+                if is_absent(rt, files, &salvaged) {
+                    Err(told(files, ReadFault::Absent, Doing::Other))
+                } else {
+                    Err(summary_at_least(rt, files, &salvaged))
+                }
+            }
+            Err(complaint) => Err(complaint),
+        },
+        Err(fault) => Err(told(files, fault, Doing::Other)),
+    }
+}
