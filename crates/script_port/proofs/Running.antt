@@ -157,7 +157,7 @@ is_held {P} told still start starts opened first let_go end last done leave move
 -- the same, with what was written
 pub was_held : {P : Type 0} (told : P → Told) → ((p : P) → IsStill (told p)) → (start : P → Held P) → ((p : P) → port_of (start p) ≡ p) → (opened : Told) (greets : ℕ → Answer) (first let_go : P) (last : Device) (files : ℕ) (taken : Stretch) (left : Result (Option Leave) SimFault) (Writes : List ℕ → Type 0)
     → ((Q : Device → Type 0) → Q (told first).device → Q opened.device) → IsAsOpened opened (told first) → ((v0 : View) (ys : List Item) (c : ℕ) → Fits opened v0 ys c → Fits (told first) v0 ys c) → Ends (told let_go) last
-    → Ran told (start first) files taken left (λ end. IsLetGo told end let_go) (λ text. Writes (line_of (greets (told first).total) ++ text)) → WasHeld told start opened greets files taken left last Writes
+    → Ran told (start first) files taken left (λ end. IsLetGo told end let_go) (line_of (greets (told first).total)) Writes → WasHeld told start opened greets files taken left last Writes
 unfolding is_held
 was_held told still start starts opened greets first let_go last files taken left Writes moved as_opened fits drops ran = record {
   done = ran.done;

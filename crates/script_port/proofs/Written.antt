@@ -1,7 +1,11 @@
 -- What is written in a run.
-use Rattle.std.proofs.Common.{◌≡◌, ℕ, Option, Some, None, List, [], ◌∷◌, ◌++◌, refl, sym, ◌∙◌, ap, subst, append_assoc}
+use Rattle.std.proofs.Common.{◌≡◌, ℕ, Option, Some, None, List, [], ◌∷◌, ◌++◌, Result, Ok, Err, OnErr, refl, sym, ◌∙◌, ap, subst, append_assoc}
 use Rattle.std.proofs.lemmas.List.{append-nil}
-use Rattle.std.specs.Io.KnownBytes.{Appends}
+use Rattle.std.specs.Fmt.{WritesInCalls}
+use Rattle.std.specs.List.{FoldsTo, concat}
+use Rattle.std.specs.Io.KnownBytes.{Appends, Keeps}
+use Rattle.std.proofs.KnownBytes.{Appends-kept}
+use Rattle.trace_client.specs.Output.{AppendsPrefix}
 use Rattle.trace_port.specs.Port.{Told}
 use Rattle.trace_port.specs.PortCalls.{Finishes}
 use Rattle.tracees.specs.Books.{no_totals}
@@ -21,6 +25,19 @@ appends_both None mid new first second a b = tt
 appends_both (Some xs) None new first second a b = absurd a
 appends_both (Some xs) (Some ys) None first second a b = absurd b
 appends_both (Some xs) (Some ys) (Some zs) first second a b = b ∙ ap (λ (l : List ℕ). l ++ second) a ∙ append_assoc xs first second
+
+-- what calls wrote into a text
+in_parts : {W : Type 0} (bytes : W → List ℕ) (old : W) (parts : List (List ℕ)) (new : W) → FoldsTo (λ w xs v. bytes v ≡ bytes w ++ xs) old parts new → bytes new ≡ bytes old ++ concat parts
+in_parts bytes old [] new same = ap bytes (sym same) ∙ sym (append-nil (bytes old))
+in_parts bytes old (part ∷ parts) new calls = in_parts bytes calls.0 parts new calls.2 ∙ ap (λ (l : List ℕ). l ++ concat parts) calls.1 ∙ append_assoc (bytes old) part (concat parts)
+
+pub in_calls : {W : Type 0} (bytes : W → List ℕ) (old new : W) (text : List ℕ) → WritesInCalls (λ w xs v. bytes v ≡ bytes w ++ xs) old text new → bytes new ≡ bytes old ++ text
+in_calls bytes old new text wrote = subst (λ (l : List ℕ). bytes new ≡ bytes old ++ l) wrote.whole (in_parts bytes old wrote.parts new wrote.calls)
+
+-- a text that was written whole, before what else failed
+pub all_at_most : {E : Type 0} (r : Result Unit E) (old mid new : Option (List ℕ)) (text : List ℕ) → Appends old mid text → Keeps mid new → OnErr r (AppendsPrefix old new text)
+all_at_most (Ok done) old mid new text wrote keeps = tt
+all_at_most (Err fault) old mid new text wrote keeps = record { taken = text; left = []; is = sym (append-nil text); appends = Appends-kept old mid new text wrote keeps }
 
 pub written-append : (done more : List Exchange) → written (done ++ more) ≡ written done ++ written more
 written-append [] more = refl

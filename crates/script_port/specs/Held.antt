@@ -1,5 +1,5 @@
 -- What is held while the lines of a script are run on it.
-use Rattle.std.specs.Prelude.{◌≡◌, ◌⊎◌, ℕ, Option, Some, None, List, [], ◌∷◌, ◌++◌, Result, Ok, Err, IfOk}
+use Rattle.std.specs.Prelude.{◌≡◌, ◌⊎◌, ℕ, Option, Some, None, List, [], ◌∷◌, ◌++◌, length, ◌≤◌, Result, Ok, Err}
 use Rattle.trace_store.specs.Disk.{Image}
 use Rattle.recovery.specs.Items.{Item}
 use Rattle.recovery.specs.Views.{View}
@@ -16,6 +16,7 @@ use Rattle.script_port.specs.declared.reply.Leave.{Leave}
 use Rattle.script_port.specs.declared.reply.Reply.{Reply}
 use Rattle.script_port.specs.declared.reply.Reply.TheVariants.{Told as Answered, Left}
 use Rattle.script_port.specs.declared.fault.SimFault.{SimFault}
+use Rattle.script_port.specs.declared.fault.SimFault.TheVariants as faults
 use Rattle.script_port.specs.Texts.{line_of}
 use Rattle.script_port.specs.Sides.{Held, Alone, AtDesk, port_of}
 use Rattle.script_port.specs.Asked.{IsAsked}
@@ -66,6 +67,22 @@ abbrev pub written : List Exchange → List ℕ
 written [] = []
 written (one ∷ more) = reply_text one.reply ++ written more
 
+-- what is written at the last: for the last of these lines, or before the first one
+abbrev pub last_text : List ℕ → List Exchange → List ℕ
+last_text greeting [] = greeting
+last_text greeting (one ∷ more) = last_text (reply_text one.reply) more
+
+-- the beginning of a text, of which no more than its last part is missing
+pub record LacksOfLast (text last begun : List ℕ) : Type 0 where
+  pub missing : List ℕ
+  pub is : text ≡ begun ++ missing
+  pub of_last : length missing ≤ length last
+
+-- what was written of a greeting and of what these lines were answered: all, however that was left; or, where a write failed, what lacks of the last of it
+pub data Tells (Writes : List ℕ → Type 0) (greeting : List ℕ) (done : List Exchange) : Result (Option Leave) SimFault → Type 0 where
+  all : {left : Result (Option Leave) SimFault} → Writes (greeting ++ written done) → Tells Writes greeting done left
+  not_all : (begun : List ℕ) → LacksOfLast (greeting ++ written done) (last_text greeting done) begun → Writes begun → Tells Writes greeting done (Err faults.Write)
+
 -- a port that has accepted ys: a crash at any moment since left an image that is sound for zs, all that was accepted in the end, by what was covered then
 pub record IsSoundSince (now : Told) (last : Device) (v0 : View) (ys zs : List Item) (c : ℕ) : Type 0 where
   pub fits : Fits now v0 ys c
@@ -86,14 +103,14 @@ abbrev pub IsLetGo : {P : Type 0} → (P → Told) → Held P → P → Type 0
 IsLetGo told (Alone p) q = q ≡ p
 IsLetGo told (AtDesk side) q = Finishes (told side.desk.port) (told q)
 
--- the lines of a stretch of a script were run on what was held at first, with so many files there, and what is held then stands so; and, unless a fault ended that, what was written is what was answered
-pub record Ran {P : Type 0} (told : P → Told) (first : Held P) (files : ℕ) (over : Stretch) (left : Result (Option Leave) SimFault) (Stands : Held P → Type 0) (Writes : List ℕ → Type 0) : Type 0 where
+-- the lines of a stretch of a script were run on what was held at first, with so many files there, and what is held then stands so; and what was written is a greeting and what was answered
+pub record Ran {P : Type 0} (told : P → Told) (first : Held P) (files : ℕ) (over : Stretch) (left : Result (Option Leave) SimFault) (Stands : Held P → Type 0) (greeting : List ℕ) (Writes : List ℕ → Type 0) : Type 0 where
   pub done : List Exchange
   pub end : Held P
   pub asks : AreAsked told first done (left_by left) end
   pub read : AreTheLines files over left (lines_of done)
   pub stands : Stands end
-  pub text : IfOk left (λ _. Writes (written done))
+  pub text : Tells Writes greeting done left
 
 -- a port in this desk is held
 abbrev pub IsAtDesk : {P : Type 0} → DeskState P → Held P → Type 0
@@ -117,10 +134,10 @@ pub record IsHeld {P : Type 0} (told : P → Told) (start : P → Held P) (opene
   pub whole : last.honest → (v0 : View) (c : ℕ) → Fits opened v0 [] c → Leaves opened.device last (Sound opened.spec v0 (accepted asked) c)
   pub lines : last.honest → (v0 : View) (c : ℕ) → Fits opened v0 [] c → IsSoundThroughout told (start first) asked leave end last v0 c
 
--- the lines of a stretch of a script were run on a port over an opening, with so many files there, and the port then was dropped; and, unless a fault ended that, what was written is how it was opened and what it answered
+-- the lines of a stretch of a script were run on a port over an opening, with so many files there, and the port then was dropped; and what was written is how it was opened and what it answered
 pub record WasHeld {P : Type 0} (told : P → Told) (start : P → Held P) (opened : Told) (greets : ℕ → Answer) (files : ℕ) (over : Stretch) (left : Result (Option Leave) SimFault) (last : Device) (Writes : List ℕ → Type 0) : Type 0 where
   pub done : List Exchange
   pub held : IsHeld told start opened done (left_by left) last
   pub read : AreTheLines files over left (lines_of done)
   -- it was told how many entries the opening found
-  pub text : IfOk left (λ _. Writes (line_of (greets (told held.first).total) ++ written done))
+  pub text : Tells Writes (line_of (greets (told held.first).total)) done left

@@ -1,14 +1,14 @@
 //! The answers of a run.
-ghost use Rattle.std.specs.Prelude.{◌≡◌, ◌<◌};
-ghost use Rattle.script_port.specs.Texts.{digit_of, gate_text};
+ghost use Rattle.std.specs.Prelude.{◌≡◌, ◌<◌, IfOk};
+ghost use Rattle.script_port.specs.Texts.{digit_of, gate_text, line_of};
 
 use crate::answer::Answer;
 use crate::fault::SimFault;
-use recovery::Recovered;
-use std::alloc::Global;
+use arrayvec::ArrayString;
+use std::fmt;
+use std::fmt::Write as _;
 use std::io::Write;
-use trace_client::list;
-use trace_text::Style;
+use trace_client::put_all;
 
 /// The last word of a file's line, with its line feed: two hexadecimal digits, or `--` where there is no byte.
 fn last_word(gate: Option<u8>) -> [u8; 3]
@@ -32,6 +32,18 @@ fn digit(number: u8) -> u8
     }
 }
 
+/// More bytes than an answer has with its line feed.
+const LINE: usize = 160;
+
+/// The line of an answer.
+fn line(answer: Answer) -> Result<ArrayString<LINE>, fmt::Error>
+    ensures { IfOk result (λ line. line.bytes ≡ line_of answer) }
+{
+    let mut line = ArrayString::new();
+    writeln!(line, "{answer}")?;
+    Ok(line)
+}
+
 /// What answers are written to.
 #[derive(Drop)]
 pub struct Answers<'w, W: Write> {
@@ -41,10 +53,9 @@ pub struct Answers<'w, W: Write> {
 }
 
 impl<'w, W: Write> Answers<'w, W> {
-    ghost use Rattle.std.specs.Prelude.{◌≡◌, ℕ, List, OnOk, IfErr};
+    ghost use Rattle.std.specs.Prelude.{◌≡◌, OnOk, OnErr, IfErr};
+    ghost use Rattle.trace_client.specs.Output.{AppendsPrefix};
     ghost use Rattle.std.specs.Io.KnownBytes.{Appends, Keeps};
-    ghost use Rattle.entry_codec.specs.Seen.{views};
-    ghost use Rattle.trace_text.specs.Lines.{IsListing};
     ghost use Rattle.script_port.specs.Texts.{line_of, state_text};
     ghost use Rattle.script_port.specs.declared.fault.SimFault.TheVariants as faults;
 
@@ -70,26 +81,23 @@ impl<'w, W: Write> Answers<'w, W> {
         }
     }
 
-    /// A line with the answer.
+    /// A line with the answer. After a fault a part of it is written, or all or nothing.
     pub fn tell(&mut self, answer: Answer) -> Result<(), SimFault>
         ensures name { self.new.writer.ghost_name ≡ self.old.writer.ghost_name }
         ensures text { OnOk result (Appends (W.contents self.old.writer.now) (W.contents self.new.writer.now) (line_of answer)) }
+        ensures cut { OnErr result (AppendsPrefix (W.contents self.old.writer.now) (W.contents self.new.writer.now) (line_of answer)) }
         ensures fault { IfErr result (λ fault. fault ≡ faults.Write) }
     {
-        writeln!(self.writer, "{answer}").map_err(|_| SimFault::Write)?;
+        let Ok(line) = line(answer) else {
+            return Err(SimFault::Write);
+        };
+        let Ok(()) = put_all(&mut *self.writer, line.as_str().as_bytes()) else {
+            return Err(SimFault::Write);
+        };
         if self.at_once {
-            self.finish()?;
+            return self.finish();
         }
         Ok(())
-    }
-
-    /// The plain listing of what a store holds.
-    pub fn listing(&mut self, alloc: Global, found: &Recovered) -> Result<(), SimFault>
-        ensures name { self.new.writer.ghost_name ≡ self.old.writer.ghost_name }
-        ensures text { OnOk result ((text : List ℕ) × IsListing Style.Plain found.now.first found.now.lost (views found.now.entries.items) text
-            × Appends (W.contents self.old.writer.now) (W.contents self.new.writer.now) text) }
-    {
-        Ok(list(alloc, Style::Plain, found, &mut *self.writer)?)
     }
 
     /// A file with its length and, unless it is empty, its first byte.

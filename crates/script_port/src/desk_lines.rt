@@ -1,5 +1,5 @@
 //! What a run does while a port is held in a desk.
-ghost use Rattle.std.specs.Prelude.{◌≡◌, ◌≤◌};
+ghost use Rattle.std.specs.Prelude.{◌≡◌, ◌≤◌, []};
 ghost use Rattle.std.specs.Io.KnownBytes.{Appends};
 ghost use Rattle.tracees.specs.Effects.{Effect, no_effect};
 ghost use Rattle.trace_script.specs.Lines.{IsWithinLimits, IsNumbered};
@@ -30,7 +30,7 @@ pub fn run_desk<P: TracePort, R: BufRead, W: Write>(
     answers: &mut Answers<'_, W>,
 ) -> Result<Option<Leave>, SimFault>
     ensures run { RunsLines R.Read W.Write script.old script.new answers.old answers.new (λ over was now. KeepsDesk P.TracePort desk.old desk.new (Ran P.told (AtDesk (first_side (desk_seen P.TracePort desk.old)))
-        files over result (IsAtDesk (desk_seen P.TracePort desk.new)) (λ text. Appends was now text))) }
+        files over result (IsAtDesk (desk_seen P.TracePort desk.new)) [] (λ text. Appends was now text))) }
 {
     let mut attached = Attached::new(alloc);
     for _line in 0..u64::MAX {

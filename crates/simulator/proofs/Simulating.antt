@@ -1,19 +1,25 @@
 -- What comes of a line of a script while no port is held.
-use Rattle.std.proofs.Common.{◌≡◌, ℕ, Bool, false, Option, List, [], replicate, Result, Ok, Err, OnOk, IfErr, inl, sym, subst}
-use Rattle.std.specs.Io.KnownBytes.{Keeps}
+use Rattle.std.proofs.Common.{◌≡◌, ℕ, Bool, false, Option, List, [], replicate, Result, Ok, Err, OnOk, OnErr, IfErr, inl, refl, sym, subst}
+use Rattle.std.specs.Io.KnownBytes.{Appends, Keeps}
+use Rattle.std.proofs.KnownBytes.{Appends-nil}
+use Rattle.trace_client.specs.Output.{AppendsPrefix}
 use Rattle.stores.specs.declared.mem_store.MemStore.{MemStore}
 use Rattle.segment.specs.Specification.{Spec}
 use Rattle.trace_port.specs.Openings.{IsKept}
 use Rattle.trace_port.proofs.Leaving.{weaker}
-use Rattle.stores.specs.MemStore.{fuse_of, IsSettled}
+use Rattle.stores.specs.MemStore.{reads_of, failures_of, fuse_of, IsSettled}
 use Rattle.stores.specs.declared.fuse.Fuse.TheVariants.{Whole}
 use Rattle.trace_script.specs.Reading.{Progress}
 use Rattle.trace_script.specs.declared.line.Line.{Line}
+use Rattle.trace_script.specs.declared.line.Line.TheVariants as lines
 use Rattle.script_port.specs.Read.{Stretch, stretch, first_lines}
-use Rattle.simulator.specs.Simulated.{device, IsRunWhole, LeavesSo, WasRun, ComesOf, ended_so, Simulates, IsRun, runs, not_written_out, first_of}
+use Rattle.simulator.specs.Simulated.{device, Does, lists, tells_files, Fails, answers_in_part, lists_in_part, tells_files_in_part, DoesOrFails, IsOver, IsFinished, told, not_told, failed, OnlyLooked, IsRunWhole, LeavesSo, WasRun, ComesOf, ended_so, Simulates, IsRun, runs, not_written_out, first_of}
+use Rattle.simulator.specs.Stored.{IsListed, TellsFiles}
 use Rattle.script_port.specs.declared.fault.SimFault.TheVariants as faults
 use Rattle.script_port.specs.declared.fault.SimFault.{SimFault}
 use Rattle.script_port.specs.declared.reply.Leave.{Leave}
+use Rattle.script_port.specs.declared.reply.Stop.{Stop}
+use Rattle.script_port.specs.declared.reply.Stop.TheVariants as stops
 use Rattle.script_port.specs.declared.reply.Origin.{Origin}
 use Rattle.script_port.specs.declared.reply.Origin.TheVariants.{Resumed}
 
@@ -31,15 +37,35 @@ whole_so of_desk here line old new behind to result was now same run = subst (λ
 pub only_kept : (spec : Spec) (old new : MemStore) → IsKept (device old) (device new) → LeavesSo Resumed spec old new
 only_kept spec old new kept = weaker (device old) (device new) (device old).images _ (λ image was. inl was) (kept.moments tt)
 
--- what was written, told in another way
-pub told_so : {E : Type 0} (result : Result Unit E) (P Q Writes : List ℕ → Type 0) → ((text : List ℕ) → P text → Q text) → OnOk result ((text : List ℕ) × P text × Writes text) → OnOk result ((text : List ℕ) × Q text × Writes text)
-told_so (Ok done) P Q Writes f wrote = (wrote.0, f wrote.0 wrote.1, wrote.2)
-told_so (Err fault) P Q Writes f wrote = wrote
+-- an answer was told, or a part of it: after a line that makes no port
+pub does_so : (result : Result Unit SimFault) (line : Line) (old new : MemStore) (was now : Option (List ℕ)) (text : List ℕ) → Does old new line text → OnOk result (Appends was now text) → OnErr result (AppendsPrefix was now text) → IfErr result (λ fault. fault ≡ faults.Write)
+    → DoesOrFails line old new result (λ text. Appends was now text)
+does_so (Ok done) line old new was now text does wrote cut fault = (text, does, wrote)
+does_so (Err other) line old new was now text does wrote cut fault =
+    subst (λ (f : SimFault). Fails old new (λ text. Appends was now text) line f) (sym fault) (answers_in_part does (record { missing = cut.left; is = cut.is }) cut.appends)
 
--- one answer was
-pub answered_so : {E : Type 0} (result : Result Unit E) (text : List ℕ) (Q Writes : List ℕ → Type 0) → Q text → OnOk result (Writes text) → OnOk result ((text : List ℕ) × Q text × Writes text)
-answered_so (Ok done) text Q Writes is wrote = (text, is, wrote)
-answered_so (Err fault) text Q Writes is wrote = wrote
+-- or after one whose port is no more
+pub finished_so : (result : Result Unit SimFault) (was_left left : Result (Option Leave) Stop) (old new : MemStore) (was now : Option (List ℕ)) (text : List ℕ) → was_left ≡ left → IsOver left old new text → OnOk result (Appends was now text) → OnErr result (AppendsPrefix was now text)
+    → IfErr result (λ fault. fault ≡ faults.Write) → IsFinished old new (λ text. Appends was now text) was_left result
+finished_so (Ok done) was_left left old new was now text is over wrote cut fault = subst (λ (l : Result (Option Leave) Stop). IsFinished old new (λ text. Appends was now text) l (Ok tt)) (sym is) (told over wrote)
+finished_so (Err other) was_left left old new was now text is over wrote cut fault =
+    subst (λ (l : Result (Option Leave) Stop). IsFinished old new (λ text. Appends was now text) l (Err other)) (sym is)
+    (subst (λ (f : SimFault). IsFinished old new (λ text. Appends was now text) left (Err f)) (sym fault) (not_told over (record { missing = cut.left; is = cut.is }) cut.appends))
+
+-- or after one that a fault ended
+pub failed_so : (was_left : Result (Option Leave) Stop) (fault : SimFault) (store : MemStore) (out : Option (List ℕ)) → was_left ≡ Err (stops.Failed fault) → IsFinished store store (λ text. Appends out out text) was_left (Err fault)
+failed_so was_left fault store out is = subst (λ (l : Result (Option Leave) Stop). IsFinished store store (λ text. Appends out out text) l (Err fault)) (sym is) (failed refl (Appends-nil out))
+
+-- a store was listed, or a part of that
+pub lists_so : (result : Result Unit SimFault) (old new : MemStore) (Writes : List ℕ → Type 0) → IsListed (reads_of old) (failures_of old) (failures_of new) result Writes → OnlyLooked old new → DoesOrFails lines.List old new result Writes
+lists_so (Ok done) old new Writes listed looked = (listed.0, lists listed.1 looked, listed.2)
+lists_so (Err fault) old new Writes listed looked = lists_in_part listed looked
+
+-- its files were told of
+pub tells_so : (result : Result Unit SimFault) (old new : MemStore) (Writes : List ℕ → Type 0) → OnOk result ((text : List ℕ) × TellsFiles (reads_of old) (failures_of old) (failures_of new) text × Writes text) → IfErr result (λ fault. fault ≡ faults.Write) → OnlyLooked old new
+    → DoesOrFails lines.Files old new result Writes
+tells_so (Ok done) old new Writes wrote fault looked = (wrote.0, tells_files wrote.1 looked, wrote.2)
+tells_so (Err other) old new Writes wrote fault looked = subst (λ (f : SimFault). Fails old new Writes lines.Files f) (sym fault) (tells_files_in_part looked)
 
 -- a script was run, and what it wrote was written out or not
 pub is_run : (old new : MemStore) (count : ℕ) (had has was mid now : Option (List ℕ)) (done flushed : Result Unit SimFault) → IsSettled old (replicate 1 []) → fuse_of old ≡ Whole → Simulates old new (first_lines false count had has) was mid done → Keeps mid now → IfErr flushed (λ fault. fault ≡ faults.Write)

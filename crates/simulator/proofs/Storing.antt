@@ -1,28 +1,38 @@
 -- What is written of a store.
-use Rattle.std.proofs.Common.{◌≡◌, ℕ, ◌+◌, Option, List, ◌++◌, length, slice_get, Result, Ok, Err, OnOk, sym, subst}
+use Rattle.std.proofs.Common.{◌≡◌, ℕ, ◌+◌, Option, List, [], ◌++◌, length, slice_get, Result, Ok, Err, OnOk, OnErr, IfErr, inl, sym, subst}
+use Rattle.std.proofs.lemmas.List.{append-nil}
+use Rattle.std.specs.Io.KnownBytes.{Appends}
 use Rattle.entry_codec.specs.Seen.{views}
 use Rattle.trace_store.specs.Disk.{Image, file_of}
 use Rattle.recovery.specs.Recovery.{Recovers, Refuses}
 use Rattle.recovery.specs.CallCounts.{TellsRecover}
 use Rattle.recovery.specs.declared.window.Recovered.{Recovered}
 use Rattle.recovery.specs.declared.fault.RecoverFault.{RecoverFault}
-use Rattle.trace_text.specs.Lines.{IsListing}
+use Rattle.trace_client.specs.Begun.{IsCutListing}
+use Rattle.trace_client.specs.Output.{AppendsPrefix}
+use Rattle.trace_client.specs.declared.fault.ListFault.{ListFault}
+use Rattle.trace_client.specs.declared.fault.ListFault.TheVariants as listing
 use Rattle.trace_text.specs.declared.style.Style.TheVariants.{Plain}
 use Rattle.script_port.specs.declared.answer.Answer.TheVariants.{Refused}
 use Rattle.script_port.specs.declared.refusal.Refusal.TheVariants.{Recover}
 use Rattle.script_port.specs.declared.fault.SimFault.{SimFault}
+use Rattle.script_port.specs.declared.fault.SimFault.TheVariants as faults
+use Rattle.script_port.specs.Faults.{fault_of_list}
 use Rattle.script_port.specs.Texts.{line_of, state_text}
-use Rattle.simulator.specs.Stored.{TellsStore, lists, refuses, AreStates, next}
+use Rattle.simulator.specs.Stored.{IsListed, IsListedInPart, lists_first, refuses_first, refuses, AreStates, next}
 
-pub listed : (image : Image) (before now : ℕ) (found : Recovered) (Writes : List ℕ → Type 0) (result : Result Unit SimFault) → Recovers image found → now ≡ before
-    → OnOk result ((text : List ℕ) × IsListing Plain found.first found.lost (views found.entries.items) text × Writes text) → OnOk result ((text : List ℕ) × TellsStore image before now text × Writes text)
-listed image before now found Writes (Ok done) recovers same wrote = (wrote.0, lists found recovers wrote.1 same, wrote.2)
-listed image before now found Writes (Err fault) recovers same wrote = wrote
+-- a part of a listing was written
+pub listed_in_part : (image : Image) (before now : ℕ) (found : Recovered) (was out : Option (List ℕ)) (fault : ListFault) → Recovers image found → now ≡ before → IsCutListing Plain fault found.first found.lost (views found.entries.items) was out
+    → IsListedInPart image before now (λ text. Appends was out text) (fault_of_list fault)
+listed_in_part image before now found was out listing.Write recovers same cut = lists_first found listing.Write recovers same cut.1 (record { missing = cut.2.left; is = cut.2.is }) cut.2.appends
+listed_in_part image before now found was out listing.NoMemory recovers same cut = lists_first found listing.NoMemory recovers same (inl cut.1) (record { missing = []; is = sym (append-nil cut.0) }) cut.2
 
-pub refused : (image : Image) (before now : ℕ) (fault : RecoverFault) (Writes : List ℕ → Type 0) (result : Result Unit SimFault) → Refuses image fault → TellsRecover before now fault
-    → OnOk result (Writes (line_of (Refused (Recover fault)))) → OnOk result ((text : List ℕ) × TellsStore image before now text × Writes text)
-refused image before now fault Writes (Ok done) reads cause wrote = (line_of (Refused (Recover fault)), refuses fault reads cause, wrote)
-refused image before now fault Writes (Err other) reads cause wrote = wrote
+-- a refusal was, or a part of one
+pub refused : (image : Image) (before now : ℕ) (fault : RecoverFault) (was out : Option (List ℕ)) (result : Result Unit SimFault) → Refuses image fault → TellsRecover before now fault
+    → OnOk result (Appends was out (line_of (Refused (Recover fault)))) → OnErr result (AppendsPrefix was out (line_of (Refused (Recover fault)))) → IfErr result (λ fault. fault ≡ faults.Write) → IsListed image before now result (λ text. Appends was out text)
+refused image before now fault was out (Ok done) reads cause wrote cut write = (line_of (Refused (Recover fault)), refuses fault reads cause, wrote)
+refused image before now fault was out (Err other) reads cause wrote cut write =
+    subst (λ (f : SimFault). IsListedInPart image before now (λ text. Appends was out text) f) (sym write) (refuses_first fault reads cause (record { missing = cut.left; is = cut.is }) cut.appends)
 
 -- the line of the next file, as it was read
 pub next_state : (image now : Image) (file : ℕ) (text : List ℕ) (size : ℕ) (gate : Option ℕ) → now ≡ image → size ≡ length (file_of now file) → gate ≡ slice_get (file_of now file) 0 → AreStates image file text → AreStates image (file + 1) (text ++ state_text file size gate)

@@ -1,5 +1,5 @@
 -- What a line of a script does to the store in memory while no port is held.
-use Rattle.std.specs.Prelude.{◌≡◌, ◌⊎◌, ℕ, Bool, Option, Some, None, List, [], ◌∷◌, ◌++◌, length, set, replicate, Result, Ok, Err, OnOk, IfErr, false}
+use Rattle.std.specs.Prelude.{◌≡◌, ◌⊎◌, ℕ, Bool, Option, Some, None, List, [], ◌∷◌, ◌++◌, length, set, replicate, Result, Ok, Err, false}
 use Rattle.std.specs.Io.KnownBytes.{Appends, Keeps}
 use Rattle.std.specs.declared.vec.Vec.{Vec}
 use Rattle.std.specs.declared.alloc.Global.{Global}
@@ -35,7 +35,7 @@ use Rattle.script_port.specs.Read.{Stretch, stretch, first_lines, ReadsNothing, 
 use Rattle.script_port.specs.Held.{WasHeld}
 use Rattle.trace_port.specs.Limits.{greatest_limit}
 use Rattle.script_port.specs.PortOpenings.{first_told, GoesOnOrBegins, IsNoSpec}
-use Rattle.simulator.specs.Stored.{TellsStore, TellsFiles}
+use Rattle.simulator.specs.Stored.{TellsStore, TellsFiles, BeginsSo, IsListedInPart}
 use Rattle.script_port.specs.Texts.{greeting, line_of}
 use Rattle.script_port.specs.declared.answer.Answer.TheVariants as answers
 use Rattle.script_port.specs.declared.fault.SimFault.{SimFault}
@@ -101,10 +101,11 @@ IsOver (Ok None) old new text = (new ≡ old) × (text ≡ [])
 IsOver (Err (stops.Refused refusal)) old new text = (new ≡ old) × (text ≡ line_of (answers.Refused refusal))
 IsOver (Err (stops.Failed fault)) old new text = ⊥
 
--- a fault that ended a run ends it, and no other
-abbrev pub IsItsFault : Result (Option Leave) Stop → SimFault → Type 0
-IsItsFault (Err (stops.Failed ended)) fault = fault ≡ ended
-IsItsFault _ fault = fault ≡ faults.Write
+-- what is answered of a line once its port is no more: how that was left, all of it or, where a write fails, a part; or nothing more, where a fault ended the run
+pub data IsFinished (old new : MemStore) (Writes : List ℕ → Type 0) : Result (Option Leave) Stop → Result Unit SimFault → Type 0 where
+  told : {left : Result (Option Leave) Stop} {text : List ℕ} → IsOver left old new text → Writes text → IsFinished old new Writes left (Ok tt)
+  not_told : {left : Result (Option Leave) Stop} {text begun : List ℕ} → IsOver left old new text → BeginsSo text begun → Writes begun → IsFinished old new Writes left (Err faults.Write)
+  failed : {fault : SimFault} → new ≡ old → Writes [] → IsFinished old new Writes (Err (stops.Failed fault)) (Err fault)
 
 -- the calls of a look at its files changed nothing
 abbrev pub OnlyLooked : MemStore → MemStore → Type 0
@@ -125,10 +126,21 @@ pub data Does (old new : MemStore) : Line → List ℕ → Type 0 where
   wipes_not : Rose (failures_of old) (failures_of new) → LeavesOnly clock_of moments_of old new (IsWiping (images_of old)) → Does old new lines.Wipe (line_of (answers.Refused refusals.Device))
   out_of_order : {line : Line} → new ≡ old → Does old new line (line_of answers.OutOfOrder)
 
+-- what such a line does where a fault ends it: what it does anyway, and of the answer a part is written; or it only looked, and told a part of what is there
+pub data Fails (old new : MemStore) (Writes : List ℕ → Type 0) : Line → SimFault → Type 0 where
+  answers_in_part : {line : Line} {text begun : List ℕ} → Does old new line text → BeginsSo text begun → Writes begun → Fails old new Writes line faults.Write
+  lists_in_part : {fault : SimFault} → IsListedInPart (reads_of old) (failures_of old) (failures_of new) Writes fault → OnlyLooked old new → Fails old new Writes lines.List fault
+  tells_files_in_part : OnlyLooked old new → Fails old new Writes lines.Files faults.Write
+
 -- what comes of a line that makes no port
+abbrev pub DoesOrFails : Line → MemStore → MemStore → Result Unit SimFault → (List ℕ → Type 0) → Type 0
+DoesOrFails line old new (Ok done) Writes = (text : List ℕ) × Does old new line text × Writes text
+DoesOrFails line old new (Err fault) Writes = Fails old new Writes line fault
+
+-- the same, as of a line whose port is no more
 abbrev pub DoesAlone : Line → MemStore → MemStore → Result (Option Leave) Stop → (List ℕ → Type 0) → Type 0
-DoesAlone line old new (Ok left) Writes = (left ≡ None) × ((text : List ℕ) × Does old new line text × Writes text)
-DoesAlone line old new (Err (stops.Failed fault)) Writes = Unit {0}
+DoesAlone line old new (Ok left) Writes = (left ≡ None) × DoesOrFails line old new (Ok tt) Writes
+DoesAlone line old new (Err (stops.Failed fault)) Writes = DoesOrFails line old new (Err fault) Writes
 DoesAlone line old new (Err (stops.Refused refusal)) Writes = ⊥
 
 -- there is no such wrap, and nothing was done
@@ -150,8 +162,7 @@ pub record IsRunWhole (line : Line) (old new : MemStore) (taken : Stretch) (resu
   pub between : Option (List ℕ)
   pub left : Result (Option Leave) Stop
   pub runs : Runs line old mid taken left (λ text. Appends was between text)
-  pub over : OnOk result ((text : List ℕ) × IsOver left mid new text × Appends between now text)
-  pub fault : IfErr result (IsItsFault left)
+  pub over : IsFinished mid new (λ text. Appends between now text) left result
 
 -- lines were run whole one after another, each on the store that the one before it left, and each was the next one of the script, after all that was read for the one before it
 pub data AreRun (of_desk : Bool) (first : MemStore) (from : Progress) (out : Option (List ℕ)) : List Line → MemStore → Progress → Option (List ℕ) → Type 0 where

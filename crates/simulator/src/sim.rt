@@ -1,5 +1,5 @@
 //! A script over a store in memory.
-ghost use Rattle.std.specs.Prelude.{◌≡◌, ◌≢◌, ◌<◌, ◌≤◌, ℕ, Option, List, Result, length, OnOk, IfErr, false};
+ghost use Rattle.std.specs.Prelude.{◌≡◌, ◌≢◌, ◌<◌, ◌≤◌, ℕ, Option, List, Result, length, false};
 ghost use Rattle.std.specs.Io.KnownBytes.{Appends};
 ghost use Rattle.stores.specs.MemStore.{reads_of};
 ghost use Rattle.trace_script.specs.Lines.{IsWithinLimits, IsOfFiles};
@@ -7,9 +7,8 @@ ghost use Rattle.segment.specs.Specification.{Spec, File};
 ghost use Rattle.wrap_port.specs.WrapSpecs.{wrap_seen};
 ghost use Rattle.script_port.specs.{LinesRun.Answering, LinesRun.RunsLines, PortOpenings.FitsStore, Texts.line_of};
 ghost use Rattle.trace_port.specs.Limits.{greatest_limit};
-ghost use Rattle.simulator.specs.Simulated.{ended_so, RanOn, ComesOf, Crashes, Does, DoesAlone, Runs, IsRunWhole, Simulates, IsOver, IsItsFault, IsRun, first_of as first_told};
+ghost use Rattle.simulator.specs.Simulated.{ended_so, RanOn, ComesOf, Crashes, Does, DoesAlone, DoesOrFails, Runs, IsRunWhole, Simulates, IsFinished, IsRun, first_of as first_told};
 ghost use Rattle.trace_port.specs.declared.create.CreateFault.TheVariants as creating;
-ghost use Rattle.script_port.specs.declared.fault.SimFault.TheVariants as faults;
 ghost use Rattle.script_port.specs.declared.refusal.Refusal.TheVariants as refusals;
 ghost use Rattle.script_port.specs.declared.reply.Stop.TheVariants as stops;
 ghost use Rattle.trace_script.specs.declared.line.Line.TheVariants as lines;
@@ -285,14 +284,14 @@ fn run_store_line<W: Write>(
 ) -> Result<(), SimFault>
     requires sound { IsWithinLimits line.now }
     requires file { IsOfFiles (length (reads_of store.old)) line.now }
-    ensures does { Answering W.Write answers.old answers.new (λ was now. OnOk result ((text : List ℕ) × Does store.old store.new line.now text × Appends was now text)) }
+    ensures does { Answering W.Write answers.old answers.new (λ was now. DoesOrFails line.now store.old store.new result (λ text. Appends was now text)) }
 {
     match line {
         Line::Store(files) => answers.tell(set_store(alloc, store, *files)),
         Line::Bytes(file, bytes) => answers.tell(set_bytes(alloc, store, *file, bytes)),
         Line::Fuse(calls) => answers.tell(set_fuse(store, *calls)),
         Line::FailOnce(calls) => answers.tell(set_fail_once(store, *calls)),
-        Line::Crash(unsynced) => crash(store, *unsynced, answers),
+        Line::Crash(unsynced) => answers.tell(crashed(store, *unsynced)),
         Line::Files => list_files(store, answers),
         Line::List => list(alloc, store, answers),
         Line::Wipe => answers.tell(cleared(store)),
@@ -360,13 +359,12 @@ fn finish<W: Write>(
     left: Result<Option<Leave>, Stop>,
     answers: &mut Answers<'_, W>,
 ) -> Result<(), SimFault>
-    ensures over { Answering W.Write answers.old answers.new (λ was now. OnOk result ((text : List ℕ) × IsOver left store.old store.new text × Appends was now text)) }
-    ensures fault { IfErr result (IsItsFault left) }
+    ensures over { Answering W.Write answers.old answers.new (λ was now. IsFinished store.old store.new (λ text. Appends was now text) left result) }
 {
     match left {
         Ok(Some(Leave::Abandoned)) => answers.tell(Answer::Done),
         Ok(Some(Leave::Closed)) => answers.tell(Answer::Closed),
-        Ok(Some(Leave::Crashed(unsynced))) => crash(store, unsynced, answers),
+        Ok(Some(Leave::Crashed(unsynced))) => answers.tell(crashed(store, unsynced)),
         Ok(None) => Ok(()),
         Err(Stop::Refused(refusal)) => answers.tell(Answer::Refused(refusal)),
         Err(Stop::Failed(fault)) => Err(fault),
@@ -381,16 +379,4 @@ fn crashed(store: &mut MemStore, unsynced: Unsynced) -> Answer
         Ok(()) => Answer::Done,
         Err(fault) => Answer::Refused(Refusal::Crash(fault)),
     }
-}
-
-/// Crashes the store, and answers of that.
-fn crash<W: Write>(
-    store: &mut MemStore,
-    unsynced: Unsynced,
-    answers: &mut Answers<'_, W>,
-) -> Result<(), SimFault>
-    ensures crashes { Answering W.Write answers.old answers.new (λ was now. OnOk result ((text : List ℕ) × Crashes unsynced store.old store.new text × Appends was now text)) }
-    ensures fault { IfErr result (λ fault. fault ≡ faults.Write) }
-{
-    answers.tell(crashed(store, unsynced))
 }

@@ -2,7 +2,6 @@ use Rattle.std.proofs.Common.{map, refl, ap, subst, ◌∙◌, Bool, rules}
 use Rattle.std.proofs.lemmas.Result.{err_from_is_err_and}
 use Rattle.trace_script.specs.Reading.{progress}
 use Rattle.trace_script.specs.declared.fault.ScriptFault.TheVariants as scripts
-use Rattle.script_port.specs.declared.fault.SimFault.TheVariants as faults
 use Rattle.script_port.specs.Sides.{AtDesk, first_side, desk_seen, seat_seen, side_seen}
 use Rattle.script_port.specs.Held.{IsAtDesk}
 use Rattle.script_port.specs.Read.{IsNoLine, IsBrokenOff}
@@ -39,7 +38,7 @@ returns-in_err-line g c =
               name = c.loop-line.invariant.name;
               same = c.loop-line.invariant.same;
               first = c.loop-line.invariant.first;
-              did = rw (p.1, p.2) (failed_through told first (AtDesk (side_seen g.P.TracePort c.loop-line.desk c.loop-line.attached)) (IsAtDesk (desk_seen g.P.TracePort c.loop-line.desk)) _ _ _ _ c.args.script.now.is_of_desk _ _ _ _ c.loop-line.invariant.run refl
+              did = rw (p.1, p.2) (failed_through told first (AtDesk (side_seen g.P.TracePort c.loop-line.desk c.loop-line.attached)) (IsAtDesk (desk_seen g.P.TracePort c.loop-line.desk)) _ _ _ c.args.script.now.is_of_desk _ _ _ _ c.loop-line.invariant.run refl
                   (IsBrokenOff.no_line (subst (λ (d : Bool). IsNoLine d c.args.files was is c.in_err-line.field-0.0) c.loop-line.invariant.of_desk c.in_err-line.ensures.next)));
             };
           };
@@ -75,8 +74,8 @@ returns-in_err-tell-in-Told g c =
               name = c.ask_owned.ensures.step.name ∙ c.loop-line.invariant.name;
               same = c.ask_owned.ensures.step.same ∙ c.loop-line.invariant.same;
               first = c.ask_owned.ensures.step.first ∙ c.loop-line.invariant.first;
-              did = rw (p.1, p.2, c.in_err-tell-in-Told.ensures.fault) (failed_behind g.P.TracePort.told (AtDesk (first_side (desk_seen g.P.TracePort c.args.desk.now))) (AtDesk (side_seen g.P.TracePort c.loop-line.desk c.loop-line.attached)) (AtDesk (side_seen g.P.TracePort c.ask_owned.new.desk c.ask_owned.new.attached)) (IsAtDesk (desk_seen g.P.TracePort c.ask_owned.new.desk)) _
-                  _ c.ask_owned.result c.in-Told.answer _ _ c.args.script.now.is_of_desk _ _ _ _ c.loop-line.invariant.run c.ask_owned.ensures.step.did c.in-Told.is refl comes.0 comes.1 faults.Write (IsBrokenOff.not_written refl));
+              did = rw (p.1, p.2, c.in_err-tell-in-Told.ensures.fault) (failed_behind g.P.TracePort.told (AtDesk (first_side (desk_seen g.P.TracePort c.args.desk.now))) (AtDesk (side_seen g.P.TracePort c.loop-line.desk c.loop-line.attached)) (AtDesk (side_seen g.P.TracePort c.ask_owned.new.desk c.ask_owned.new.attached)) (IsAtDesk (desk_seen g.P.TracePort c.ask_owned.new.desk))
+                  _ c.ask_owned.result c.in-Told.answer _ _ _ c.args.script.now.is_of_desk _ _ _ _ c.loop-line.invariant.run c.ask_owned.ensures.step.did c.in-Told.is refl comes.0 comes.1 c.in_err-tell-in-Told.ensures.cut);
             };
           };
     }
@@ -124,7 +123,7 @@ returns g c =
           name = c.loop-line.invariant.name;
           same = c.loop-line.invariant.same;
           first = c.loop-line.invariant.first;
-          did = failed_through g.P.TracePort.told (AtDesk (first_side (desk_seen g.P.TracePort c.args.desk.now))) (AtDesk (side_seen g.P.TracePort c.loop-line.desk c.loop-line.attached)) (IsAtDesk (desk_seen g.P.TracePort c.loop-line.desk)) _ _ _ _ c.args.script.now.is_of_desk _ _ _ _
+          did = failed_through g.P.TracePort.told (AtDesk (first_side (desk_seen g.P.TracePort c.args.desk.now))) (AtDesk (side_seen g.P.TracePort c.loop-line.desk c.loop-line.attached)) (IsAtDesk (desk_seen g.P.TracePort c.loop-line.desk)) _ _ _ c.args.script.now.is_of_desk _ _ _ _
               c.loop-line.invariant.run refl (IsBrokenOff.no_line (IsNoLine.not_given scripts.Read (none_read c.args.script.now.is_of_desk _)));
         };
       };

@@ -1,19 +1,20 @@
 use Rattle.std.proofs.Common.{refl, subst, ◌∙◌}
 use Rattle.std.proofs.lemmas.Result.{err_from_is_err_and}
 use Rattle.std.specs.Io.KnownBytes.{Appends}
+use Rattle.trace_client.specs.Output.{AppendsPrefix}
 use Rattle.script_port.specs.declared.answer.Answer.{Answer}
-use Rattle.script_port.specs.declared.fault.SimFault.TheVariants as faults
 use Rattle.script_port.specs.Texts.{line_of, greeting}
 use Rattle.script_port.specs.Sides.{Alone}
 use Rattle.script_port.specs.Held.{IsLetGo}
-use Rattle.script_port.specs.Read.{IsBrokenOff}
-use Rattle.script_port.proofs.Through.{reads_none, failed_through, ran_behind}
+use Rattle.script_port.proofs.Through.{not_greeted, ran_behind}
 use Rattle.script_port.proofs.port_lines.run_port.Goals as goal
 
 pub returns-in_err-tell : goal.returns-in_err-tell
 returns-in_err-tell g c =
     record {
       run = let told = g.P.TracePort.told in
+          let start = g.W.Write.contents c.args.answers.now.writer.now in
+          let before = g.W.Write.contents c.tell.new.self.writer.now in
           let p = err_from_is_err_and c.from_residual.result c.from_residual.ensures.1 in
           record {
             name = c.in_err-tell.ensures.name;
@@ -21,8 +22,8 @@ returns-in_err-tell g c =
             reader = refl;
             did = record {
               same = refl;
-              did = rw (p.1, p.2, c.in_err-tell.ensures.fault) (failed_through told (Alone c.args.port.now) (Alone c.args.port.now) (λ end. IsLetGo told end c.args.port.now) _ faults.Write _ _ c.args.script.now.is_of_desk _ _ _ _
-                  (reads_none told (Alone c.args.port.now) (g.W.Write.contents c.args.answers.now.writer.now) c.args.script.now.is_of_desk c.args.files _) refl (IsBrokenOff.not_written refl));
+              did = rw (p.1, p.2, c.in_err-tell.ensures.fault) (not_greeted told (Alone c.args.port.now) (λ end. IsLetGo told end c.args.port.now) (line_of (greeting c.args.origin (told c.args.port.now).total)) start before c.args.script.now.is_of_desk c.args.files _ _ refl refl
+                  (subst (λ (a : Answer). AppendsPrefix start before (line_of a)) c.greet.ensures c.in_err-tell.ensures.cut));
             };
           };
     }

@@ -3,7 +3,6 @@ use Rattle.std.proofs.lemmas.Result.{err_from_is_err_and}
 use Rattle.trace_script.specs.Reading.{progress}
 use Rattle.trace_script.specs.declared.line.Line.TheVariants as lines
 use Rattle.trace_script.specs.declared.fault.ScriptFault.TheVariants as scripts
-use Rattle.script_port.specs.declared.fault.SimFault.TheVariants as faults
 use Rattle.script_port.specs.Sides.{Alone}
 use Rattle.script_port.specs.Held.{IsLetGo}
 use Rattle.script_port.specs.Read.{IsNoLine, IsBrokenOff}
@@ -26,7 +25,7 @@ returns-in_err-line g c =
             reader = c.next_line.ensures.reader ∙ c.loop-line.invariant.reader;
             did = record {
               same = c.loop-line.invariant.same;
-              did = rw (p.1, p.2) (failed_through told (Alone c.args.port.now) (Alone c.loop-line.port) (λ end. IsLetGo told end c.loop-line.port) _ _ _ _ c.args.script.now.is_of_desk _ _ _ _ c.loop-line.invariant.run refl
+              did = rw (p.1, p.2) (failed_through told (Alone c.args.port.now) (Alone c.loop-line.port) (λ end. IsLetGo told end c.loop-line.port) _ _ _ c.args.script.now.is_of_desk _ _ _ _ c.loop-line.invariant.run refl
                   (IsBrokenOff.no_line (subst (λ (d : Bool). IsNoLine d c.args.files was is c.in_err-line.field-0.0) c.loop-line.invariant.of_desk c.in_err-line.ensures.next)));
             };
           };
@@ -77,8 +76,8 @@ returns-in_err-tell-in-Told g c =
             reader = c.next_line.ensures.reader ∙ c.loop-line.invariant.reader;
             did = record {
               same = c.ask_owned.ensures.step.same ∙ c.loop-line.invariant.same;
-              did = rw (p.1, p.2, c.in_err-tell-in-Told.ensures.fault) (failed_behind told (Alone c.args.port.now) (Alone c.loop-line.port) (Alone c.ask_owned.new.port) (λ end. IsLetGo told end c.ask_owned.new.port) _
-                  _ c.ask_owned.result c.in-Told.answer _ _ c.args.script.now.is_of_desk _ _ _ _ c.loop-line.invariant.run c.ask_owned.ensures.step.did c.in-Told.is refl comes.0 comes.1 faults.Write (IsBrokenOff.not_written refl));
+              did = rw (p.1, p.2, c.in_err-tell-in-Told.ensures.fault) (failed_behind told (Alone c.args.port.now) (Alone c.loop-line.port) (Alone c.ask_owned.new.port) (λ end. IsLetGo told end c.ask_owned.new.port)
+                  _ c.ask_owned.result c.in-Told.answer _ _ _ c.args.script.now.is_of_desk _ _ _ _ c.loop-line.invariant.run c.ask_owned.ensures.step.did c.in-Told.is refl comes.0 comes.1 c.in_err-tell-in-Told.ensures.cut);
             };
           };
     }
@@ -122,7 +121,7 @@ returns g c =
             reader = c.loop-line.invariant.reader;
             did = record {
               same = c.loop-line.invariant.same;
-              did = failed_through told (Alone c.args.port.now) (Alone c.loop-line.port) (λ end. IsLetGo told end c.loop-line.port) _ _ _ _ c.args.script.now.is_of_desk _ _ _ _
+              did = failed_through told (Alone c.args.port.now) (Alone c.loop-line.port) (λ end. IsLetGo told end c.loop-line.port) _ _ _ c.args.script.now.is_of_desk _ _ _ _
                   c.loop-line.invariant.run refl (IsBrokenOff.no_line (IsNoLine.not_given scripts.Read (none_read c.args.script.now.is_of_desk _)));
             };
           };

@@ -1,53 +1,89 @@
 use Rattle.std.proofs.Common.{refl}
-use Rattle.std.specs.Io.KnownBytes.{Appends}
 use Rattle.trace_script.specs.declared.line.Line.TheVariants as lines
 use Rattle.script_port.specs.Texts.{line_of}
 use Rattle.script_port.specs.declared.answer.Answer.TheVariants as answers
-use Rattle.simulator.specs.Simulated.{Does, Crashes, crashes, lists, tells_files, out_of_order}
-use Rattle.simulator.proofs.Simulating.{told_so, answered_so}
+use Rattle.simulator.specs.Simulated.{crashes, out_of_order}
+use Rattle.simulator.proofs.Simulating.{does_so, lists_so, tells_so}
 use Rattle.simulator.proofs.sim.run_store_line.Goals as goal
+
+pub returns-in-Store : goal.returns-in-Store
+returns-in-Store g c =
+    record {
+      does = record {
+        name = c.tell.ensures.name;
+        did = rw c.in-Store.is (does_so c.tell.result (lines.Store _) c.args.store.now c.set_store.new.store _ _ (line_of c.set_store.result) c.set_store.ensures c.tell.ensures.text c.tell.ensures.cut c.tell.ensures.fault);
+      };
+    }
+
+pub returns-in-Bytes : goal.returns-in-Bytes
+returns-in-Bytes g c =
+    record {
+      does = record {
+        name = c.tell-in-Bytes.ensures.name;
+        did = rw c.in-Bytes.is (does_so c.tell-in-Bytes.result (lines.Bytes _ _) c.args.store.now c.set_bytes.new.store _ _ (line_of c.set_bytes.result) c.set_bytes.ensures c.tell-in-Bytes.ensures.text c.tell-in-Bytes.ensures.cut c.tell-in-Bytes.ensures.fault);
+      };
+    }
+
+pub returns-in-Fuse : goal.returns-in-Fuse
+returns-in-Fuse g c =
+    record {
+      does = record {
+        name = c.tell-in-Fuse.ensures.name;
+        did = rw c.in-Fuse.is (does_so c.tell-in-Fuse.result (lines.Fuse _) c.args.store.now c.set_fuse.new.store _ _ (line_of c.set_fuse.result) c.set_fuse.ensures c.tell-in-Fuse.ensures.text c.tell-in-Fuse.ensures.cut c.tell-in-Fuse.ensures.fault);
+      };
+    }
+
+pub returns-in-FailOnce : goal.returns-in-FailOnce
+returns-in-FailOnce g c =
+    record {
+      does = record {
+        name = c.tell-in-FailOnce.ensures.name;
+        did = rw c.in-FailOnce.is (does_so c.tell-in-FailOnce.result (lines.FailOnce _) c.args.store.now c.set_fail_once.new.store _ _ (line_of c.set_fail_once.result) c.set_fail_once.ensures c.tell-in-FailOnce.ensures.text c.tell-in-FailOnce.ensures.cut c.tell-in-FailOnce.ensures.fault);
+      };
+    }
 
 pub returns-in-Crash : goal.returns-in-Crash
 returns-in-Crash g c =
     record {
-      does = let old = c.args.store.now in
-          let new = c.crash.new.store in
-          record {
-            name = c.crash.ensures.crashes.name;
-            did = rw c.in-Crash.is (told_so c.crash.result (λ text. Crashes _ old new text) (λ text. Does old new (lines.Crash _) text)
-                (λ text. Appends (g.W.Write.contents c.args.answers.now.writer.now) (g.W.Write.contents c.crash.new.answers.writer.now) text) (λ text h. crashes h) c.crash.ensures.crashes.did);
-          };
+      does = record {
+        name = c.tell-in-Crash.ensures.name;
+        did = rw c.in-Crash.is (does_so c.tell-in-Crash.result (lines.Crash _) c.args.store.now c.crashed.new.store _ _ (line_of c.crashed.result) (crashes c.crashed.ensures) c.tell-in-Crash.ensures.text c.tell-in-Crash.ensures.cut c.tell-in-Crash.ensures.fault);
+      };
+    }
+
+pub returns-in-Wipe : goal.returns-in-Wipe
+returns-in-Wipe g c =
+    record {
+      does = record {
+        name = c.tell-in-Wipe.ensures.name;
+        did = rw c.in-Wipe.is (does_so c.tell-in-Wipe.result lines.Wipe c.args.store.now c.cleared.new.store _ _ (line_of c.cleared.result) c.cleared.ensures c.tell-in-Wipe.ensures.text c.tell-in-Wipe.ensures.cut c.tell-in-Wipe.ensures.fault);
+      };
     }
 
 pub returns-in-List : goal.returns-in-List
 returns-in-List g c =
     record {
-      does = let old = c.args.store.now in
-          let new = c.list.new.store in
-          record {
-            name = c.list.ensures.tells.name;
-            did = rw c.in-List.is (told_so c.list.result _ (λ text. Does old new lines.List text)
-                (λ text. Appends (g.W.Write.contents c.args.answers.now.writer.now) (g.W.Write.contents c.list.new.answers.writer.now) text) (λ text h. lists h c.list.ensures.only_reads) (c.list.ensures.tells.did tt));
-          };
+      does = record {
+        name = c.list.ensures.tells.name;
+        did = rw c.in-List.is (lists_so c.list.result c.args.store.now c.list.new.store _ (c.list.ensures.tells.did tt) c.list.ensures.only_reads);
+      };
     }
 
 pub returns-in-Files : goal.returns-in-Files
 returns-in-Files g c =
     record {
-      does = let old = c.args.store.now in
-          let new = c.list_files.new.store in
-          record {
-            name = c.list_files.ensures.tells.name;
-            did = rw c.in-Files.is (told_so c.list_files.result _ (λ text. Does old new lines.Files text)
-                (λ text. Appends (g.W.Write.contents c.args.answers.now.writer.now) (g.W.Write.contents c.list_files.new.answers.writer.now) text) (λ text h. tells_files h c.list_files.ensures.only_reads) (c.list_files.ensures.tells.did tt));
-          };
+      does = record {
+        name = c.list_files.ensures.tells.name;
+        did = rw c.in-Files.is (tells_so c.list_files.result c.args.store.now c.list_files.new.store _ (c.list_files.ensures.tells.did tt) c.list_files.ensures.fault c.list_files.ensures.only_reads);
+      };
     }
 
 pub returns-in_default : goal.returns-in_default
 returns-in_default g c =
+    let tell = c.tell-in_default in
     record {
       does = record {
-        name = c.tell-in_default.ensures.name;
-        did = answered_so c.tell-in_default.result (line_of answers.OutOfOrder) (λ text. Does c.args.store.now c.args.store.now c.args.line.now text) _ (out_of_order refl) c.tell-in_default.ensures.text;
+        name = tell.ensures.name;
+        did = does_so tell.result c.args.line.now c.args.store.now c.args.store.now _ _ (line_of answers.OutOfOrder) (out_of_order refl) tell.ensures.text tell.ensures.cut tell.ensures.fault;
       };
     }

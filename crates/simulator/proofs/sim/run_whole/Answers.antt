@@ -14,7 +14,6 @@ returns g c =
           left = c.run_line-left.result;
           runs = c.run_line-left.ensures.runs.did;
           over = c.finish.ensures.over.did;
-          fault = c.finish.ensures.fault;
         };
       };
     }
