@@ -26,8 +26,6 @@ pub use any_laws::{
     subset_is_spelled,
 };
 pub use atom_text::is_plain;
-pub use line::{
-    Apart, put_before, put_end, put_line, put_missing, put_opaque_line, whole_term,
-};
+pub use line::{Apart, put_before, put_end, put_line, put_missing, put_opaque_line, whole_term};
 pub use pretty::PrettyTeller;
 pub use style::Style;
