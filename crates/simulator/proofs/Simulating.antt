@@ -13,10 +13,11 @@ use Rattle.trace_script.specs.Reading.{Progress}
 use Rattle.trace_script.specs.declared.line.Line.{Line}
 use Rattle.trace_script.specs.declared.line.Line.TheVariants as lines
 use Rattle.script_port.specs.Read.{Stretch, stretch, first_lines}
-use Rattle.simulator.specs.Simulated.{device, Does, lists, tells_files, Fails, answers_in_part, lists_in_part, tells_files_in_part, DoesOrFails, IsOver, IsFinished, told, not_told, failed, OnlyLooked, IsRunWhole, LeavesSo, WasRun, ComesOf, ended_so, Simulates, IsRun, runs, not_written_out, first_of}
+use Rattle.simulator.specs.Simulated.{device, Does, lists, tells_files, Fails, answers_in_part, lists_in_part, tells_files_in_part, DoesOrFails, IsOver, IsFinished, told, not_told, failed, OnlyLooked, IsRunWhole, LeavesSo, WasRun, ComesOf, SaysWhyNot, ended_so, Simulates, IsRun, runs, not_written_out, first_of}
 use Rattle.simulator.specs.Stored.{IsListed, TellsFiles}
 use Rattle.script_port.specs.declared.fault.SimFault.TheVariants as faults
 use Rattle.script_port.specs.declared.fault.SimFault.{SimFault}
+use Rattle.script_port.specs.declared.refusal.Refusal.{Refusal}
 use Rattle.script_port.specs.declared.reply.Leave.{Leave}
 use Rattle.script_port.specs.declared.reply.Stop.{Stop}
 use Rattle.script_port.specs.declared.reply.Stop.TheVariants as stops
@@ -27,6 +28,11 @@ use Rattle.script_port.specs.declared.reply.Origin.TheVariants.{Resumed}
 pub was_run : (origin : Origin) (spec : Spec) (limit : ℕ) (old new : MemStore) (over : Stretch) (left : Result (Option Leave) SimFault) (Writes : List ℕ → Type 0) → WasRun origin spec limit old new over left Writes → ComesOf origin spec limit old new over (ended_so left) Writes
 was_run origin spec limit old new over (Ok left) Writes run = run
 was_run origin spec limit old new over (Err fault) Writes run = run
+
+-- and it wasn't refused
+pub not_refused : {Fault : Type 0} (name : Fault → Refusal) (Why : MemStore → MemStore → Fault → Type 0) (old new : MemStore) (left : Result (Option Leave) SimFault) → SaysWhyNot name Why old new (ended_so left)
+not_refused name Why old new (Ok leave) = tt
+not_refused name Why old new (Err fault) = tt
 
 -- a line was run whole, in a script of the same kind
 pub whole_so : (of_desk here : Bool) (line : Line) (old new : MemStore) (behind to : Progress) (result : Result Unit SimFault) (was now : Option (List ℕ)) → here ≡ of_desk → IsRunWhole line old new (stretch here behind to) result was now

@@ -19,12 +19,15 @@ use Rattle.recovery.specs.Stores.{readings, IsBlank}
 use Rattle.recovery.specs.Wiping.{IsWiped, IsWiping}
 use Rattle.trace_port.specs.declared.create.CreateFault.TheVariants.{BadSpec}
 use Rattle.trace_port.specs.Openings.{ReadsAlike}
+use Rattle.trace_port.specs.Creations.{IsNotCreated}
+use Rattle.trace_port.specs.Resumptions.{IsNotResumed}
 use Rattle.trace_port.specs.Opened.{opened_told}
 use Rattle.trace_port.specs.Sound.{ReadsAs}
 use Rattle.trace_port.specs.FilePort.{file_told}
 use Rattle.trace_port.specs.contracts.pending.PendingRoom.TheImpl as pending
 use Rattle.wrap_port.specs.WrapOpened.{wrap_opened_told}
 use Rattle.wrap_port.specs.WrapPort.{wrap_told}
+use Rattle.wrap_port.specs.Resumptions.{IsNotResumed as IsNoWrapResumed}
 use Rattle.trace_script.specs.declared.line.Line.{Line}
 use Rattle.trace_script.specs.declared.line.Line.TheVariants as lines
 use Rattle.trace_script.specs.declared.line.Unsynced.{Unsynced}
@@ -147,13 +150,29 @@ DoesAlone line old new (Err (stops.Refused refusal)) Writes = ⊥
 abbrev pub IsNoWrap : MemStore → MemStore → Result (Option Leave) Stop → (List ℕ → Type 0) → Type 0
 IsNoWrap old new result Writes = (new ≡ old) × (result ≡ Err (stops.Refused (refusals.Create BadSpec))) × Writes []
 
+-- a line that makes a port, and is refused, is told why: by such a fault, and what that says of the store holds
+abbrev pub SaysWhyNot : {Fault : Type 0} → (Fault → Refusal) → (MemStore → MemStore → Fault → Type 0) → MemStore → MemStore → Result (Option Leave) Stop → Type 0
+SaysWhyNot name Why old new (Ok left) = Unit {0}
+SaysWhyNot name Why old new (Err (stops.Failed fault)) = Unit {0}
+SaysWhyNot {Fault} name Why old new (Err (stops.Refused refusal)) = (fault : Fault) × (refusal ≡ name fault) × Why old new fault
+
+-- of a creation, and of a resumption of a file or of a wrap
+abbrev pub SaysWhyNotCreated : MemStore → MemStore → Result (Option Leave) Stop → Type 0
+SaysWhyNotCreated = SaysWhyNot refusals.Create (IsNotCreated mem.ghosts)
+
+abbrev pub SaysWhyNotResumed : MemStore → MemStore → Result (Option Leave) Stop → Type 0
+SaysWhyNotResumed = SaysWhyNot refusals.Resume (IsNotResumed mem.ghosts)
+
+abbrev pub SaysWhyNoWrap : MemStore → MemStore → Result (Option Leave) Stop → Type 0
+SaysWhyNoWrap = SaysWhyNot refusals.Resume (IsNoWrapResumed mem.ghosts)
+
 -- what comes of a line, and of the stretch of the script after it that its port takes
 abbrev pub Runs : Line → MemStore → MemStore → Stretch → Result (Option Leave) Stop → (List ℕ → Type 0) → Type 0
-Runs (lines.CreateFile limit) old new over result Writes = ComesOf Created File limit old new over result Writes
-Runs (lines.ResumeFile limit) old new over result Writes = ComesOf Resumed File limit old new over result Writes
-Runs (lines.CreateWrap size count) old new over result Writes = ComesOf Created (Wrap size count) greatest_limit old new over result Writes ⊎ (IsNoSpec (Wrap size count) × IsNoWrap old new result Writes × ReadsNothing over)
-Runs (lines.CreateTime millis count) old new over result Writes = ComesOf Created (Timed millis count) greatest_limit old new over result Writes ⊎ (IsNoSpec (Timed millis count) × IsNoWrap old new result Writes × ReadsNothing over)
-Runs lines.ResumeWrap old new over result Writes = (spec : Spec) → ComesOf Resumed spec greatest_limit old new over result Writes
+Runs (lines.CreateFile limit) old new over result Writes = ComesOf Created File limit old new over result Writes × SaysWhyNotCreated old new result
+Runs (lines.ResumeFile limit) old new over result Writes = ComesOf Resumed File limit old new over result Writes × SaysWhyNotResumed old new result
+Runs (lines.CreateWrap size count) old new over result Writes = (ComesOf Created (Wrap size count) greatest_limit old new over result Writes × SaysWhyNotCreated old new result) ⊎ (IsNoSpec (Wrap size count) × IsNoWrap old new result Writes × ReadsNothing over)
+Runs (lines.CreateTime millis count) old new over result Writes = (ComesOf Created (Timed millis count) greatest_limit old new over result Writes × SaysWhyNotCreated old new result) ⊎ (IsNoSpec (Timed millis count) × IsNoWrap old new result Writes × ReadsNothing over)
+Runs lines.ResumeWrap old new over result Writes = ((spec : Spec) → ComesOf Resumed spec greatest_limit old new over result Writes) × SaysWhyNoWrap old new result
 Runs line old new over result Writes = DoesAlone line old new result Writes × ReadsNothing over
 
 -- a line was run whole: with its port, if it made one, the stretch of the script that this took, and what is answered once that is no more

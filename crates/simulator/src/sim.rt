@@ -7,7 +7,7 @@ ghost use Rattle.segment.specs.Specification.{Spec, File};
 ghost use Rattle.wrap_port.specs.WrapSpecs.{wrap_seen};
 ghost use Rattle.script_port.specs.{LinesRun.Answering, LinesRun.RunsLines, PortOpenings.FitsStore, Texts.line_of};
 ghost use Rattle.trace_port.specs.Limits.{greatest_limit};
-ghost use Rattle.simulator.specs.Simulated.{ended_so, RanOn, ComesOf, Crashes, Does, DoesAlone, DoesOrFails, Runs, IsRunWhole, Simulates, IsFinished, IsRun, first_of as first_told};
+ghost use Rattle.simulator.specs.Simulated.{ended_so, RanOn, ComesOf, SaysWhyNotCreated, SaysWhyNotResumed, SaysWhyNoWrap, Crashes, Does, DoesAlone, DoesOrFails, Runs, IsRunWhole, Simulates, IsFinished, IsRun, first_of as first_told};
 ghost use Rattle.trace_port.specs.declared.create.CreateFault.TheVariants as creating;
 ghost use Rattle.script_port.specs.declared.refusal.Refusal.TheVariants as refusals;
 ghost use Rattle.script_port.specs.declared.reply.Stop.TheVariants as stops;
@@ -209,6 +209,7 @@ fn create_file<R: BufRead, W: Write>(
     answers: &mut Answers<'_, W>,
 ) -> Result<Option<Leave>, Stop>
     ensures comes { RunsLines R.Read W.Write script.old script.new answers.old answers.new (λ over was now. ComesOf Created File limit store.old store.new over result (λ text. Appends was now text)) }
+    ensures why_not { SaysWhyNotCreated store.old store.new result }
 {
     match begin_create(alloc, &mut *store, limit) {
         Ok(opening) => {
@@ -228,6 +229,7 @@ fn resume_file<R: BufRead, W: Write>(
     answers: &mut Answers<'_, W>,
 ) -> Result<Option<Leave>, Stop>
     ensures comes { RunsLines R.Read W.Write script.old script.new answers.old answers.new (λ over was now. ComesOf Resumed File limit store.old store.new over result (λ text. Appends was now text)) }
+    ensures why_not { SaysWhyNotResumed store.old store.new result }
 {
     match begin_resume(alloc, &mut *store, limit) {
         Ok(opening) => {
@@ -246,6 +248,7 @@ fn resume_wrap<R: BufRead, W: Write>(
     answers: &mut Answers<'_, W>,
 ) -> Result<Option<Leave>, Stop>
     ensures comes { RunsLines R.Read W.Write script.old script.new answers.old answers.new (λ over was now. (spec : Spec) → ComesOf Resumed spec greatest_limit store.old store.new over result (λ text. Appends was now text)) }
+    ensures why_not { SaysWhyNoWrap store.old store.new result }
 {
     match wrap_port::begin_resume(alloc, &mut *store) {
         Ok(opening) => {
@@ -265,6 +268,7 @@ fn create_wrap<R: BufRead, W: Write>(
     answers: &mut Answers<'_, W>,
 ) -> Result<Option<Leave>, Stop>
     ensures comes { RunsLines R.Read W.Write script.old script.new answers.old answers.new (λ over was now. ComesOf Created (wrap_seen spec) greatest_limit store.old store.new over result (λ text. Appends was now text)) }
+    ensures why_not { SaysWhyNotCreated store.old store.new result }
 {
     match wrap_port::begin_create(alloc, &mut *store, spec) {
         Ok(opening) => {

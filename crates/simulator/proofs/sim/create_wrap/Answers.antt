@@ -1,10 +1,13 @@
 use Rattle.std.proofs.Common.{ap}
 use Rattle.recovery.specs.Stores.{is_blank}
 use Rattle.wrap_port.specs.WrapSpecs.{wrap_seen}
+use Rattle.stores.specs.contracts.mem_store.MemStoreStore.TheImpl as mem
+use Rattle.trace_port.specs.Creations.{IsNotCreated}
 use Rattle.script_port.specs.PortOpenings.{begins}
 use Rattle.script_port.specs.declared.opening.AnyOpening.TheVariants as openings
+use Rattle.script_port.specs.declared.refusal.Refusal.TheVariants as refusals
 use Rattle.script_port.specs.declared.reply.Origin.TheVariants.{Created}
-use Rattle.simulator.proofs.Simulating.{was_run}
+use Rattle.simulator.proofs.Simulating.{was_run, not_refused}
 use Rattle.simulator.proofs.sim.create_wrap.Goals as goal
 
 pub returns-in-Ok : goal.returns-in-Ok
@@ -23,4 +26,5 @@ returns-in-Ok g c =
               ran = c.hold.ensures.held.did.2;
             }));
           };
+      why_not = rw c.hold.ensures.held.did.1 (not_refused refusals.Create (IsNotCreated mem.ghosts) c.args.store.now c.hold.new.store c.hold.ensures.held.did.0);
     }

@@ -1,10 +1,13 @@
 use Rattle.std.proofs.Common.{refl}
 use Rattle.segment.specs.Specification.{File}
 use Rattle.std.proofs.KnownBytes.{Appends-nil}
+use Rattle.stores.specs.contracts.mem_store.MemStoreStore.TheImpl as mem
+use Rattle.trace_port.specs.Resumptions.{IsNotResumed}
 use Rattle.script_port.specs.PortOpenings.{goes_on}
 use Rattle.script_port.specs.declared.opening.AnyOpening.TheVariants as openings
+use Rattle.script_port.specs.declared.refusal.Refusal.TheVariants as refusals
 use Rattle.script_port.specs.declared.reply.Origin.TheVariants.{Resumed}
-use Rattle.simulator.proofs.Simulating.{was_run, only_kept}
+use Rattle.simulator.proofs.Simulating.{was_run, not_refused, only_kept}
 use Rattle.simulator.proofs.sim.resume_file.Goals as goal
 
 pub returns-in-Ok : goal.returns-in-Ok
@@ -24,6 +27,7 @@ returns-in-Ok g c =
               ran = c.hold.ensures.held.did.2;
             }));
           };
+      why_not = rw c.hold.ensures.held.did.1 (not_refused refusals.Resume (IsNotResumed mem.ghosts) c.args.store.now c.hold.new.store c.hold.ensures.held.did.0);
     }
 
 pub returns-in-Err : goal.returns-in-Err
@@ -35,4 +39,5 @@ returns-in-Err g c =
         reader = refl;
         did = (only_kept File c.args.store.now c.begin_resume.new.store c.begin_resume.ensures.device.kept, refl, Appends-nil _);
       };
+      why_not = (c.in-Err.fault, refl, c.in-Err.ensures.refused);
     }

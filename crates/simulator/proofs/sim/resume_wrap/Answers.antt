@@ -1,7 +1,10 @@
+use Rattle.stores.specs.contracts.mem_store.MemStoreStore.TheImpl as mem
+use Rattle.wrap_port.specs.Resumptions.{IsNotResumed}
 use Rattle.script_port.specs.PortOpenings.{goes_on}
 use Rattle.script_port.specs.declared.opening.AnyOpening.TheVariants as openings
+use Rattle.script_port.specs.declared.refusal.Refusal.TheVariants as refusals
 use Rattle.script_port.specs.declared.reply.Origin.TheVariants.{Resumed}
-use Rattle.simulator.proofs.Simulating.{was_run}
+use Rattle.simulator.proofs.Simulating.{was_run, not_refused}
 use Rattle.simulator.proofs.sim.resume_wrap.Goals as goal
 
 pub returns-in-Ok : goal.returns-in-Ok
@@ -22,4 +25,5 @@ returns-in-Ok g c =
               ran = c.hold.ensures.held.did.2;
             }));
       };
+      why_not = rw c.hold.ensures.held.did.1 (not_refused refusals.Resume (IsNotResumed mem.ghosts) c.args.store.now c.hold.new.store c.hold.ensures.held.did.0);
     }
