@@ -215,11 +215,11 @@ def files_of_two_traces_are_told_and_refused(program):
     (program.folder / "t1").write_bytes(segment(wrap_header(1, before=2), entry * 2))
     (program.folder / "t2").write_bytes(segment(wrap_header(2, before=4, size=99), entry))
     outcome = program.run("info", "t")
-    same((outcome.status, outcome.errors), (1, b"dbgrec: refused 2 Mixed\nt1 and t2 don't belong together\n"))
+    same((outcome.status, outcome.errors), (1, b"dbgrec: refused 2 Mixed\nt1 and t2 don't belong together: list --salvage shows each\n"))
     assert b"file t1: generation 1, entries 2, bytes 112\n" in outcome.output, outcome
     (program.folder / "t2").write_bytes(segment(wrap_header(2, before=3), entry))
     outcome = program.run("info", "t")
-    same((outcome.status, outcome.errors), (1, b"dbgrec: refused 3 Sequence\nt1 and t2 don't belong together\n"))
+    same((outcome.status, outcome.errors), (1, b"dbgrec: refused 3 Sequence\nt1 and t2 don't belong together: list --salvage shows each\n"))
 
 
 @case

@@ -74,10 +74,10 @@ def files_that_are_no_one_store_are_told(program):
     wrap = ("--kind", "wrap", "--count", "2")
     (program.folder / "a0").write_bytes(segment(FILE_HEADER))
     (program.folder / "a1").write_bytes(segment(wrap_header(1)))
-    program.refused("list", "a", *wrap, says="dbgrec: refused 2 Mixed\na0 and a1 don't belong together")
+    program.refused("list", "a", *wrap, says="dbgrec: refused 2 Mixed\na0 and a1 don't belong together: list --salvage shows each")
     (program.folder / "b0").write_bytes(segment(wrap_header(6)))
     (program.folder / "b1").write_bytes(segment(wrap_header(4)))
-    program.refused("list", "b", *wrap, says="dbgrec: refused 3 Sequence\nb2, the oldest, is missing: put it back, or clear the trace by wipe")
+    program.refused("list", "b", *wrap, says="dbgrec: refused 3 Sequence\nb2, the oldest, is missing: put it back, or keep the others by export --salvage, and wipe")
 
 
 @case

@@ -96,21 +96,21 @@ def files_that_do_not_belong_together_are_named(program):
 
     put("a1", segment(wrap_header(1, before=2)))
     put("a2", segment(wrap_header(2, size=7)))
-    disagree(program, "a", 2, "Mixed", "a1 and a2 don't belong together")
+    disagree(program, "a", 2, "Mixed", "a1 and a2 don't belong together: list --salvage shows each")
     put("b0", segment(wrap_header(6)))
     put("b1", segment(wrap_header(4)))
-    disagree(program, "b", 3, "Sequence", "b2, the oldest, is missing: put it back, or clear the trace by wipe")
+    disagree(program, "b", 3, "Sequence", "b2, the oldest, is missing: put it back, or keep the others by export --salvage, and wipe")
     put("c0", segment(wrap_header(3, before=21), drop(1) * 21))
     put("c1", segment(wrap_header(4, before=41), drop(1)))
     listed = "".join(["before entries 21 dropped 0\n", *(f"{number} drop 1\n" for number in range(21, 43))]).encode()
-    disagree(program, "c", 3, "Sequence", "c0 and c1 don't belong together", listed, drop(1) * 22)
+    disagree(program, "c", 3, "Sequence", "c0 and c1 don't belong together: list --salvage shows each", listed, drop(1) * 22)
     put("d2", segment(wrap_header(1)))
-    disagree(program, "d", 3, "Sequence", "d2 isn't in its place")
+    disagree(program, "d", 3, "Sequence", "d2 isn't in its place: list --salvage shows what it holds")
 
 
 def missing_from(program, base, name, what):
     """Fails unless each command tells that this file of a wrap is."""
-    second = f"{name} is {what}, or clear the trace by wipe"
+    second = f"{name} is {what}, or keep the others by export --salvage, and wipe"
     for command in ("list", "export"):
         outcome = program.run(command, base)
         same((outcome.status, outcome.errors), (1, f"dbgrec: refused 3 Sequence\n{second}\n".encode()))

@@ -171,9 +171,9 @@ def a_large_wrap_that_is_refused_is_refused_in_8_megabytes(program):
     middle.write_bytes(whole[:5] + b"\t" + whole[6:])
     refused_in_8(program, b"dbgrec: refused 1 Damaged file 1 at 0\n")
     three_large_files(program, 9_999_998, 0, 100_000, 200_000)
-    refused_in_8(program, b"dbgrec: refused 2 Mixed\nt0 and t1 don't belong together\n")
+    refused_in_8(program, b"dbgrec: refused 2 Mixed\nt0 and t1 don't belong together: list --salvage shows each\n")
     three_large_files(program, 9_999_999, 0, 100_000, 200_001)
-    refused_in_8(program, b"dbgrec: refused 3 Sequence\nt1 and t2 don't belong together\n")
+    refused_in_8(program, b"dbgrec: refused 3 Sequence\nt1 and t2 don't belong together: list --salvage shows each\n")
 
 
 @case

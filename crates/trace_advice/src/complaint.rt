@@ -151,11 +151,17 @@ impl fmt::Display for Advice {
             ),
             Advice::Apart { one, other } => {
                 let (one, other) = (Shown(one.as_str()), Shown(other.as_str()));
-                write!(f, "{one} and {other} don't belong together")
+                write!(
+                    f,
+                    "{one} and {other} don't belong together: list --salvage shows each"
+                )
             }
             Advice::Misplaced { name } => {
                 let name = Shown(name.as_str());
-                write!(f, "{name} isn't in its place")
+                write!(
+                    f,
+                    "{name} isn't in its place: list --salvage shows what it holds"
+                )
             }
             Advice::Missing {
                 name,
@@ -251,7 +257,10 @@ fn tell_missing<W: fmt::Write>(
     } else {
         "missing: put it back"
     };
-    write!(f, "{name}{which} is {what}, or clear the trace by wipe")
+    write!(
+        f,
+        "{name}{which} is {what}, or keep the others by export --salvage, and wipe"
+    )
 }
 
 /// Tells which wrap a file is one of, and how that is named.
