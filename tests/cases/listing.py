@@ -158,3 +158,18 @@ def a_stream_on_a_terminal_is_listed_as_it_comes(program):
 def a_stream_into_a_pipe_is_listed_as_it_comes(program):
     reader, writer = os.pipe()
     lists_as_it_comes(program, reader, writer, "\n")
+
+
+@case
+def a_stream_whose_lines_nobody_reads_ends_with_the_next_one(program):
+    with subprocess.Popen([program.path, "stream"], stdin=subprocess.PIPE, stdout=subprocess.PIPE, stderr=subprocess.PIPE) as lister:
+        try:
+            lister.stdin.write(message(EXAMPLE))
+            lister.stdin.flush()
+            comes(lister.stdout.fileno(), f"{example_line(0)}\n")
+            lister.stdout.close()
+            lister.stdin.write(message(EXAMPLE))
+            lister.stdin.flush()
+            same((lister.wait(PATIENCE), lister.stderr.read()), (1, b""))
+        finally:
+            lister.kill()

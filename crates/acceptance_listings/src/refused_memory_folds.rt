@@ -55,11 +55,12 @@ fn a_window_is_folded_when_there_is_memory(rt: HostRuntime) {
     };
     for _ in 0..TRIES {
         let handed = Cell::new(0u32);
-        let folded = fold_trace(alloc, &window, 0u32, |item, digits| {
+        let mut handle = |item: &Item, digits: u32| {
             let digits = digits.wrapping_mul(10).wrapping_add(digit(item));
             handed.set(digits);
             digits
-        });
+        };
+        let folded = fold_trace(alloc, &window, 0u32, &mut handle);
         if let Ok(digits) = folded {
             assert!(rt; digits == 1234);
             return;

@@ -1,7 +1,7 @@
 -- What came through a writer of lines, as it is known by what it holds.
-use Rattle.std.proofs.Common.{◌≡◌, ℕ, zero, suc, ◌<◌, Option, Some, None, List, [], ◌∷◌, ◌++◌, length, take, refl, sym, ◌∙◌, ap, subst, append-nil, arith}
+use Rattle.std.proofs.Common.{◌≡◌, ℕ, zero, suc, ◌<◌, Bool, true, false, Option, Some, None, List, [], ◌∷◌, ◌++◌, length, take, refl, sym, ◌∙◌, ap, subst, append-nil, arith}
 use Rattle.std.specs.Io.KnownBytes.{Appends}
-use Rattle.chosen_lines.specs.Lines.{rest_after, handed_on, rest, HandsOn}
+use Rattle.chosen_lines.specs.Lines.{rest_after, handed_on, rest, HandsOn, entries_shown, Passed}
 use Rattle.chosen_lines.specs.Held.{counted, after_counted, line_contents}
 use Rattle.chosen_lines.proofs.LineLemmas.{rest_after-fed}
 use Rattle.chosen_lines.proofs.Contents.{counted-append}
@@ -52,18 +52,30 @@ same_writer numbers later start later_start given text grown =
     let same = tail_of later_start start later numbers apart.0 in
     (same.0, same.1, apart.1)
 
--- so what is handed on for that text's lines came through it
-pub handed : (hand later_hand : List ℕ → List ℕ) (numbers later : List (Option (List ℕ))) (start later_start now : Option (List ℕ)) (given text line made : List ℕ) (sent : ℕ)
-    → (later ≡ numbers → later_hand ≡ hand) → line ≡ rest_after [] given → (0 < sent → made ≡ later_hand line) → (0 < sent → sent < length made) → Appends later_start now (handed_on later_hand given ++ take sent made)
-    → Appends (line_contents numbers start []) (line_contents later later_start given) text → HandsOn hand text start now
-handed hand later_hand numbers later start later_start now given text line made sent alike is due short held grown =
-    let same = same_writer numbers later start later_start given text grown in
-    let by_given : HandsOn later_hand given later_start now = record {
-      sent = sent;
-      short = λ some. subst (λ l. sent < length l) (due some ∙ ap later_hand is) (short some);
-      written = subst (λ more. Appends later_start now (handed_on later_hand given ++ more)) (sent-of sent made (later_hand line) due ∙ ap (λ l. take sent (later_hand l)) is) held;
-    } in
-    subst (λ h. HandsOn h text start now) (alike same.1) (subst (λ s. HandsOn later_hand text s now) same.0 (subst (λ t. HandsOn later_hand t later_start now) same.2 by_given))
+-- so what is handed on for that text's lines came through it, or what is handed on for a front of it where the rest was lost
+pub passed : (hand later_hand : List ℕ → List ℕ) (numbers later : List (Option (List ℕ))) (start later_start now : Option (List ℕ)) (given lost text line made : List ℕ) (sent : ℕ) (refused : Bool) (entries : ℕ)
+    → (later ≡ numbers → later_hand ≡ hand) → line ≡ rest_after [] given → (0 < sent → made ≡ later_hand line) → (0 < sent → sent < length made) → Appends later_start now (handed_on later_hand given ++ take sent made) → entries ≡ entries_shown later_hand given
+    → (refused ≡ false → lost ≡ []) → (refused ≡ true → 0 < length lost) → (refused ≡ true → sent ≡ 0) → Appends (line_contents numbers start []) (line_contents later later_start (given ++ lost)) text → Passed refused entries hand text start now
+passed hand later_hand numbers later start later_start now given lost text line made sent refused entries alike is due short held counted none_lost some_lost unsent grown =
+    let same = same_writer numbers later start later_start (given ++ lost) text grown in
+    let by_given : Passed refused entries later_hand (given ++ lost) later_start now = (elim refused as (λ r. (r ≡ false → lost ≡ []) → (r ≡ true → 0 < length lost) → (r ≡ true → sent ≡ 0) → Passed r entries later_hand (given ++ lost) later_start now) [
+      | false ↦ λ none some sends. subst (λ t. HandsOn later_hand t later_start now × (entries ≡ entries_shown later_hand t)) (sym (append-nil given) ∙ ap (λ l. given ++ l) (sym (none refl))) (
+        record {
+          sent = sent;
+          short = λ any. subst (λ l. sent < length l) (due any ∙ ap later_hand is) (short any);
+          written = subst (λ more. Appends later_start now (handed_on later_hand given ++ more)) (sent-of sent made (later_hand line) due ∙ ap (λ l. take sent (later_hand l)) is) held;
+        },
+        counted,
+      )
+      | true ↦ λ none some sends. record {
+        front = given;
+        lost = lost;
+        is = refl;
+        some = some refl;
+        written = subst (Appends later_start now) (ap (λ n. handed_on later_hand given ++ take n made) (sends refl) ∙ append-nil (handed_on later_hand given)) held;
+      }
+    ]) none_lost some_lost unsent in
+    subst (λ h. Passed refused entries h text start now) (alike same.1) (subst (λ s. Passed refused entries later_hand text s now) same.0 (subst (λ t. Passed refused entries later_hand t later_start now) same.2 by_given))
 
 none-taken : (n : ℕ) → take {A = ℕ} n [] ≡ []
 none-taken zero = refl

@@ -1,12 +1,16 @@
 -- What a writer of lines keeps while it takes bytes and hands on.
-use Rattle.std.proofs.Common.{◌≡◌, ℕ, zero, suc, ◌-◌, ◌+◌, ◌<◌, Option, List, [], ◌∷◌, ◌++◌, length, take, drop, refl, sym, ◌∙◌, ap, subst, append_assoc, append-nil, arith}
+use Rattle.std.proofs.Common.{◌≡◌, ℕ, zero, suc, ◌-◌, ◌+◌, ◌<◌, ◌^◌, min, Bool, true, false, ◌&&◌, nat_lt, cond, Option, List, [], ◌∷◌, ◌++◌, length, take, drop, refl, sym, ◌∙◌, ap, subst, append_assoc, append-nil, arith}
 use Rattle.std.proofs.Math.Seq.{take-add, take-length}
+use Rattle.std.proofs.lemmas.List.Sums.{sum_by_push}
+use Rattle.std.specs.Int.{from_bool}
+use Rattle.std.specs.List.{count_by}
 use Rattle.std.specs.Io.KnownBytes.{Appends}
 use Rattle.std.proofs.KnownBytes.{Appends-trans, Appends-nil}
 use Rattle.chosen_lines.specs.declared.given.Given.{Given}
-use Rattle.chosen_lines.specs.Lines.{lines_after, rest_after, handed_on}
+use Rattle.chosen_lines.specs.Lines.{lines_after, rest_after, handed_on, begins_entry, shows_entry, entries_shown}
+use Rattle.chosen_lines.specs.Taking.{came}
 use Rattle.chosen_lines.proofs.WordLemmas.{cut-whole}
-use Rattle.chosen_lines.proofs.LineLemmas.{rest_after-append, rest_after-part, rest_after-fed, handed-part, handed-fed}
+use Rattle.chosen_lines.proofs.LineLemmas.{lines-part, lines-fed, rest_after-append, rest_after-part, rest_after-fed, handed-part, handed-fed}
 
 -- what was given, and more
 abbrev pub with_more : Given → List ℕ → Given
@@ -62,3 +66,43 @@ held-new hand given start now made is same =
 pub sent-of : (sent : ℕ) (made due : List ℕ) → (0 < sent → made ≡ due) → take sent made ≡ take sent due
 sent-of zero made due is = refl
 sent-of (suc k) made due is = ap (take (suc k)) (is (omega arith))
+
+-- ---- what came, of which the end may be lost
+
+pub came-kept : (given later lost later_lost : Given) (part : List ℕ) → later ≡ with_more given part → later_lost ≡ lost → lost.bytes ≡ [] → came later later_lost ≡ with_more (came given lost) part
+came-kept given later lost later_lost part more same none =
+    ap (λ g. came g later_lost) more ∙ ap (came (with_more given part)) same ∙ ap (λ text. record given { bytes = text })
+    (ap (λ l. (given.bytes ++ part) ++ l) none ∙ append-nil (given.bytes ++ part) ∙ sym (ap (λ l. (given.bytes ++ l) ++ part) none ∙ ap (λ l. l ++ part) (append-nil given.bytes)))
+
+pub came-lost : (given later lost later_lost : Given) (part : List ℕ) → later ≡ given → later_lost ≡ with_more lost part → came later later_lost ≡ with_more (came given lost) part
+came-lost given later lost later_lost part same more =
+    ap (λ g. came g later_lost) same ∙ ap (came given) more ∙ ap (λ text. record given { bytes = text }) (sym (append_assoc given.bytes lost.bytes part))
+
+-- ---- how many entries are shown
+
+-- of a line of which there is a part more
+pub counted-grown : (hand : List ℕ → List ℕ) (given later : Given) (line part : List ℕ) → later ≡ with_more given part → line ≡ rest_after [] given.bytes → lines_after line part ≡ [] → entries_shown hand given.bytes ≡ entries_shown hand later.bytes
+unfolding entries_shown
+counted-grown hand given later line part came is none =
+    let none_more : lines_after (rest_after [] given.bytes) part ≡ [] = ap (λ text. lines_after text part) (sym is) ∙ none in
+    sym (ap (λ g. entries_shown hand (bytes_of g)) came ∙ ap (λ lines. min (count_by (shows_entry hand) lines) (2 ^ 64 - 1)) (lines-part given.bytes part none_more))
+
+one-more : (n : ℕ) (b : Bool) → min (min n (2 ^ 64 - 1) + from_bool b) (2 ^ 64 - 1) ≡ min (n + cond b 1 0) (2 ^ 64 - 1)
+one-more n true = omega arith
+one-more n false = omega arith
+
+-- of a line that has ended
+pub counted-fed : (hand : List ℕ → List ℕ) (given after : Given) (line made : List ℕ) (entries later : ℕ) (shown : Bool) → after ≡ with_more given (10 ∷ []) → line ≡ rest_after [] given.bytes → made ≡ hand line → shown ≡ (begins_entry line && nat_lt 0 (length made))
+    → later ≡ min (entries + from_bool shown) (2 ^ 64 - 1) → entries ≡ entries_shown hand given.bytes → later ≡ entries_shown hand after.bytes
+unfolding entries_shown
+counted-fed hand given after line made entries later shown came is due told more so_far =
+    let count : ℕ = count_by (shows_entry hand) (lines_after [] given.bytes) in
+    let here : shown ≡ shows_entry hand (rest_after [] given.bytes) = told ∙ ap (λ m. begins_entry line && nat_lt 0 (length m)) due ∙ ap (shows_entry hand) is in
+    let grown : count_by (shows_entry hand) (lines_after [] (given.bytes ++ 10 ∷ [])) ≡ count + cond (shows_entry hand (rest_after [] given.bytes)) 1 0 =
+    ap (count_by (shows_entry hand)) (lines-fed given.bytes) ∙ sum_by_push (λ line. cond (shows_entry hand line) 1 0) (lines_after [] given.bytes) (rest_after [] given.bytes) in
+    more ∙ ap (λ n. min (n + from_bool shown) (2 ^ 64 - 1)) so_far ∙ one-more count shown ∙ ap (λ b. min (count + cond b 1 0) (2 ^ 64 - 1)) here ∙ ap (λ n. min n (2 ^ 64 - 1)) (sym grown) ∙ sym (ap (λ g. entries_shown hand (bytes_of g)) came)
+
+-- of no text
+pub counted-new : (hand : List ℕ → List ℕ) (given : Given) → given.bytes ≡ [] → 0 ≡ entries_shown hand given.bytes
+unfolding entries_shown
+counted-new hand given none = sym (ap (entries_shown hand) none)

@@ -37,15 +37,22 @@ rest_after-part part (x ∷ xs) none =
       | false ↦ λ e. grown e ∙ append_assoc part (x ∷ []) xs
     ]) none
 
--- nothing more is handed on where no line ends
-pub handed-part : (hand : List ℕ → List ℕ) (text part : List ℕ) → lines_after (rest_after [] text) part ≡ [] → handed_on hand (text ++ part) ≡ handed_on hand text
-handed-part hand text part none =
-    ap (flat_map hand) (lines_after-append [] text part ∙ ap (λ lines. lines_after [] text ++ lines) none ∙ append-nil (lines_after [] text))
+-- no line more where none ends
+pub lines-part : (text part : List ℕ) → lines_after (rest_after [] text) part ≡ [] → lines_after [] (text ++ part) ≡ lines_after [] text
+lines-part text part none = lines_after-append [] text part ∙ ap (λ lines. lines_after [] text ++ lines) none ∙ append-nil (lines_after [] text)
 
 -- a line feed ends a line
+pub lines-fed : (text : List ℕ) → lines_after [] (text ++ 10 ∷ []) ≡ lines_after [] text ++ rest_after [] text ∷ []
+lines-fed text = lines_after-append [] text (10 ∷ [])
+
+-- nothing more is handed on where no line ends
+pub handed-part : (hand : List ℕ → List ℕ) (text part : List ℕ) → lines_after (rest_after [] text) part ≡ [] → handed_on hand (text ++ part) ≡ handed_on hand text
+handed-part hand text part none = ap (flat_map hand) (lines-part text part none)
+
+-- what is handed on where one ends
 pub handed-fed : (hand : List ℕ → List ℕ) (text : List ℕ) → handed_on hand (text ++ 10 ∷ []) ≡ handed_on hand text ++ hand (rest_after [] text)
 handed-fed hand text =
-    ap (flat_map hand) (lines_after-append [] text (10 ∷ [])) ∙ flat_map-append hand (lines_after [] text) (rest_after [] text ∷ [])
+    ap (flat_map hand) (lines-fed text) ∙ flat_map-append hand (lines_after [] text) (rest_after [] text ∷ [])
     ∙ ap (λ more. handed_on hand text ++ more) (append-nil (hand (rest_after [] text)))
 
 -- nothing stands after a line feed

@@ -1,5 +1,7 @@
 -- A text by lines.
-use Rattle.std.specs.Prelude.{ℕ, ◌<◌, Bool, List, [], ◌∷◌, ◌++◌, ◌==◌, if◌then◌else◌, length, take, flat_map, Option}
+use Rattle.std.specs.Prelude.{◌≡◌, ℕ, ◌<◌, ◌-◌, ◌^◌, min, nat_lt, Bool, true, false, ◌&&◌, List, [], ◌∷◌, ◌++◌, ◌==◌, if◌then◌else◌, length, take, flat_map, Option}
+use Rattle.std.specs.List.{count_by}
+use Rattle.std.specs.Char.{is_ascii_digit}
 use Rattle.std.specs.Io.KnownBytes.{Appends}
 
 -- the whole lines of a text that comes after a part of one, each without its line feed
@@ -30,3 +32,29 @@ pub record HandsOn (hand : List ℕ → List ℕ) (text : List ℕ) (was now : O
   pub sent : ℕ
   pub short : 0 < sent → sent < length (hand (rest text))
   pub written : Appends was now (handed_on hand text ++ take sent (hand (rest text)))
+
+-- The same of a front of a text, where a line of the rest had no memory: nothing is handed on for what comes after that front.
+pub record HandsOnFront (hand : List ℕ → List ℕ) (text : List ℕ) (was now : Option (List ℕ)) : Type 0 where
+  pub front : List ℕ
+  pub lost : List ℕ
+  pub is : text ≡ front ++ lost
+  pub some : 0 < length lost
+  pub written : Appends was now (handed_on hand front)
+
+-- the line of an entry begins with its number
+abbrev pub begins_entry : List ℕ → Bool
+begins_entry [] = false
+begins_entry (byte ∷ bytes) = is_ascii_digit byte
+
+-- something is handed on for the line of an entry
+abbrev pub shows_entry : (List ℕ → List ℕ) → List ℕ → Bool
+shows_entry hand line = begins_entry line && nat_lt 0 (length (hand line))
+
+-- for how many entries in a text something is handed on; it stays at the last u64
+unfoldable pub entries_shown : (List ℕ → List ℕ) → List ℕ → ℕ
+entries_shown hand text = min (count_by (shows_entry hand) (lines_after [] text)) (2 ^ 64 - 1)
+
+-- what a writer of lines made of a text: all of it was handed on, with so many entries; or a line was refused memory
+abbrev pub Passed : Bool → ℕ → (List ℕ → List ℕ) → List ℕ → Option (List ℕ) → Option (List ℕ) → Type 0
+Passed false entries hand text was now = HandsOn hand text was now × (entries ≡ entries_shown hand text)
+Passed true entries hand text was now = HandsOnFront hand text was now

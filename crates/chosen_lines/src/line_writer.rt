@@ -1,7 +1,7 @@
 //! A writer that hands on something for each line.
-ghost use Rattle.std.specs.Prelude.{◌≡◌, ◌<◌, ◌≤◌, ℕ, Option, List, [], ◌∷◌, ◌++◌, take, vec_len, length, OnOk, OnErr, IfOk};
-ghost use Rattle.std.specs.Io.KnownBytes.{Appends, WriteAppends};
-ghost use Rattle.chosen_lines.specs.{Lines.lines_after, Lines.rest_after, Lines.handed_on, Held.line_contents, Growth.Appends-prop, Taking.Takes};
+ghost use Rattle.std.specs.Prelude.{◌≡◌, ◌<◌, ◌≤◌, ℕ, true, false, ◌&&◌, nat_lt, Option, List, [], ◌∷◌, ◌++◌, take, vec_len, length, OnOk, OnErr, IfOk, IsErr};
+ghost use Rattle.std.specs.Io.{WritesAtMost, KnownBytes.Appends, KnownBytes.WriteAppends};
+ghost use Rattle.chosen_lines.specs.{Lines.lines_after, Lines.rest_after, Lines.handed_on, Lines.begins_entry, Lines.entries_shown, Held.line_contents, Growth.Appends-prop, Taking.Takes, Taking.came};
 
 use crate::given::Given;
 use crate::words::index_of;
@@ -26,7 +26,8 @@ pub trait LineRule: Drop {
     ghost same: { (a b : Self) → numbers a ≡ numbers b → handed a ≡ handed b };
 }
 
-/// Takes lines, and hands on what its rule gives for each, whole.
+/// Takes lines, and hands on what its rule gives for each, whole. Where there is no memory for a line, it is lost, and nothing
+/// is taken or handed on after that.
 #[derive(Drop)]
 pub struct LineWriter<L: LineRule, W: Write> {
     pub rule: L,
@@ -42,11 +43,17 @@ pub struct LineWriter<L: LineRule, W: Write> {
     /// How many lines of entries were handed on, in whatever form.
     pub entries: u64,
     pub given: Given,
+    /// What was given after that, and is lost.
+    pub lost: Given,
     pub ghost part: { line.items ≡ rest_after [] given.bytes },
     pub ghost within: { sent ≤ vec_len made },
     pub ghost due: { 0 < sent → made.items ≡ L.handed rule line.items },
     pub ghost short: { 0 < sent → sent < length made.items },
     pub ghost held: { Appends given.start (W.contents out) (handed_on (L.handed rule) given.bytes ++ take sent made.items) } by { Appends-prop given.start (W.contents out) (handed_on (L.handed rule) given.bytes ++ take sent made.items) },
+    pub ghost counted: { entries ≡ entries_shown (L.handed rule) given.bytes },
+    pub ghost none_lost: { is_refused ≡ false → lost.bytes ≡ [] },
+    pub ghost some_lost: { is_refused ≡ true → 0 < length lost.bytes },
+    pub ghost unsent: { is_refused ≡ true → sent ≡ 0 },
 }
 
 /// Writes these bytes, and answers how many of them are written: all, or fewer and why.
@@ -67,9 +74,14 @@ fn write_some<W: Write>(out: &mut W, bytes: &[u8]) -> (usize, io::Result<()>)
     (count, Ok(()))
 }
 
-/// Whether a line is that of an entry, which begins with its number.
-fn begins_entry(line: &[u8]) -> bool {
-    line.first().is_some_and(|byte| byte.is_ascii_digit())
+/// Whether a line is that of an entry, which begins with its number, and something is handed on for it.
+fn shows_entry(line: &[u8], made: &[u8]) -> bool
+    ensures { result ≡ (begins_entry line.now && nat_lt 0 (length made.now)) }
+{
+    match line.first() {
+        Some(byte) => byte.is_ascii_digit() && !made.is_empty(),
+        None => false,
+    }
 }
 
 impl<L: LineRule, W: Write> LineWriter<L, W> {
@@ -79,6 +91,7 @@ impl<L: LineRule, W: Write> LineWriter<L, W> {
         requires { start ≡ W.contents out }
         ensures start { result.given.start ≡ W.contents out }
         ensures none { result.given.bytes ≡ [] }
+        ensures kept { result.is_refused ≡ false }
         ensures rule { result.rule ≡ rule }
         ensures out { result.out ≡ out }
     {
@@ -91,22 +104,37 @@ impl<L: LineRule, W: Write> LineWriter<L, W> {
             is_refused: false,
             entries: 0,
             given: Given::new(),
+            lost: Given::new(),
         }
+    }
+
+    /// Loses bytes for which there is no memory.
+    fn lose(&mut self, bytes: &[u8])
+        requires some { 0 < length bytes.now }
+        requires unsent { self.old.sent ≡ 0 }
+        ensures rule { self.new.rule ≡ self.old.rule }
+        ensures given { self.new.given ≡ self.old.given }
+        ensures lost { self.new.lost ≡ record self.old.lost { bytes = self.old.lost.bytes ++ bytes.now } }
+    {
+        self.is_refused = true;
+        self.lost.note(bytes);
     }
 
     /// Takes bytes of a line that isn't at its end. Once something is handed on for the line there are none to come.
     fn take_part(&mut self, part: &[u8]) -> io::Result<usize>
-        requires { lines_after self.old.line.items part.now ≡ [] }
+        requires none { lines_after self.old.line.items part.now ≡ [] }
+        requires some { 0 < length part.now }
+        requires kept { self.old.is_refused ≡ false }
         ensures rule { self.new.rule ≡ self.old.rule }
-        ensures given { Takes part.now self.old.given self.new.given result }
+        ensures given { Takes part.now (came self.old.given self.old.lost) (came self.new.given self.new.lost) result }
         ensures all { IfOk result (λ count. count ≡ length part.now) }
     {
         if self.sent > 0 {
             return Err(io::Error::from(ErrorKind::InvalidInput));
         }
         if self.line.extend_from_slice(part).is_err() {
-            self.is_refused = true;
-            return Err(io::Error::from(ErrorKind::OutOfMemory));
+            self.lose(part);
+            return Ok(part.len());
         }
         self.given.note(part);
         Ok(part.len())
@@ -114,35 +142,37 @@ impl<L: LineRule, W: Write> LineWriter<L, W> {
 
     /// Makes what is handed on for the line, where no part of it is handed on.
     #[inline(always)]
-    fn make(&mut self) -> io::Result<()>
+    fn make(&mut self) -> Result<(), AllocError>
         ensures rule { self.new.rule ≡ self.old.rule }
         ensures given { self.new.given ≡ self.old.given }
+        ensures lost { self.new.lost ≡ self.old.lost }
+        ensures kept { self.new.is_refused ≡ self.old.is_refused }
         ensures line { self.new.line.items ≡ self.old.line.items }
         ensures ok { OnOk result (self.new.made.items ≡ L.handed self.new.rule self.new.line.items) }
+        ensures err { OnErr result (self.new.sent ≡ 0) }
     {
         if self.sent > 0 {
             return Ok(());
         }
         self.made.clear();
-        if self.rule.put(&self.line, &mut self.made).is_err() {
-            self.is_refused = true;
-            return Err(io::Error::from(ErrorKind::OutOfMemory));
-        }
-        Ok(())
+        self.rule.put(&self.line, &mut self.made)
     }
 
     /// Hands on what is made, and ends the line.
     #[inline(always)]
     fn send(&mut self) -> io::Result<()>
-        requires { self.old.made.items ≡ L.handed self.old.rule self.old.line.items }
+        requires made { self.old.made.items ≡ L.handed self.old.rule self.old.line.items }
+        requires kept { self.old.is_refused ≡ false }
         ensures rule { self.new.rule ≡ self.old.rule }
-        ensures given { Takes (10 ∷ []) self.old.given self.new.given result }
+        ensures given { Takes (10 ∷ []) (came self.old.given self.old.lost) (came self.new.given self.new.lost) result }
     {
         let (count, done) = write_some(&mut self.out, &self.made[self.sent..]);
         if let Err(fault) = done {
             self.sent += count;
             return Err(fault);
         }
+        let is_shown = shows_entry(&self.line, &self.made);
+        self.entries = self.entries.saturating_add(u64::from(is_shown));
         self.line.clear();
         self.sent = 0;
         self.given.note(&[FEED]);
@@ -151,22 +181,35 @@ impl<L: LineRule, W: Write> LineWriter<L, W> {
 
     /// Takes the line feed that ends a line, which is one byte.
     fn end_line(&mut self) -> io::Result<usize>
+        requires { self.old.is_refused ≡ false }
         ensures rule { self.new.rule ≡ self.old.rule }
-        ensures given { Takes (10 ∷ []) self.old.given self.new.given result }
+        ensures given { Takes (10 ∷ []) (came self.old.given self.old.lost) (came self.new.given self.new.lost) result }
         ensures all { IfOk result (λ count. count ≡ 1) }
     {
-        self.make()?;
-        let is_entry = !self.made.is_empty() && begins_entry(&self.line);
+        if self.make().is_err() {
+            self.lose(&[FEED]);
+            return Ok(1);
+        }
         self.send()?;
-        self.entries = self.entries.saturating_add(u64::from(is_entry));
         Ok(1)
     }
 }
 
 impl<L: LineRule, W: Write> Write for LineWriter<L, W> {
-    ghost contents = { λ writer. line_contents (L.numbers writer.rule) writer.given.start writer.given.bytes };
+    ghost contents = { λ writer. line_contents (L.numbers writer.rule) writer.given.start (writer.given.bytes ++ writer.lost.bytes) };
 
-    fn write(&mut self, bytes: &[u8]) -> io::Result<usize> {
+    fn write(&mut self, bytes: &[u8]) -> io::Result<usize>
+        ensures bound { WritesAtMost result bytes.now }
+        ensures bytes { WriteAppends (line_contents (L.numbers self.old.rule) self.old.given.start (self.old.given.bytes ++ self.old.lost.bytes))
+            (line_contents (L.numbers self.new.rule) self.new.given.start (self.new.given.bytes ++ self.new.lost.bytes)) result bytes.now }
+        ensures refused { self.old.is_refused ≡ true → IsErr result }
+    {
+        if self.is_refused {
+            return Err(io::Error::from(ErrorKind::OutOfMemory));
+        }
+        if bytes.is_empty() {
+            return Ok(0);
+        }
         match index_of(FEED, bytes) {
             Some(0) => self.end_line(),
             Some(count) => self.take_part(&bytes[..count]),
@@ -175,6 +218,9 @@ impl<L: LineRule, W: Write> Write for LineWriter<L, W> {
     }
 
     fn flush(&mut self) -> io::Result<()> {
+        if self.is_refused {
+            return Err(io::Error::from(ErrorKind::OutOfMemory));
+        }
         self.out.flush()
     }
 }

@@ -1,27 +1,29 @@
 -- What a command does, step by step.
-use Rattle.std.proofs.Common.{◌≡◌, ℕ, Option, List, Ok, Err, OnOk, IfErr}
+use Rattle.std.proofs.Common.{◌≡◌, ℕ, Option, List, Ok, Err, OnOk, OnErr, IfErr}
 use Rattle.std.specs.Prelude.{Result}
 use Rattle.std.specs.Io.KnownBytes.{Appends, Keeps}
 use Rattle.trace_store.specs.Disk.{Image}
 use Rattle.stores.specs.declared.folder_store.FolderStore.{FolderStore}
 use Rattle.trace_client.specs.Forms.{Form}
+use Rattle.trace_client.specs.Output.{AppendsPrefix}
 use Rattle.trace_files.specs.Standing.{IsStanding}
 use Rattle.trace_files.specs.declared.standing.Standing.TheVariants as standings
 use Rattle.trace_reader.specs.declared.wiping.Clearing.{Clearing}
 use Rattle.recorder.specs.Commands.{IsRead, whole, not_written_out, IsCleared, Clears, done, not_told}
 use Rattle.trace_advice.specs.Complaints.{status_told}
+use Rattle.recorder.specs.Telling.{IsOfWriter}
 use Rattle.script_port.specs.Texts.{line_of}
 use Rattle.script_port.specs.declared.answer.Answer.TheVariants.{Done}
 use Rattle.trace_advice.specs.declared.complaint.Complaint.{Complaint}
 
 -- a trace was written whole, and then written out or not
 pub is_read : (Tells : Image → List ℕ → Type 0) (form : Form) (image : Image) (was now : Option (List ℕ)) (result : Result Unit Complaint) (mid : Option (List ℕ)) → ((text : List ℕ) × Tells image text × Appends was mid text) → IsStanding standings.Ours image → Keeps mid now
-    → IfErr result (λ complaint. status_told complaint ≡ 1) → IsRead Tells form image was now result
-is_read Tells form image was now (Ok out) mid wrote there keeps status = whole wrote.0 mid there wrote.1 wrote.2 keeps
-is_read Tells form image was now (Err complaint) mid wrote there keeps status = not_written_out wrote.0 mid complaint there wrote.1 wrote.2 keeps status
+    → IfErr result IsOfWriter → IsRead Tells form image was now result
+is_read Tells form image was now (Ok out) mid wrote there keeps unwritten = whole wrote.0 mid there wrote.1 wrote.2 keeps
+is_read Tells form image was now (Err complaint) mid wrote there keeps unwritten = not_written_out wrote.0 mid complaint there wrote.1 wrote.2 keeps unwritten
 
 -- a trace was cleared, and that was told or not
-pub is_clear : (clearing : Clearing) (old new : FolderStore) (was now : Option (List ℕ)) (result : Result Unit Complaint) → IsCleared clearing old new → OnOk result (Appends was now (line_of Done)) → IfErr result (λ complaint. status_told complaint ≡ 1)
+pub is_clear : (clearing : Clearing) (old new : FolderStore) (was now : Option (List ℕ)) (result : Result Unit Complaint) → IsCleared clearing old new → OnOk result (Appends was now (line_of Done)) → OnErr result (AppendsPrefix was now (line_of Done)) → IfErr result (λ complaint. status_told complaint ≡ 1)
     → Clears clearing old new was now result
-is_clear clearing old new was now (Ok out) cleared wrote status = done cleared wrote
-is_clear clearing old new was now (Err complaint) cleared wrote status = not_told complaint cleared status
+is_clear clearing old new was now (Ok out) cleared wrote cut status = done cleared wrote
+is_clear clearing old new was now (Err complaint) cleared wrote cut status = not_told complaint cleared cut status

@@ -1,7 +1,6 @@
 -- How much of an input is told as kept.
-use Rattle.std.proofs.Common.{◌≡◌, ℕ, ◌+◌, Option, Some, None, List, length, Result, Ok, Err, IfSome, IfErr, MatchOption, refl, sym, ◌∙◌, ap, subst, arith}
+use Rattle.std.proofs.Common.{◌≡◌, ℕ, ◌+◌, Option, Some, None, List, Result, Ok, Err, IfSome, IfErr, MatchOption, sym, subst, arith}
 use Rattle.trace_store.specs.Disk.{Image}
-use Rattle.trace_store.specs.Device.{device_of}
 use Rattle.stores.specs.FolderStore.{honest_of, reads_of}
 use Rattle.stores.specs.declared.folder_store.FolderStore.{FolderStore}
 use Rattle.recovery.specs.Stores.{Chain, IsStore, IsBlank, readings, view_of, is_blank, holds}
@@ -15,14 +14,13 @@ use Rattle.script_port.specs.declared.opening.AnyOpening.{AnyOpening}
 use Rattle.script_port.specs.declared.opening.AnyOpening.TheVariants as openings
 use Rattle.script_port.specs.declared.reply.Origin.{Origin}
 use Rattle.command_line.specs.declared.request.Rules.{Rules}
-use Rattle.trace_advice.specs.Complaints.{status_told}
 use Rattle.trace_advice.specs.Kept.{kept_told, complaint_with}
 use Rattle.trace_advice.specs.declared.kept.Kept.{Kept}
 use Rattle.trace_advice.specs.declared.complaint.Advice.TheVariants as advices
 use Rattle.trace_advice.specs.declared.complaint.Complaint.{Complaint}
 use Rattle.trace_advice.specs.declared.complaint.Complaint.TheVariants as complaints
 use Rattle.trace_recording.specs.Incoming.{Outside}
-use Rattle.trace_recording.specs.Marks.{HasMark, HasTotal, whole, blank, KeepsFirst}
+use Rattle.trace_recording.specs.Marks.{HasTotal, whole, blank, KeepsFirst}
 use Rattle.trace_recording.specs.declared.incoming.Incoming.{Incoming}
 use Rattle.recorder.specs.Files.{OnlyLooks, WasFed, IsCounted, IsKeptOf}
 use Rattle.recorder.specs.Commands.{device}
@@ -35,11 +33,6 @@ told_with kept (complaints.Fault fault (Some (advices.Full was))) P h = h
 told_with kept (complaints.Fault fault (Some _)) P h = tt
 told_with kept (complaints.Fault fault None) P h = tt
 told_with kept _ P h = tt
-
-pub status_with : (kept : Option Kept) (c : Complaint) → status_told (complaint_with kept c) ≡ status_told c
-status_with kept (complaints.Fault fault (Some advice)) = refl
-status_with kept (complaints.Fault fault None) = refl
-status_with kept _ = refl
 
 -- what was read has so many entries in all
 pub total_read : (image : Image) (r : Outlined) (n : ℕ) → Outlines (readings image) r → n ≡ r.total → HasTotal image n

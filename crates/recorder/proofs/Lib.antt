@@ -1,6 +1,7 @@
-pub mod InNumbers
+pub mod Telling
 pub mod Readings
 pub mod Commanding
 pub mod Followed
 pub mod Keeping
 pub mod Salvaged
+pub mod Informed

@@ -1,16 +1,17 @@
 -- What a command does with the files of a trace.
-use Rattle.std.specs.Prelude.{◌≡◌, ◌⊎◌, ℕ, Bool, true, false, Option, None, List, [], Result, Ok, Err, IsErr, IsSome, IfSome, OnOk, IfErr}
+use Rattle.std.specs.Prelude.{◌≡◌, ℕ, Bool, true, false, Option, None, List, [], Result, Ok, Err, IsErr, IsSome, IfSome, IfErr}
 use Rattle.std.specs.Io.KnownBytes.{Appends, Keeps}
 use Rattle.trace_store.specs.Disk.{Image}
-use Rattle.trace_store.specs.Moments.{LeavesOnly}
+use Rattle.trace_store.specs.Moments.{Rose, LeavesOnly}
 use Rattle.stores.specs.Events.{World}
-use Rattle.stores.specs.FolderStore.{past_of, honest_of, reads_of, images_of, moments_of, clock_of}
+use Rattle.stores.specs.FolderStore.{past_of, honest_of, reads_of, images_of, moments_of, clock_of, failures_of}
 use Rattle.stores.specs.declared.folder_store.FolderStore.{FolderStore}
 use Rattle.stores.specs.contracts.folder_store.FolderStoreStore.TheImpl as folder
 use Rattle.segment.specs.Specification.{Spec}
 use Rattle.recovery.specs.Stores.{readings, IsBlank}
 use Rattle.trace_store.specs.Device.{Device, device_of}
 use Rattle.trace_client.specs.Forms.{Form, as_lines, as_bytes}
+use Rattle.trace_client.specs.Output.{AppendsPrefix}
 use Rattle.trace_client.specs.declared.fault.StreamFault.{StreamFault}
 use Rattle.trace_text.specs.declared.style.Style.{Style}
 use Rattle.trace_text.specs.declared.style.Style.TheVariants.{Plain, Pretty}
@@ -33,9 +34,11 @@ use Rattle.command_line.specs.declared.request.Form.TheVariants as written
 use Rattle.command_line.specs.declared.request.TraceRequest.{TraceRequest}
 use Rattle.command_line.specs.declared.request.TraceRequest.TheVariants as requests
 use Rattle.trace_advice.specs.Complaints.{status_told, IsToldAs}
-use Rattle.trace_advice.specs.Kept.{kept_told}
-use Rattle.script_port.specs.Faults.{status_of, run_fault}
+use Rattle.trace_advice.specs.Kept.{kept_told, fault_past}
+use Rattle.script_port.specs.Faults.{run_fault, IsFaultOfDevice}
 use Rattle.trace_advice.specs.Faults.{read_fault, wipe_fault}
+use Rattle.recorder.specs.Telling.{IsToldOf, IsOfMemory, IsOfWriter}
+use Rattle.recorder.specs.Informing.{IsInfo}
 use Rattle.recorder.specs.Salvaging.{IsSalvage}
 use Rattle.recorder.specs.Files.{OnlyLooks, LooksOver, WasRecorded, WasFed, IsKeptOf}
 use Rattle.trace_recording.specs.Incoming.{Outside, outside}
@@ -43,7 +46,7 @@ use Rattle.trace_recording.specs.Beginning.{Begins, EndsWithin, IsUnread}
 use Rattle.trace_recording.specs.declared.incoming.Incoming.{Incoming}
 use Rattle.trace_port.specs.Limits.{greatest_limit}
 use Rattle.script_port.specs.PortOpenings.{first_told, FitsStore, GoesOnOrBegins}
-use Rattle.trace_recording.specs.Openings.{wanted, KeepsTrace, IsWhyNotOpened}
+use Rattle.trace_recording.specs.Openings.{wanted, TellsFault, KeepsTrace, IsWhyNotOpened}
 use Rattle.trace_places.specs.Places.{file_count, turn_of}
 use Rattle.script_port.specs.Texts.{line_of}
 use Rattle.script_port.specs.declared.answer.Answer.TheVariants.{Done}
@@ -59,20 +62,16 @@ use Rattle.script_port.specs.declared.reply.Origin.{Origin}
 abbrev pub device : FolderStore → Device
 device store = device_of folder.ghosts store
 
--- what is told of a fault has its exit status, or, where there was no memory for more words, that of this
-abbrev pub IsToldOf : SimFault → Complaint → Type 0
-IsToldOf fault complaint = (status_told complaint ≡ status_of fault) ⊎ (status_told complaint ≡ 1)
-
--- the same of a call
-abbrev pub IsExplained : Result Unit SimFault → Result Unit Complaint → Type 0
-IsExplained (Ok done) result = result ≡ Ok tt
-IsExplained (Err fault) (Ok done) = ⊥
-IsExplained (Err fault) (Err complaint) = IsToldOf fault complaint
+-- how a call on an input ended is told, so many bytes of which were passed over first
+abbrev pub IsExplained : ℕ → Result Unit SimFault → Result Unit Complaint → Type 0
+IsExplained skip (Ok done) result = result ≡ Ok tt
+IsExplained skip (Err fault) (Ok done) = ⊥
+IsExplained skip (Err fault) (Err complaint) = IsToldOf (fault_past skip fault) complaint
 
 -- how a reading of a trace ended, and what was written is written out: it was written whole; or so much of it as stands before a fault, or as could be written out
 pub data IsRead (Tells : Image → List ℕ → Type 0) (form : Form) (image : Image) (was now : Option (List ℕ)) : Result Unit Complaint → Type 0 where
   whole : (text : List ℕ) (mid : Option (List ℕ)) → IsStanding standings.Ours image → Tells image text → Appends was mid text → Keeps mid now → IsRead Tells form image was now (Ok tt)
-  not_written_out : (text : List ℕ) (mid : Option (List ℕ)) (complaint : Complaint) → IsStanding standings.Ours image → Tells image text → Appends was mid text → Keeps mid now → status_told complaint ≡ 1 → IsRead Tells form image was now (Err complaint)
+  not_written_out : (text : List ℕ) (mid : Option (List ℕ)) (complaint : Complaint) → IsStanding standings.Ours image → Tells image text → Appends was mid text → Keeps mid now → IsOfWriter complaint → IsRead Tells form image was now (Err complaint)
   refused : (fault : ReadFault) (entries : ℕ) (mid : Option (List ℕ)) (complaint : Complaint) → IsWhyNotRead fault image → IsWrittenInTurn form fault image was mid entries → Keeps mid now → IsToldOf (read_fault fault) complaint → IsRead Tells form image was now (Err complaint)
 
 -- a trace was cleared for good: whatever a crash leaves of it is blank
@@ -82,10 +81,10 @@ pub record IsCleared (clearing : Clearing) (old new : FolderStore) : Type 0 wher
   pub closed : (c : Image) → images_of new c → IsBlank (readings c)
   pub none_foreign : (c : Image) → images_of new c → HasNoForeign c
 
--- how a clearing ended: it is said to be done where it is; or it is done, and that couldn't be told or the mark of a failed sync stays; or it isn't done
+-- how a clearing ended: it is said to be done where it is; or it is done, and that couldn't be told whole or the mark of a failed sync stays; or it isn't done
 pub data Clears (clearing : Clearing) (old new : FolderStore) (was now : Option (List ℕ)) : Result Unit Complaint → Type 0 where
   done : IsCleared clearing old new → Appends was now (line_of Done) → Clears clearing old new was now (Ok tt)
-  not_told : (complaint : Complaint) → IsCleared clearing old new → status_told complaint ≡ 1 → Clears clearing old new was now (Err complaint)
+  not_told : (complaint : Complaint) → IsCleared clearing old new → AppendsPrefix was now (line_of Done) → status_told complaint ≡ 1 → Clears clearing old new was now (Err complaint)
   refused : (fault : WipeFault) (complaint : Complaint) → IsWhyNotWiped clearing fault (reads_of old) → Appends was now [] → IsToldOf (wipe_fault fault) complaint → Clears clearing old new was now (Err complaint)
 
 -- a port was opened for a trace of this kind
@@ -98,6 +97,7 @@ pub record IsOpened (spec : Spec) (old new : FolderStore) (opened : AnyOpening) 
 -- none was
 pub record IsNotOpened (spec : Spec) (old new : FolderStore) (fault : SimFault) : Type 0 where
   pub why : honest_of new → IsWhyNotOpened spec fault (reads_of old)
+  pub failed : IsFaultOfDevice fault → Rose (failures_of old) (failures_of new)
   pub untouched : honest_of new → HasForeign (reads_of old) → OnlyLooks old new
   pub moments : honest_of new → KeepsTrace (device old) (device new) spec
 
@@ -106,26 +106,26 @@ pub data Records (spec : Spec) (old new : FolderStore) (had was now : Option (Li
   runs : {mid : FolderStore} {opened : AnyOpening} {origin : Origin} {result : Result Unit Complaint} {has : Option (List ℕ)} (done : Result Unit SimFault) → IsOpened spec old mid opened origin → WasRecorded opened origin mid new had has done was now → IsToldAs done result
       → Records spec old new had was now result
   not_opened : {mid : FolderStore} (fault : SimFault) (complaint : Complaint) → IsNotOpened spec old mid fault → OnlyLooks mid new → Keeps was now → IsToldOf fault complaint → Records spec old new had was now (Err complaint)
-  no_memory : (complaint : Complaint) → new ≡ old → Keeps was now → status_told complaint ≡ 1 → Records spec old new had was now (Err complaint)
+  no_memory : (complaint : Complaint) → new ≡ old → Keeps was now → IsOfMemory complaint → Records spec old new had was now (Err complaint)
 
 -- what an import did, by what was seen before it and what was observed until its end
 pub data Feeds (spec : Spec) (rules : Rules) (old new : FolderStore) (saw : Outside) (observed : Observations) (was now : Option (List ℕ)) : Result Unit Complaint → Type 0 where
   -- a byte came; then a trace was opened, and the stream put into its port
   feeds : {first mid last : FolderStore} {opened : AnyOpening} {origin : Origin} {result : Result Unit Complaint} {then : Outside} {incoming : Incoming} (begins : Begins rules.skip saw then incoming)
       (remaining : Option (List ℕ)) (reads : ℕ) (come : List ℕ) (left : Incoming) (done : Result Unit SimFault) → OnlyLooks old first → IsOpened spec first mid opened origin
-      → WasFed opened origin rules mid last begins.mid (outside remaining reads observed) come left done (λ text. Appends was now text) → OnlyLooks last new → IsExplained done result
+      → WasFed opened origin rules mid last begins.mid (outside remaining reads observed) come left done (λ text. Appends was now text) → OnlyLooks last new → IsExplained rules.skip done result
       -- where it is told how much of the stream is kept, so much is
       → (honest_of new → IfErr result (λ complaint. IfSome (kept_told complaint) (IsKeptOf (first_told opened (device mid)) rules.skip come (reads_of new)))) → Feeds spec rules old new saw observed was now result
   -- a byte came; then the trace wasn't opened
-  not_opened : {first mid : FolderStore} {then : Outside} {incoming : Incoming} (fault : SimFault) (complaint : Complaint) → Begins rules.skip saw then incoming → OnlyLooks old first → IsNotOpened spec first mid fault
+  not_opened : {first mid : FolderStore} {then : Outside} {incoming : Incoming} (fault : SimFault) (complaint : Complaint) → Begins rules.skip saw then incoming → OnlyLooks old first → (honest_of first → HasNoForeign (reads_of old)) → IsNotOpened spec first mid fault
       → OnlyLooks mid new → observed ≡ then.observed → Keeps was now → IsToldOf fault complaint → Feeds spec rules old new saw observed was now (Err complaint)
   -- no byte came
-  nothing_came : {then : Outside} → EndsWithin rules.skip saw then → OnlyLooks old new → observed ≡ then.observed → Keeps was now → Feeds spec rules old new saw observed was now (Ok tt)
+  nothing_came : {then : Outside} → EndsWithin rules.skip saw then → OnlyLooks old new → (honest_of new → HasNoForeign (reads_of old)) → observed ≡ then.observed → Keeps was now → Feeds spec rules old new saw observed was now (Ok tt)
   -- the first byte couldn't be had
-  unread : {then : Outside} (fault : SimFault) (complaint : Complaint) → IsUnread rules.skip saw then fault → OnlyLooks old new → observed ≡ then.observed → Keeps was now → IsToldOf fault complaint
+  unread : {then : Outside} (fault : SimFault) (complaint : Complaint) → IsUnread rules.skip saw then fault → OnlyLooks old new → (honest_of new → HasNoForeign (reads_of old)) → observed ≡ then.observed → Keeps was now → IsToldOf fault complaint
       → Feeds spec rules old new saw observed was now (Err complaint)
-  -- its files aren't a trace's, and nothing was read
-  refused : (fault : SimFault) (complaint : Complaint) → (honest_of new → IsWhyNotOpened spec fault (reads_of old)) → OnlyLooks old new → observed ≡ saw.observed → Keeps was now → IsToldOf fault complaint
+  -- its files aren't a trace's, or that can't be known, and nothing was read
+  refused : {first : FolderStore} (fault : SimFault) (complaint : Complaint) → (honest_of new → IsWhyNotOpened spec fault (reads_of old)) → OnlyLooks old first → TellsFault (failures_of old) (failures_of first) fault → OnlyLooks first new → observed ≡ saw.observed → Keeps was now → IsToldOf fault complaint
       → Feeds spec rules old new saw observed was now (Err complaint)
 
 -- whether files that aren't of a trace are cleared, too
@@ -160,8 +160,8 @@ Changes _ = Unit {0}
 abbrev pub Serves : TraceRequest → Files → Files → Outside → Observations → Option (List ℕ) → Option (List ℕ) → Result Unit Complaint → Type 0
 Serves (requests.List asked is_pretty) old new saw observed was now result = LooksOver old.store new.store (IsRead (ListsStore (style_of is_pretty)) (as_lines (style_of is_pretty)) (reads_of old.store) was now result)
 Serves (requests.Export asked) old new saw observed was now result = LooksOver old.store new.store (IsRead ExportsStore as_bytes (reads_of old.store) was now result)
-Serves (requests.Salvage asked form) old new saw observed was now result = LooksOver old.store new.store (IsSalvage (written_as form) (reads_of old.store) was now) × IsErr result × IfErr result (λ complaint. status_told complaint ≡ 1)
-Serves (requests.Info asked is_json) old new saw observed was now result = LooksOver old.store new.store (OnOk result (IsStanding standings.Ours (reads_of old.store))) × IfErr result (λ complaint. status_told complaint ≡ 1)
+Serves (requests.Salvage asked form) old new saw observed was now result = LooksOver old.store new.store (IfErr result (IsSalvage (written_as form) (reads_of old.store) was now)) × IsErr result × IfErr result (λ complaint. status_told complaint ≡ 1)
+Serves (requests.Info asked is_json) old new saw observed was now result = LooksOver old.store new.store (IsInfo (reads_of old.store) result) × IfErr result (λ complaint. status_told complaint ≡ 1)
 Serves (requests.Wipe asked is_forced) old new saw observed was now result = (honest_of new.store → Clears (clearing_of is_forced) old.store new.store was now result)
     × (honest_of new.store → IsNotToWipe (clearing_of is_forced) (reads_of old.store) → OnlyLooks old.store new.store) × (honest_of new.store → LeavesOnly clock_of moments_of old.store new.store (IsClearing (images_of old.store)))
 Serves (requests.Record asked) old new saw observed was now result = Records (wanted old.place.kind (turn_of asked)) old.store new.store saw.remaining was now result
@@ -170,6 +170,11 @@ Serves (requests.Import asked rules) old new saw observed was now result = Feeds
 -- no device call was made yet on the files of a trace, whatever the world that they are part of
 abbrev pub IsUntouched : World → Files → Type 0
 IsUntouched world files = past_of files.store ≡ record { world = world; count = file_count files.place.kind; events = [] }
+
+-- and they are locked no more than they were: who writes them may take the lock
+pub record IsFree (world : World) (files : Files) : Type 0 where
+  pub past : IsUntouched world files
+  pub not_locked : files.locked ≡ None
 
 -- and their lock was taken
 pub record IsLocked (world : World) (files : Files) : Type 0 where

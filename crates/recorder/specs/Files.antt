@@ -1,5 +1,5 @@
 -- What is done with the real files of a trace.
-use Rattle.std.specs.Prelude.{◌≡◌, ℕ, ◌+◌, true, Option, Some, None, List, [], Result, Ok, Err, OnOk}
+use Rattle.std.specs.Prelude.{◌≡◌, ℕ, ◌+◌, true, Option, Some, None, List, [], Result, Ok, Err}
 use Rattle.std.specs.Io.KnownBytes.{Appends}
 use Rattle.segment.specs.DeviceCalls.{DeviceReads}
 use Rattle.trace_store.specs.Device.{OnlyReads, device_of}
@@ -27,6 +27,8 @@ use Rattle.trace_port.specs.Port.{Told, Fits}
 use Rattle.trace_advice.specs.declared.kept.Kept.{Kept}
 use Rattle.script_port.specs.declared.answer.Answer.TheVariants.{Done}
 use Rattle.script_port.specs.declared.fault.SimFault.{SimFault}
+use Rattle.script_port.specs.declared.fault.SimFault.TheVariants as faults
+use Rattle.trace_client.specs.Output.{AppendsPrefix}
 use Rattle.script_port.specs.declared.opening.AnyOpening.{AnyOpening}
 use Rattle.script_port.specs.declared.opening.AnyOpening.TheVariants as openings
 use Rattle.script_port.specs.declared.reply.Leave.{Leave}
@@ -52,10 +54,11 @@ RanAtDesk (openings.File opening) origin old new over left Writes =
 RanAtDesk (openings.Wrap opening) origin old new over left Writes =
     WasHeld (wrap_told folder.ghosts pending.ghosts) in_desk (wrap_opened_told pending.ghosts opening (device_of folder.ghosts old)) (opened_answer origin) 0 over left (device_of folder.ghosts new) Writes
 
--- what is answered after the lines: one line more where the port was given up
+-- what is answered after the lines: one line more where the port was given up, of which a failed writer has a part
 abbrev pub IsAnswered : Result (Option Leave) SimFault → Result Unit SimFault → Option (List ℕ) → Option (List ℕ) → Type 0
 IsAnswered (Ok None) result mid new = (result ≡ Ok tt) × (new ≡ mid)
-IsAnswered (Ok (Some leave)) result mid new = OnOk result (Appends mid new (line_of Done))
+IsAnswered (Ok (Some leave)) (Ok done) mid new = Appends mid new (line_of Done)
+IsAnswered (Ok (Some leave)) (Err fault) mid new = (fault ≡ faults.Write) × AppendsPrefix mid new (line_of Done)
 IsAnswered (Err fault) result mid new = (result ≡ Err fault) × (new ≡ mid)
 
 -- a script whose reader had these bytes, and has those left, was recorded so

@@ -11,14 +11,14 @@ use Rattle.trace_text.specs.declared.style.Style.{Style}
 use Rattle.trace_client.specs.Output.{AppendsPrefix}
 use Rattle.trace_reader.specs.declared.fault.ReadFault.{ReadFault}
 use Rattle.trace_reader.specs.declared.fault.ReadFault.TheVariants as faults
-use Rattle.trace_follower.specs.Looks.{HasLooked}
-use Rattle.trace_follower.specs.Sections.{HasTold, IsStopped}
+use Rattle.trace_follower.specs.Looks.{HasLooked, IsWhyGone}
+use Rattle.trace_follower.specs.Sections.{HasTold, IsLookStopped}
 use Rattle.trace_follower.specs.declared.follower.Follower.{Follower}
 use Rattle.trace_follower.specs.declared.place.Look.{Look}
 use Rattle.trace_follower.specs.declared.place.Look.TheVariants as looks
 use Rattle.trace_advice.specs.Faults.{read_fault}
-use Rattle.trace_advice.specs.Complaints.{status_told}
-use Rattle.recorder.specs.Commands.{IsToldOf, style_of}
+use Rattle.recorder.specs.Commands.{style_of}
+use Rattle.recorder.specs.Telling.{IsToldOf, IsOfWriter}
 use Rattle.recorder.specs.Files.{OnlyLooks}
 use Rattle.recorder.specs.Live.{MayHaveChanged}
 use Rattle.trace_advice.specs.declared.complaint.Complaint.{Complaint}
@@ -35,7 +35,7 @@ number_in follower = follower.lister.number
 -- how the end of a listing is told: as done where it is; else by a fault, or that it couldn't be written out
 abbrev pub IsToldSo : Result Unit ReadFault → Result Unit Complaint → Type 0
 IsToldSo done (Ok out) = done ≡ Ok tt
-IsToldSo (Ok done) (Err complaint) = status_told complaint ≡ 1
+IsToldSo (Ok done) (Err complaint) = IsOfWriter complaint
 IsToldSo (Err fault) (Err complaint) = IsToldOf (read_fault fault) complaint
 
 -- a follower that has told nothing yet
@@ -105,6 +105,10 @@ pub data Looks (first : Stand) : ℕ → Stand → Type 0 where
   more : (n : ℕ) (mid last : Stand) (came : Seen) (now : Option (List ℕ)) → Looks first n mid → Sees mid last came → GoesOn came
       → refusals_after came n ≤ 31 → Keeps last.holds now → Looks first (refusals_after came n) (record last { holds = now })
 
+-- where a fault says that there is no trace, the last look found none, or none of which so much was told
+abbrev pub IsGone : Stand → FolderStore → ReadFault → Type 0
+IsGone mid files fault = honest_of files → IsWhyGone (found_anew mid.files) (number_in mid.follower) fault
+
 -- how it ended: the last look came to the seal, and the last line was written; or a look failed, or what was told
 -- couldn't be written out
 pub data Ends (mid : Stand) (files : FolderStore) (now : Option (List ℕ)) : Result Unit ReadFault → Type 0 where
@@ -113,8 +117,8 @@ pub data Ends (mid : Stand) (files : FolderStore) (now : Option (List ℕ)) : Re
   no_end : (follower : Follower) (told : Option (List ℕ)) (fault : ReadFault)
       → IsLook mid.files files mid.follower follower mid.holds told looks.Sealed → AppendsPrefix told now end_text → Ends mid files now (Err fault)
   not_written_out : mid.files ≡ files → mid.holds ≡ now → Ends mid files now (Err faults.Write)
-  failed : (follower : Follower) (fault : ReadFault) → LooksAnew mid.files files
-      → IsStopped (style_in mid.follower) (number_in mid.follower) (number_in follower) mid.holds now fault → Ends mid files now (Err fault)
+  failed : (follower : Follower) (fault : ReadFault) → LooksAnew mid.files files → IsGone mid files fault
+      → IsLookStopped (style_in mid.follower) (number_in mid.follower) (number_in follower) mid.holds now fault → Ends mid files now (Err fault)
 
 -- looks from a stand on, and how they ended
 pub record HasFollowed (first : Stand) (files : FolderStore) (now : Option (List ℕ)) (result : Result Unit ReadFault) : Type 0 where

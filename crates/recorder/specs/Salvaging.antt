@@ -1,13 +1,33 @@
 -- What each open file of a trace holds by itself, written whether or not the trace is refused.
-use Rattle.std.specs.Prelude.{ℕ, List, Option}
+use Rattle.std.specs.Prelude.{◌≡◌, ℕ, List, Option}
 use Rattle.std.specs.Io.KnownBytes.{Appends, Keeps}
 use Rattle.trace_client.specs.Forms.{Form}
 use Rattle.trace_store.specs.Disk.{Image}
 use Rattle.window_reader.specs.Salvage.{IsSalvaged, IsSalvageBegun, IsLeftOf}
 use Rattle.window_reader.specs.declared.salvaging.Salvaged.{Salvaged}
 use Rattle.trace_reader.specs.declared.fault.ReadFault.{ReadFault}
+use Rattle.trace_advice.specs.Faults.{read_fault}
+use Rattle.trace_advice.specs.declared.salvage.Salvage.{Salvage}
+use Rattle.trace_advice.specs.declared.complaint.Complaint.{Complaint}
+use Rattle.trace_advice.specs.declared.complaint.Complaint.TheVariants as complaints
+use Rattle.script_port.specs.declared.fault.SimFault.TheVariants as faults
+use Rattle.recorder.specs.Telling.{IsToldOf, IsOfMemory, IsOfWriter}
 
--- how a salvage ended, and what was written is written out: all that the files hold; or what a fault leaves of it
-pub data IsSalvage (form : Form) (image : Image) (was now : Option (List ℕ)) : Type 0 where
-  whole : (s : Salvaged) (text : List ℕ) (mid : Option (List ℕ)) → IsSalvaged form image s text → Appends was mid text → Keeps mid now → IsSalvage form image was now
-  stopped : (fault : ReadFault) (mid : Option (List ℕ)) → IsLeftOf (IsSalvageBegun form image) fault was mid → Keeps mid now → IsSalvage form image was now
+-- what a salvage came to, as it is told
+pub record IsSum (s : Salvaged) (told : Salvage) : Type 0 where
+  pub files : told.files ≡ s.files
+  pub entries : told.entries ≡ s.entries
+  pub shown : told.shown ≡ s.entries
+  pub missing : told.missing ≡ s.missing
+
+-- what is told of one that came to its end: what it came to; of no file, that there is no trace; or that it can't be told or written out
+pub data IsSummary (s : Salvaged) : Complaint → Type 0 where
+  sums : (told : Salvage) → IsSum s told → IsSummary s (complaints.Salvaged told)
+  no_trace : (complaint : Complaint) → s.files ≡ 0 → IsToldOf faults.Absent complaint → IsSummary s complaint
+  not_told : (complaint : Complaint) → IsOfMemory complaint → IsSummary s complaint
+  not_written_out : (complaint : Complaint) → IsOfWriter complaint → IsSummary s complaint
+
+-- how a salvage ended and is told, and what was written is written out: all that the files hold; or what a fault leaves of it
+pub data IsSalvage (form : Form) (image : Image) (was now : Option (List ℕ)) (complaint : Complaint) : Type 0 where
+  whole : (s : Salvaged) (text : List ℕ) (mid : Option (List ℕ)) → IsSalvaged form image s text → Appends was mid text → Keeps mid now → IsSummary s complaint → IsSalvage form image was now complaint
+  stopped : (fault : ReadFault) (mid : Option (List ℕ)) → IsLeftOf (IsSalvageBegun form image) fault was mid → Keeps mid now → IsToldOf (read_fault fault) complaint → IsSalvage form image was now complaint

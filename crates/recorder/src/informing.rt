@@ -1,11 +1,9 @@
 //! A trace is told in numbers.
-ghost use Rattle.std.specs.Prelude.{◌≡◌, OnOk, IfErr};
+ghost use Rattle.std.specs.Prelude.{◌≡◌, ◌⊎◌, IfOk, IfErr};
 ghost use Rattle.stores.specs.FolderStore.{reads_of};
-ghost use Rattle.trace_files.specs.Standing.{IsStanding};
-ghost use Rattle.trace_files.specs.declared.standing.Standing.TheVariants as standings;
-ghost use Rattle.trace_advice.specs.Complaints.{status_told};
-ghost use Rattle.recorder.specs.{Files.OnlyLooks, Files.LooksOver};
-ghost use Rattle.script_port.specs.Faults.{status_of};
+ghost use Rattle.trace_advice.specs.{Complaints.status_told, Faults.read_fault};
+ghost use Rattle.recorder.specs.{Files.OnlyLooks, Files.LooksOver, Informing.IsGathered, Informing.IsInfo, Telling.IsToldOf};
+ghost use Rattle.script_port.specs.declared.fault.SimFault.TheVariants as faults;
 
 use crate::doing::Doing;
 use crate::files::Files;
@@ -20,7 +18,9 @@ use trace_reader::{Host, ReadFault, TraceSummary, Watched};
 const AGAIN: u32 = 4;
 
 /// What its files were found to hold, together, and whether another process has the trace.
-fn gathered(files: &Files<'_>, summary: TraceSummary) -> Result<Info, AllocError> {
+fn gathered(files: &Files<'_>, summary: TraceSummary) -> Result<Info, AllocError>
+    ensures { IfOk result (λ info. info.outlined ≡ summary.outlined) }
+{
     let TraceSummary {
         files: found,
         outlined,
@@ -36,7 +36,7 @@ fn gathered(files: &Files<'_>, summary: TraceSummary) -> Result<Info, AllocError
 
 /// Reads a trace once.
 fn look_once(files: &mut Files<'_>) -> Result<Info, ReadFault>
-    ensures there { LooksOver files.old.store files.new.store (OnOk result (IsStanding standings.Ours (reads_of files.old.store))) }
+    ensures found { LooksOver files.old.store files.new.store (IsGathered (reads_of files.old.store) result) }
 {
     let summary = files.sum_up()?;
     match gathered(files, summary) {
@@ -47,7 +47,7 @@ fn look_once(files: &mut Files<'_>) -> Result<Info, ReadFault>
 
 /// Reads a trace, and where it isn't whole while another process writes it again, five times in all.
 fn look_over(files: &mut Files<'_>) -> Result<Info, ReadFault>
-    ensures there { LooksOver files.old.store files.new.store (OnOk result (IsStanding standings.Ours (reads_of files.old.store))) }
+    ensures found { LooksOver files.old.store files.new.store (IsGathered (reads_of files.old.store) result) }
 {
     let mut made = 0;
     'readings: loop {
@@ -77,7 +77,7 @@ fn write_info<W: Write>(
     is_json: bool,
     out: &mut W,
 ) -> Result<(), SimFault>
-    ensures { IfErr result (λ fault. status_of fault ≡ 1) }
+    ensures { IfErr result (λ fault. (fault ≡ faults.Write) ⊎ (fault ≡ faults.NoMemory)) }
 {
     let written = if is_json {
         write_json(info, alloc, out)?
@@ -101,7 +101,7 @@ fn write_json<W: Write>(
 }
 
 fn flush<W: Write>(out: &mut W) -> Result<(), SimFault>
-    ensures { IfErr result (λ fault. status_of fault ≡ 1) }
+    ensures { IfErr result (λ fault. fault ≡ faults.Write) }
 {
     match out.flush() {
         Ok(()) => Ok(()),
@@ -111,6 +111,7 @@ fn flush<W: Write>(out: &mut W) -> Result<(), SimFault>
 
 /// What is told of a trace that isn't whole, or isn't read at all.
 pub fn told(files: &mut Files<'_>, fault: ReadFault, doing: Doing) -> Complaint
+    ensures told { IsToldOf (read_fault fault) result }
     ensures status { status_told result ≡ 1 }
     ensures only_reads { OnlyLooks files.old.store files.new.store }
 {
@@ -123,7 +124,7 @@ pub fn info<W: Write, H: Host>(
     is_json: bool,
     watched: &mut Watched<'_, W, H>,
 ) -> Result<(), Complaint>
-    ensures there { LooksOver files.old.store files.new.store (OnOk result (IsStanding standings.Ours (reads_of files.old.store))) }
+    ensures ended { LooksOver files.old.store files.new.store (IsInfo (reads_of files.old.store) result) }
     ensures status { IfErr result (λ complaint. status_told complaint ≡ 1) }
 {
     let info = match look_over(files) {

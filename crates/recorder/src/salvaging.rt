@@ -1,9 +1,9 @@
 //! What each open file of a trace holds by itself, whether or not the trace is refused.
-ghost use Rattle.std.specs.Prelude.{◌≡◌, IsErr, IfErr, IfOk};
+ghost use Rattle.std.specs.Prelude.{◌≡◌, true, IsErr, IfErr, IfOk};
 ghost use Rattle.stores.specs.FolderStore.{reads_of};
 ghost use Rattle.trace_advice.specs.Complaints.{status_told};
 ghost use Rattle.trace_reader.specs.WritesOut.{form_of};
-ghost use Rattle.recorder.specs.{Files.LooksOver, Commands.written_as, Salvaging.IsSalvage};
+ghost use Rattle.recorder.specs.{Files.LooksOver, Commands.written_as, Salvaging.IsSummary, Salvaging.IsSalvage};
 
 use crate::commands::{style, written_out};
 use crate::doing::Doing;
@@ -56,7 +56,9 @@ fn are_empty(rt: &HostRuntime, files: &Files<'_>) -> Result<bool, AllocError> {
 }
 
 /// Whether nothing was salvaged, since there is no trace.
-fn is_absent(rt: &HostRuntime, files: &Files<'_>, salvaged: &Salvaged) -> bool {
+fn is_absent(rt: &HostRuntime, files: &Files<'_>, salvaged: &Salvaged) -> bool
+    ensures { result ≡ true → salvaged.now.files ≡ 0 }
+{
     salvaged.files == 0 && are_empty(rt, files).unwrap_or(false)
 }
 
@@ -66,7 +68,8 @@ fn summary(
     files: &Files<'_>,
     salvaged: &Salvaged,
 ) -> Result<Complaint, AllocError>
-    ensures { IfOk result (λ complaint. status_told complaint ≡ 1) }
+    ensures told { IfOk result (IsSummary salvaged.now) }
+    ensures status { IfOk result (λ complaint. status_told complaint ≡ 1) }
 {
     Ok(Complaint::Salvaged(Salvage {
         files: salvaged.files,
@@ -79,7 +82,8 @@ fn summary(
 
 /// The same, also where there is no memory for it.
 fn summary_at_least(rt: &HostRuntime, files: &Files<'_>, salvaged: &Salvaged) -> Complaint
-    ensures { status_told result ≡ 1 }
+    ensures told { IsSummary salvaged.now result }
+    ensures status { status_told result ≡ 1 }
 {
     match summary(rt, files, salvaged) {
         Ok(complaint) => complaint,
@@ -94,7 +98,7 @@ pub fn salvage<W: Write, H: Host>(
     form: Form,
     watched: &mut Watched<'_, W, H>,
 ) -> Result<(), Complaint>
-    ensures salvage { LooksOver files.old.store files.new.store (IsSalvage (written_as form) (reads_of files.old.store) (W.contents watched.old.writer.now) (W.contents watched.new.writer.now)) }
+    ensures salvage { LooksOver files.old.store files.new.store (IfErr result (IsSalvage (written_as form) (reads_of files.old.store) (W.contents watched.old.writer.now) (W.contents watched.new.writer.now))) }
     ensures never { IsErr result }
     ensures status { IfErr result (λ complaint. status_told complaint ≡ 1) }
 {

@@ -1,9 +1,9 @@
 //! The files of the trace that a command line asks for.
-ghost use Rattle.std.specs.Prelude.{◌≡◌, IfOk, IfErr, IsSome};
+ghost use Rattle.std.specs.Prelude.{◌≡◌, None, IfOk, IfErr, IsSome};
 ghost use Rattle.stores.specs.Events.{World};
 ghost use Rattle.trace_places.specs.Finding.{IsFound};
 ghost use Rattle.trace_advice.specs.Complaints.{status_told};
-ghost use Rattle.recorder.specs.{Commands.Changes, Commands.IsUntouched, Commands.IsLocked, Sites.asked_in, Sites.IsAtPlace, Sites.HasFiles};
+ghost use Rattle.recorder.specs.{Commands.Changes, Commands.IsUntouched, Commands.IsFree, Commands.IsLocked, Sites.asked_in, Sites.IsAtPlace, Sites.HasFiles};
 
 use crate::files::Files;
 use command_line::{Asked, TraceRequest, Wanted};
@@ -16,6 +16,7 @@ pub fn files_for<'a>(rt: &HostRuntime, request: &TraceRequest<'a>) -> Result<Fil
     ghost world: { World }
     ensures past { IfOk result (IsUntouched world) }
     ensures locked { Changes request.now → IfOk result (λ files. IsSome files.locked) }
+    ensures free { (Changes request.now → ⊥) → IfOk result (λ files. files.locked ≡ None) }
     ensures place { IfOk result (IsAtPlace (asked_in request.now)) }
     ensures refused { IfErr result (λ complaint. status_told complaint ≡ 1) }
 {
@@ -78,7 +79,7 @@ fn found_to_read(rt: &HostRuntime, asked: Asked<'_>) -> Result<Found, Complaint>
 /// A trace to be read. Where a sync of it failed, standard error says so.
 fn files_to_read<'a>(rt: &HostRuntime, asked: Asked<'a>) -> Result<Files<'a>, Complaint>
     ghost world: { World }
-    ensures files { HasFiles (IsUntouched world) asked.entry result }
+    ensures files { HasFiles (IsFree world) asked.entry result }
 {
     let found = found_to_read(rt, asked)?;
     let files = Files::at(*rt, asked, found)?;

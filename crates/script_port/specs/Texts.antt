@@ -128,9 +128,13 @@ abbrev pub gate_text : Option ℕ → List ℕ
 gate_text None = codes "--\n"
 gate_text (Some gate) = digit_of (gate / 16) ∷ digit_of (gate % 16) ∷ 10 ∷ []
 
--- the line of a file with its length and its first byte, if it has one
+-- the line of a file with its length, up to its first byte
+abbrev pub state_head : ℕ → ℕ → List ℕ
+state_head file length = codes "file " ++ decimal file ++ codes " length " ++ decimal length ++ codes " gate "
+
+-- the whole line
 abbrev pub state_text : ℕ → ℕ → Option ℕ → List ℕ
-state_text file length gate = codes "file " ++ decimal file ++ codes " length " ++ decimal length ++ codes " gate " ++ gate_text gate
+state_text file length gate = state_head file length ++ gate_text gate
 
 -- what is answered once a port is held that has accepted so many entries
 abbrev pub greeting : Origin → ℕ → Answer

@@ -1,6 +1,6 @@
 //! The answers of a run.
 ghost use Rattle.std.specs.Prelude.{◌≡◌, ◌<◌, IfOk};
-ghost use Rattle.script_port.specs.Texts.{digit_of, gate_text, line_of};
+ghost use Rattle.script_port.specs.Texts.{digit_of, gate_text, line_of, state_head};
 
 use crate::answer::Answer;
 use crate::fault::SimFault;
@@ -44,6 +44,15 @@ fn line(answer: Answer) -> Result<ArrayString<LINE>, fmt::Error>
     Ok(line)
 }
 
+/// The line of a file up to its last word.
+fn head(file: u32, length: u64) -> Result<ArrayString<LINE>, fmt::Error>
+    ensures { IfOk result (λ head. head.bytes ≡ state_head file length) }
+{
+    let mut head = ArrayString::new();
+    write!(head, "file {file} length {length} gate ")?;
+    Ok(head)
+}
+
 /// What answers are written to.
 #[derive(Drop)]
 pub struct Answers<'w, W: Write> {
@@ -54,7 +63,7 @@ pub struct Answers<'w, W: Write> {
 
 impl<'w, W: Write> Answers<'w, W> {
     ghost use Rattle.std.specs.Prelude.{◌≡◌, OnOk, OnErr, IfErr};
-    ghost use Rattle.trace_client.specs.Output.{AppendsPrefix};
+    ghost use Rattle.trace_client.specs.Output.{AppendsPrefix, Writes};
     ghost use Rattle.std.specs.Io.KnownBytes.{Appends, Keeps};
     ghost use Rattle.script_port.specs.Texts.{line_of, state_text};
     ghost use Rattle.script_port.specs.declared.fault.SimFault.TheVariants as faults;
@@ -103,12 +112,19 @@ impl<'w, W: Write> Answers<'w, W> {
     /// A file with its length and, unless it is empty, its first byte.
     pub fn file(&mut self, file: u32, length: u64, gate: Option<u8>) -> Result<(), SimFault>
         ensures name { self.new.writer.ghost_name ≡ self.old.writer.ghost_name }
-        ensures text { OnOk result (Appends (W.contents self.old.writer.now) (W.contents self.new.writer.now) (state_text file length gate)) }
+        ensures text { Writes (W.contents self.old.writer.now) (W.contents self.new.writer.now) result (state_text file length gate) }
         ensures fault { IfErr result (λ fault. fault ≡ faults.Write) }
     {
-        write!(self.writer, "file {file} length {length} gate ").map_err(|_| SimFault::Write)?;
-        let last = last_word(gate);
-        self.writer.write_all(&last).map_err(|_| SimFault::Write)
+        let Ok(head) = head(file, length) else {
+            return Err(SimFault::Write);
+        };
+        let Ok(()) = put_all(&mut *self.writer, head.as_str().as_bytes()) else {
+            return Err(SimFault::Write);
+        };
+        let Ok(()) = put_all(&mut *self.writer, &last_word(gate)) else {
+            return Err(SimFault::Write);
+        };
+        Ok(())
     }
 
     /// Writes out what is still in a buffer.

@@ -1,6 +1,6 @@
 //! What ends a run before its end.
-ghost use Rattle.std.specs.Prelude.{◌≡◌};
-ghost use Rattle.script_port.specs.Faults.{status_of, fault_of_list, run_fault, script_fault};
+ghost use Rattle.std.specs.Prelude.{◌≡◌, ◌↔◌, IsTrue};
+ghost use Rattle.script_port.specs.Faults.{IsOfStream, status_of, fault_of_list, run_fault, script_fault};
 ghost use Rattle.script_port.specs.declared.fault.SimFault.TheVariants as faults;
 ghost use Rattle.script_port.specs.declared.refusal.Refusal.TheVariants as refusals;
 
@@ -85,7 +85,9 @@ pub enum SimFault {
 
 impl SimFault {
     /// Whether the stream that came in ended it, or lack of memory for that.
-    pub fn is_of_stream(&self) -> bool {
+    pub fn is_of_stream(&self) -> bool
+        ensures { IsTrue result ↔ IsOfStream self.now }
+    {
         matches!(
             self,
             SimFault::Read

@@ -1,6 +1,6 @@
 //! Listings, shown whole, by some of their lines or as JSON objects.
 ghost use Rattle.std.specs.Prelude.{◌≡◌, ℕ, List, Option, Result};
-ghost use Rattle.shown_listings.specs.Listings.{Listing, LineByLine, IsToldOf, Shows};
+ghost use Rattle.shown_listings.specs.Listings.{Listing, LineByLine, told_of, Shows};
 
 use crate::counted::Counted;
 use crate::outlet::{Output, taken};
@@ -50,16 +50,14 @@ fn out_of<L: LineRule, W: Write>(lines: LineWriter<L, W>) -> W
 
 /// How a listing ended of which so many entries are shown, or that a line of it had no memory.
 fn told_of(done: Result<(), Complaint>, is_refused: bool, entries: u64) -> Result<(), Complaint>
-    ensures { IsToldOf is_refused entries done result }
+    ensures { result ≡ told_of is_refused entries done }
 {
+    if is_refused {
+        return Err(Complaint::from(SimFault::NoMemory));
+    }
     match done {
         Ok(()) => Ok(()),
-        Err(complaint) => {
-            if is_refused {
-                return Err(Complaint::from(SimFault::NoMemory));
-            }
-            Err(complaint.with_shown(entries))
-        }
+        Err(complaint) => Err(complaint.with_shown(entries)),
     }
 }
 

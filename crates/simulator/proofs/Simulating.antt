@@ -10,11 +10,14 @@ use Rattle.trace_port.proofs.Leaving.{weaker}
 use Rattle.stores.specs.MemStore.{reads_of, failures_of, fuse_of, IsSettled}
 use Rattle.stores.specs.declared.fuse.Fuse.TheVariants.{Whole}
 use Rattle.trace_script.specs.Reading.{Progress}
+use Rattle.std.specs.declared.vec.Vec.{Vec}
+use Rattle.std.specs.declared.alloc.Global.{Global}
+use Rattle.trace_script.specs.declared.line.Unsynced.{Unsynced}
 use Rattle.trace_script.specs.declared.line.Line.{Line}
 use Rattle.trace_script.specs.declared.line.Line.TheVariants as lines
 use Rattle.script_port.specs.Read.{Stretch, stretch, first_lines}
-use Rattle.simulator.specs.Simulated.{device, Does, lists, tells_files, Fails, answers_in_part, lists_in_part, tells_files_in_part, DoesOrFails, IsOver, IsFinished, told, not_told, failed, OnlyLooked, IsRunWhole, LeavesSo, WasRun, ComesOf, SaysWhyNot, ended_so, Simulates, IsRun, runs, not_written_out, first_of}
-use Rattle.simulator.specs.Stored.{IsListed, TellsFiles}
+use Rattle.simulator.specs.Simulated.{device, IsOfStore, Does, lists, Fails, answers_in_part, lists_in_part, DoesOrFails, IsOver, IsFinished, told, not_told, failed, OnlyLooked, IsRunWhole, LeavesSo, WasRun, ComesOf, SaysWhyNot, ended_so, Simulates, IsRun, runs, not_written_out, first_of}
+use Rattle.simulator.specs.Stored.{IsListed}
 use Rattle.script_port.specs.declared.fault.SimFault.TheVariants as faults
 use Rattle.script_port.specs.declared.fault.SimFault.{SimFault}
 use Rattle.script_port.specs.declared.refusal.Refusal.{Refusal}
@@ -43,6 +46,19 @@ whole_so of_desk here line old new behind to result was now same run = subst (λ
 pub only_kept : (spec : Spec) (old new : MemStore) → IsKept (device old) (device new) → LeavesSo Resumed spec old new
 only_kept spec old new kept = weaker (device old) (device new) (device old).images _ (λ image was. inl was) (kept.moments tt)
 
+-- a line that is none of those for a store
+pub not_of_store : (line : Line) → ((files : ℕ) → line ≡ lines.Store files → ⊥) → ((file : ℕ) (bytes : Vec ℕ Global) → line ≡ lines.Bytes file bytes → ⊥) → ((calls : ℕ) → line ≡ lines.Fuse calls → ⊥) → ((calls : ℕ) → line ≡ lines.FailOnce calls → ⊥)
+    → ((unsynced : Unsynced) → line ≡ lines.Crash unsynced → ⊥) → (line ≡ lines.Files → ⊥) → (line ≡ lines.List → ⊥) → (line ≡ lines.Wipe → ⊥) → IsOfStore line → ⊥
+not_of_store (lines.Store files) store bytes fuse once crash look list wipe of = store files refl
+not_of_store (lines.Bytes file own) store bytes fuse once crash look list wipe of = bytes file own refl
+not_of_store (lines.Fuse calls) store bytes fuse once crash look list wipe of = fuse calls refl
+not_of_store (lines.FailOnce calls) store bytes fuse once crash look list wipe of = once calls refl
+not_of_store (lines.Crash unsynced) store bytes fuse once crash look list wipe of = crash unsynced refl
+not_of_store lines.Files store bytes fuse once crash look list wipe of = look refl
+not_of_store lines.List store bytes fuse once crash look list wipe of = list refl
+not_of_store lines.Wipe store bytes fuse once crash look list wipe of = wipe refl
+not_of_store _ store bytes fuse once crash look list wipe of = of
+
 -- an answer was told, or a part of it: after a line that makes no port
 pub does_so : (result : Result Unit SimFault) (line : Line) (old new : MemStore) (was now : Option (List ℕ)) (text : List ℕ) → Does old new line text → OnOk result (Appends was now text) → OnErr result (AppendsPrefix was now text) → IfErr result (λ fault. fault ≡ faults.Write)
     → DoesOrFails line old new result (λ text. Appends was now text)
@@ -66,12 +82,6 @@ failed_so was_left fault store out is = subst (λ (l : Result (Option Leave) Sto
 pub lists_so : (result : Result Unit SimFault) (old new : MemStore) (Writes : List ℕ → Type 0) → IsListed (reads_of old) (failures_of old) (failures_of new) result Writes → OnlyLooked old new → DoesOrFails lines.List old new result Writes
 lists_so (Ok done) old new Writes listed looked = (listed.0, lists listed.1 looked, listed.2)
 lists_so (Err fault) old new Writes listed looked = lists_in_part listed looked
-
--- its files were told of
-pub tells_so : (result : Result Unit SimFault) (old new : MemStore) (Writes : List ℕ → Type 0) → OnOk result ((text : List ℕ) × TellsFiles (reads_of old) (failures_of old) (failures_of new) text × Writes text) → IfErr result (λ fault. fault ≡ faults.Write) → OnlyLooked old new
-    → DoesOrFails lines.Files old new result Writes
-tells_so (Ok done) old new Writes wrote fault looked = (wrote.0, tells_files wrote.1 looked, wrote.2)
-tells_so (Err other) old new Writes wrote fault looked = subst (λ (f : SimFault). Fails old new Writes lines.Files f) (sym fault) (tells_files_in_part looked)
 
 -- a script was run, and what it wrote was written out or not
 pub is_run : (old new : MemStore) (count : ℕ) (had has was mid now : Option (List ℕ)) (done flushed : Result Unit SimFault) → IsSettled old (replicate 1 []) → fuse_of old ≡ Whole → Simulates old new (first_lines false count had has) was mid done → Keeps mid now → IfErr flushed (λ fault. fault ≡ faults.Write)

@@ -38,7 +38,7 @@ use Rattle.script_port.specs.Read.{Stretch, stretch, first_lines, ReadsNothing, 
 use Rattle.script_port.specs.Held.{WasHeld}
 use Rattle.trace_port.specs.Limits.{greatest_limit}
 use Rattle.script_port.specs.PortOpenings.{first_told, GoesOnOrBegins, IsNoSpec}
-use Rattle.simulator.specs.Stored.{TellsStore, TellsFiles, BeginsSo, IsListedInPart}
+use Rattle.simulator.specs.Stored.{TellsStore, TellsFiles, TellsRefusal, BeginsSo, IsListedInPart}
 use Rattle.script_port.specs.Texts.{greeting, line_of}
 use Rattle.script_port.specs.declared.answer.Answer.TheVariants as answers
 use Rattle.script_port.specs.declared.fault.SimFault.{SimFault}
@@ -114,12 +114,24 @@ pub data IsFinished (old new : MemStore) (Writes : List ℕ → Type 0) : Result
 abbrev pub OnlyLooked : MemStore → MemStore → Type 0
 OnlyLooked old new = OnlyReads honest_of clock_of reads_of images_of moments_of old new
 
+-- a line for a store while no port is held
+abbrev pub IsOfStore : Line → Type 0
+IsOfStore (lines.Store files) = Unit {0}
+IsOfStore (lines.Bytes file bytes) = Unit {0}
+IsOfStore (lines.Fuse calls) = Unit {0}
+IsOfStore (lines.FailOnce calls) = Unit {0}
+IsOfStore (lines.Crash unsynced) = Unit {0}
+IsOfStore lines.Files = Unit {0}
+IsOfStore lines.List = Unit {0}
+IsOfStore lines.Wipe = Unit {0}
+IsOfStore _ = ⊥
+
 -- what a line that makes no port does to the store, and what is written of it
 pub data Does (old new : MemStore) : Line → List ℕ → Type 0 where
   blanks : {files : ℕ} → IsSettled new (replicate files []) → fuse_of new ≡ Whole → Does old new (lines.Store files) (line_of answers.Done)
   no_memory : {files : ℕ} → new ≡ old → Does old new (lines.Store files) (line_of (answers.Refused refusals.NoMemory))
   holds : {file : ℕ} {bytes : Vec ℕ Global} → IsSettled new (set (reads_of old) file bytes.items) → fuse_of new ≡ Whole → Does old new (lines.Bytes file bytes) (line_of answers.Done)
-  holds_not : {file : ℕ} {bytes : Vec ℕ Global} (refusal : Refusal) → OnlyLooked old new → Does old new (lines.Bytes file bytes) (line_of (answers.Refused refusal))
+  holds_not : {file : ℕ} {bytes : Vec ℕ Global} (refusal : Refusal) → OnlyLooked old new → TellsRefusal (failures_of old) (failures_of new) refusal → Does old new (lines.Bytes file bytes) (line_of (answers.Refused refusal))
   fuses : {calls : ℕ} → fuse_of new ≡ After (clock_of old) calls → SameButFuse old new → Does old new (lines.Fuse calls) (line_of answers.Done)
   fails_once : {calls : ℕ} → fuse_of new ≡ Once (clock_of old) calls → SameButFuse old new → Does old new (lines.FailOnce calls) (line_of answers.Done)
   crashes : {unsynced : Unsynced} {text : List ℕ} → Crashes unsynced old new text → Does old new (lines.Crash unsynced) text
@@ -127,13 +139,12 @@ pub data Does (old new : MemStore) : Line → List ℕ → Type 0 where
   tells_files : {text : List ℕ} → TellsFiles (reads_of old) (failures_of old) (failures_of new) text → OnlyLooked old new → Does old new lines.Files text
   wipes : IsWiped (reads_of old) (reads_of new) → ((c : Image) → images_of new c → IsBlank (readings c)) → LeavesOnly clock_of moments_of old new (IsWiping (images_of old)) → Does old new lines.Wipe (line_of answers.Done)
   wipes_not : Rose (failures_of old) (failures_of new) → LeavesOnly clock_of moments_of old new (IsWiping (images_of old)) → Does old new lines.Wipe (line_of (answers.Refused refusals.Device))
-  out_of_order : {line : Line} → new ≡ old → Does old new line (line_of answers.OutOfOrder)
+  out_of_order : {line : Line} → (IsOfStore line → ⊥) → new ≡ old → Does old new line (line_of answers.OutOfOrder)
 
--- what such a line does where a fault ends it: what it does anyway, and of the answer a part is written; or it only looked, and told a part of what is there
+-- what such a line does where a fault ends it: what it does anyway, and of the answer a part is written; or it only looked, and listed a part of what is there
 pub data Fails (old new : MemStore) (Writes : List ℕ → Type 0) : Line → SimFault → Type 0 where
   answers_in_part : {line : Line} {text begun : List ℕ} → Does old new line text → BeginsSo text begun → Writes begun → Fails old new Writes line faults.Write
   lists_in_part : {fault : SimFault} → IsListedInPart (reads_of old) (failures_of old) (failures_of new) Writes fault → OnlyLooked old new → Fails old new Writes lines.List fault
-  tells_files_in_part : OnlyLooked old new → Fails old new Writes lines.Files faults.Write
 
 -- what comes of a line that makes no port
 abbrev pub DoesOrFails : Line → MemStore → MemStore → Result Unit SimFault → (List ℕ → Type 0) → Type 0

@@ -1,7 +1,7 @@
 //! A store with other bytes in one of its files.
-ghost use Rattle.std.specs.Prelude.{◌≡◌, ◌+◌, ◌*◌, ◌<◌, ◌≤◌, IfOk, length, set};
+ghost use Rattle.std.specs.Prelude.{◌≡◌, ◌+◌, ◌*◌, ◌<◌, ◌≤◌, IfOk, IfErr, length, set};
 ghost use Rattle.trace_store.specs.Disk.{file_of};
-ghost use Rattle.stores.specs.{CallRecords.contents_of, MemStore.reads_of, MemStore.fuse_of, MemStore.IsSettled};
+ghost use Rattle.stores.specs.{CallRecords.contents_of, MemStore.reads_of, MemStore.failures_of, MemStore.fuse_of, MemStore.IsSettled};
 ghost use Rattle.stores.specs.declared.fuse.Fuse.TheVariants.{Whole};
 ghost use Rattle.simulator.specs.{Simulated.OnlyLooked, Stored.TellsRefusal};
 ghost use Rattle.segment.specs.DeviceCalls.{DeviceReads};
@@ -20,6 +20,7 @@ pub fn with_bytes(
 ) -> Result<MemStore, Refusal>
     requires { file < length (reads_of store.old) }
     ensures only_reads { OnlyLooked store.old store.new }
+    ensures refused { IfErr result (TellsRefusal (failures_of store.old) (failures_of store.new)) }
     ensures made { IfOk result (λ made. IsSettled made (set (reads_of store.old) file bytes.now)) }
     ensures fuse { IfOk result (λ made. fuse_of made ≡ Whole) }
 {

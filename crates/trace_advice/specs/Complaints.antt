@@ -1,5 +1,5 @@
 -- What is told of a command that ended before its end.
-use Rattle.std.specs.Prelude.{◌≡◌, ℕ, Some, Result, Ok, Err}
+use Rattle.std.specs.Prelude.{◌≡◌, ℕ, Some, None, Result, Ok, Err}
 use Rattle.trace_advice.specs.declared.complaint.Advice.{Advice}
 use Rattle.trace_advice.specs.declared.complaint.Advice.TheVariants as advices
 use Rattle.trace_advice.specs.declared.complaint.Complaint.{Complaint}
@@ -12,11 +12,10 @@ abbrev pub status_told : Complaint → ℕ
 status_told (complaints.Fault fault advice) = status_of fault
 status_told _ = 1
 
--- a fault is told with its exit status, and nothing else is
+-- a fault is told as it is, and nothing else is
 abbrev pub IsToldAs : Result Unit SimFault → Result Unit Complaint → Type 0
 IsToldAs (Ok done) result = result ≡ Ok tt
-IsToldAs (Err fault) (Ok done) = ⊥
-IsToldAs (Err fault) (Err complaint) = status_told complaint ≡ status_of fault
+IsToldAs (Err fault) result = result ≡ Err (complaints.Fault fault None)
 
 -- the same, where of the entries before a damage so many are shown
 abbrev pub advice_shown : ℕ → Advice → Advice

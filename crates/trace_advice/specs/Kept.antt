@@ -1,5 +1,7 @@
 -- What is told of how much an import kept of its input.
-use Rattle.std.specs.Prelude.{Option, Some, None}
+use Rattle.std.specs.Prelude.{ℕ, ◌+◌, ◌-◌, ◌^◌, min, Option, Some, None}
+use Rattle.script_port.specs.declared.fault.SimFault.{SimFault}
+use Rattle.script_port.specs.declared.fault.SimFault.TheVariants as faults
 use Rattle.trace_advice.specs.declared.kept.Kept.{Kept}
 use Rattle.trace_advice.specs.declared.complaint.Advice.{Advice}
 use Rattle.trace_advice.specs.declared.complaint.Advice.TheVariants as advices
@@ -29,3 +31,14 @@ advice_with kept advice = advice
 abbrev pub complaint_with : Option Kept → Complaint → Complaint
 complaint_with kept (complaints.Fault fault (Some advice)) = complaints.Fault fault (Some (advice_with kept advice))
 complaint_with kept complaint = complaint
+
+-- a place so many bytes further on, where a u64 holds it
+abbrev pub place_past : ℕ → ℕ → ℕ
+place_past skip place = min (place + skip) (2 ^ 64 - 1)
+
+-- a stream's fault where it stands in an input, so many bytes of which were passed over first
+abbrev pub fault_past : ℕ → SimFault → SimFault
+fault_past skip (faults.Truncated place) = faults.Truncated (place_past skip place)
+fault_past skip (faults.BadOp place) = faults.BadOp (place_past skip place)
+fault_past skip (faults.ZeroDrop place) = faults.ZeroDrop (place_past skip place)
+fault_past skip fault = fault

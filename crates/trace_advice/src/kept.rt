@@ -1,7 +1,6 @@
 //! What is told of how much an import kept of its input.
 ghost use Rattle.std.specs.Prelude.{◌≡◌};
-ghost use Rattle.script_port.specs.Faults.{status_of};
-ghost use Rattle.trace_advice.specs.Kept.{advice_with, complaint_with};
+ghost use Rattle.trace_advice.specs.Kept.{advice_with, complaint_with, fault_past};
 
 use crate::complaint::{Advice, Complaint};
 use script_port::SimFault;
@@ -79,7 +78,7 @@ impl fmt::Display for Kept {
 
 /// A stream's fault where it stands in the input, so many bytes of which were passed over first.
 pub fn fault_in_input(fault: SimFault, skipped: u64) -> SimFault
-    ensures { status_of result ≡ status_of fault }
+    ensures { result ≡ fault_past skipped fault }
 {
     match fault {
         SimFault::Truncated { place } => SimFault::Truncated {

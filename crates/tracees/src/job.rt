@@ -1,6 +1,6 @@
 //! Jobs: what a tracee is to do on a thread, and what came of it.
 
-ghost use Rattle.std.specs.Prelude.{◌≡◌, ◌<◌, ◌^◌, ℕ, Bool, [], vec_len};
+ghost use Rattle.std.specs.Prelude.{◌≡◌, ◌<◌, ◌^◌, ℕ, Bool, true, [], vec_len};
 
 use crate::book::Bookkeeping;
 use crate::receipt::{HandFault, Receipt};
@@ -54,8 +54,9 @@ pub trait Gate: Sync {
     fn before(&self, tracee: u32, act: u32) -> bool
         ensures answered { answers self.now tracee act result };
 
-    /// The act was done, or refused.
+    /// The act was let through, and then done or refused.
     fn after(&self, tracee: u32, act: u32)
+        requires passed { answers self.now tracee act true }
         ensures told { told self.now tracee act };
 }
 

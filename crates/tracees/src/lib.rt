@@ -15,6 +15,7 @@ mod job;
 mod laws;
 mod ledgers;
 mod lender;
+mod locked;
 mod receipt;
 mod settling;
 mod shared;

@@ -6,6 +6,7 @@ ghost use Rattle.tracees.specs.Jobs.{HasRoom, HasRun, IsReady, IsReserved, IsSam
 use crate::book::Bookkeeping;
 use crate::desk::Desk;
 use crate::job::{Gate, Job};
+use crate::locked::LockedDesk;
 use crate::shared::SharedBook;
 use crate::working::run_job;
 use std::alloc::{AllocError, Global};
@@ -19,7 +20,7 @@ use trace_terms::NoMemory;
 fn run_each<P: TracePort, K: SharedBook, G: Gate, R: Threads + Wait + Sync>(
     rt: &R,
     alloc: Global,
-    desk: &Mutex<Desk<'_, P, K>>,
+    desk: &LockedDesk<'_, '_, P, K>,
     jobs: &mut [Job<K>],
     gate: &G,
 )
@@ -59,6 +60,25 @@ fn reserve_all<K: Bookkeeping>(jobs: &mut [Job<K>]) -> Result<(), AllocError>
     Ok(())
 }
 
+/// Runs jobs, where there are any, once there is room for the receipts of all.
+fn run_jobs<P: TracePort, K: SharedBook, G: Gate, R: Threads + Wait + Sync>(
+    rt: &R,
+    alloc: Global,
+    desk: &LockedDesk<'_, '_, P, K>,
+    jobs: &mut [Job<K>],
+    gate: &G,
+) -> Result<(), NoMemory>
+    requires { All (λ job. IsReady job) jobs.old }
+    ensures ran { OnOk result ((place : ℕ) (d : _) → place < length jobs.old → HasRun P.told (G.answers gate.now) (G.told gate.now) (slice_index_or jobs.old place d) (slice_index_or jobs.new place d)) }
+    ensures err { OnErr result ((place : ℕ) (d : _) → place < length jobs.old → IsSameJob (slice_index_or jobs.old place d) (slice_index_or jobs.new place d)) }
+{
+    reserve_all(jobs)?;
+    if !jobs.is_empty() {
+        run_each(rt, alloc, desk, jobs, gate);
+    }
+    Ok(())
+}
+
 /// Runs jobs over one desk, each on a thread of its own; where no thread can be made they run one after another. What a
 /// job does under the lock is one call of `hand_over` or `flush_for`; an event and both calls of the gate are outside.
 ///
@@ -74,9 +94,5 @@ pub fn run_threads<P: TracePort, K: SharedBook, G: Gate, R: Threads + Wait + Syn
     ensures ran { OnOk result ((place : ℕ) (d : _) → place < length jobs.old → HasRun P.told (G.answers gate.now) (G.told gate.now) (slice_index_or jobs.old place d) (slice_index_or jobs.new place d)) }
     ensures err { OnErr result ((place : ℕ) (d : _) → place < length jobs.old → IsSameJob (slice_index_or jobs.old place d) (slice_index_or jobs.new place d)) }
 {
-    reserve_all(jobs)?;
-    if !jobs.is_empty() {
-        run_each(rt, alloc, desk, jobs, gate);
-    }
-    Ok(())
+    run_jobs(rt, alloc, &LockedDesk::over(desk), jobs, gate)
 }

@@ -8,5 +8,5 @@ readings-init c = record { few = omega arith; only_reads = inl refl }
 pub readings-preserved : goal.readings-preserved
 readings-preserved c = record {
   few = omega (arith, c.readings.invariant.few, c.if-made-eq-AGAIN.false);
-  only_reads = inr (looks_same c.args.files.now.store c.look_once.new.files.store c.reopen.new.self.store (looks_both c.args.files.now.store c.readings.files.store c.look_once.new.files.store c.readings.invariant.only_reads c.look_once.ensures.there.only_reads) c.reopen.ensures.same);
+  only_reads = inr (looks_same c.args.files.now.store c.look_once.new.files.store c.reopen.new.self.store (looks_both c.args.files.now.store c.readings.files.store c.look_once.new.files.store c.readings.invariant.only_reads c.look_once.ensures.found.only_reads) c.reopen.ensures.same);
 }

@@ -17,5 +17,5 @@ returns g c =
     let had = g.I.Read.remaining c.args.input in
     let made = c.in_ok-files.ensures in
     let files = c.in_ok-files.files in
-    served files (record { past = made.past; locked = made.locked; place = made.place })
+    served files (record { past = made.past; locked = made.locked; free = made.free; place = made.place })
     (subst (λ s. Shows c.args.shown.is_json c.args.shown.choice (ServesTrace c.args.request files (outside had 0 s)) c.show.result (contents c.args.output.now) (contents c.show.new.output)) c.console_for-console.ensures c.show.ensures)

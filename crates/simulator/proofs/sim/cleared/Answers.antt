@@ -1,4 +1,3 @@
-use Rattle.std.proofs.Common.{refl}
 use Rattle.simulator.specs.Simulated.{wipes, wipes_not}
 use Rattle.simulator.proofs.sim.cleared.Goals as goal
 

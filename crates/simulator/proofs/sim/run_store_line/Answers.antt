@@ -2,8 +2,8 @@ use Rattle.std.proofs.Common.{refl}
 use Rattle.trace_script.specs.declared.line.Line.TheVariants as lines
 use Rattle.script_port.specs.Texts.{line_of}
 use Rattle.script_port.specs.declared.answer.Answer.TheVariants as answers
-use Rattle.simulator.specs.Simulated.{crashes, out_of_order}
-use Rattle.simulator.proofs.Simulating.{does_so, lists_so, tells_so}
+use Rattle.simulator.specs.Simulated.{crashes, tells_files, out_of_order}
+use Rattle.simulator.proofs.Simulating.{not_of_store, does_so, lists_so}
 use Rattle.simulator.proofs.sim.run_store_line.Goals as goal
 
 pub returns-in-Store : goal.returns-in-Store
@@ -74,16 +74,18 @@ returns-in-Files g c =
     record {
       does = record {
         name = c.list_files.ensures.tells.name;
-        did = rw c.in-Files.is (tells_so c.list_files.result c.args.store.now c.list_files.new.store _ (c.list_files.ensures.tells.did tt) c.list_files.ensures.fault c.list_files.ensures.only_reads);
+        did = let told = c.list_files.ensures.tells.did tt in
+            rw c.in-Files.is (does_so c.list_files.result lines.Files c.args.store.now c.list_files.new.store _ _ told.0 (tells_files told.1 c.list_files.ensures.only_reads) told.2 told.3 c.list_files.ensures.fault);
       };
     }
 
 pub returns-in_default : goal.returns-in_default
 returns-in_default g c =
+    let d = c.in_default in
     let tell = c.tell-in_default in
     record {
       does = record {
         name = tell.ensures.name;
-        did = does_so tell.result c.args.line.now c.args.store.now c.args.store.now _ _ (line_of answers.OutOfOrder) (out_of_order refl) tell.ensures.text tell.ensures.cut tell.ensures.fault;
+        did = does_so tell.result c.args.line.now c.args.store.now c.args.store.now _ _ (line_of answers.OutOfOrder) (out_of_order (not_of_store c.args.line.now d.not-Store d.not-Bytes d.not-Fuse d.not-FailOnce d.not-Crash d.not-Files d.not-List d.not-Wipe) refl) tell.ensures.text tell.ensures.cut tell.ensures.fault;
       };
     }

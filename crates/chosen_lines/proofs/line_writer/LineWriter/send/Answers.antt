@@ -1,5 +1,6 @@
-use Rattle.std.proofs.Common.{◌≡◌, ◌∙◌, ◌+◌, ◌-◌, length, length-drop, take, drop, arith, ap}
-use Rattle.chosen_lines.proofs.Holding.{held-fed, held-sent, part-fed}
+use Rattle.std.proofs.Common.{◌≡◌, ◌∙◌, ◌+◌, ◌-◌, ◌^◌, min, ◌&&◌, nat_lt, length, length-drop, take, drop, arith, ap}
+use Rattle.chosen_lines.specs.Lines.{begins_entry}
+use Rattle.chosen_lines.proofs.Holding.{held-fed, held-sent, part-fed, counted-fed}
 use Rattle.chosen_lines.proofs.WordLemmas.{cut-whole}
 use Rattle.chosen_lines.proofs.line_writer.LineWriter.send.Goals as goal
 
@@ -20,5 +21,13 @@ invariant_of-self-2-clause-held g c =
     let all : count ≡ length (take (length seen - was.sent) (drop was.sent seen)) = rw c.in_default.is at call.ensures.all in
     let left : length (take (length seen - was.sent) (drop was.sent seen)) ≡ length seen - was.sent = ap (λ l. length l) (cut-whole was.sent seen) ∙ length-drop was.sent seen in
     let whole : was.sent + count ≡ length was.made.items = omega (arith, all, left, ap (λ l. length l) c.deref.ensures.value, was.within, was.made.ok.0) in
-    held-fed (g.L.LineRule.handed was.rule) was.given c.note.new.self _ was.line.items was.made.items (was.sent + count) c.note.ensures was.part c.requires whole
+    held-fed (g.L.LineRule.handed was.rule) was.given c.note.new.self _ was.line.items was.made.items (was.sent + count) c.note.ensures was.part c.requires.made whole
     (held-sent _ _ _ _ was.made.items seen was.sent count c.deref.ensures.value was.held call.ensures.written)
+
+pub invariant_of-self-2-clause-counted : goal.invariant_of-self-2-clause-counted
+invariant_of-self-2-clause-counted g c =
+    let was = c.args.self.now in
+    let shown = c.shows_entry-is_shown in
+    counted-fed (g.L.LineRule.handed was.rule) was.given c.note.new.self was.line.items was.made.items was.entries _ shown.result c.note.ensures was.part c.requires.made
+    (shown.ensures ∙ ap (λ line. begins_entry line && nat_lt 0 (length c.deref-3.result.now)) c.deref-2.ensures.value ∙ ap (λ made. begins_entry was.line.items && nat_lt 0 (length made)) c.deref-3.ensures.value)
+    (c.saturating_add-self.ensures ∙ ap (λ n. min (was.entries + n) (2 ^ 64 - 1)) c.from.ensures) was.counted

@@ -1,0 +1,46 @@
+use Rattle.std.proofs.Common.{◌∙◌, ⊎_elim, inl, inr, ap, None}
+use Rattle.segment.proofs.Taking.{reads_both}
+use Rattle.stores.specs.FolderStore.{honest_of, reads_of, images_of, moments_of, clock_of}
+use Rattle.script_port.specs.declared.fault.SimFault.{SimFault}
+use Rattle.trace_advice.specs.declared.complaint.Complaint.TheVariants as complaints
+use Rattle.recorder.specs.Informing.{refused, not_told}
+use Rattle.recorder.proofs.Informed.{whole_so, refused_so}
+use Rattle.recorder.proofs.informing.info.Goals as goal
+
+pub returns-in-Err-clause-ended : goal.returns-in-Err-clause-ended
+returns-in-Err-clause-ended g c =
+    let e = c.in-Err.ensures.found in
+    let looks = c.told.ensures.only_reads in
+    record {
+      only_reads = reads_both honest_of clock_of reads_of images_of moments_of c.args.files.now.store c.look_over.new.files.store c.told.new.files.store e.only_reads looks;
+      told = λ h. refused c.in-Err.fault c.told.result (e.told (looks.was_honest h)) c.told.ensures.told;
+    }
+
+pub returns-in-Err-write_info-clause-ended : goal.returns-in-Err-write_info-clause-ended
+returns-in-Err-write_info-clause-ended g c = record {
+  only_reads = c.in-Ok.ensures.found.only_reads;
+  told = λ h.
+      not_told c.from.result
+      (⊎_elim (λ write. inl (c.from.ensures ∙ ap (λ (fault : SimFault). complaints.Fault fault None) write))
+      (λ memory. inr (c.from.ensures ∙ ap (λ (fault : SimFault). complaints.Fault fault None) memory)) c.in-Err-write_info.ensures);
+}
+
+pub returns-in-None-clause-ended : goal.returns-in-None-clause-ended
+returns-in-None-clause-ended g c =
+    let e = c.in-Ok.ensures.found in
+    record {
+      only_reads = e.only_reads;
+      told = λ h. let found = e.told h in whole_so (reads_of c.args.files.now.store) c.in-Ok.info.outlined c.fault.result c.in-None.is c.fault.ensures found.0 found.1;
+    }
+
+pub returns-clause-ended : goal.returns-clause-ended
+returns-clause-ended g c =
+    let e = c.in-Ok.ensures.found in
+    let told = c.told-in-Some in
+    let looks = told.ensures.only_reads in
+    record {
+      only_reads = reads_both honest_of clock_of reads_of images_of moments_of c.args.files.now.store c.look_over.new.files.store told.new.files.store e.only_reads looks;
+      told = λ h.
+          let found = e.told (looks.was_honest h) in
+          refused_so (reads_of c.args.files.now.store) c.in-Ok.info.outlined c.fault.result c.in-Some.cause told.result c.in-Some.is c.fault.ensures found.0 found.1 told.ensures.told;
+    }

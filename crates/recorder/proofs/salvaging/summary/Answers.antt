@@ -1,0 +1,6 @@
+use Rattle.std.proofs.Common.{refl}
+use Rattle.recorder.specs.Salvaging.{sums}
+use Rattle.recorder.proofs.salvaging.summary.Goals as goal
+
+pub returns-clause-told : goal.returns-clause-told
+returns-clause-told c = sums _ (record { files = refl; entries = refl; shown = refl; missing = refl })

@@ -1,0 +1,26 @@
+-- A trace told in numbers.
+use Rattle.std.specs.Prelude.{◌⊎◌, Result, Ok, Err}
+use Rattle.trace_store.specs.Disk.{Image}
+use Rattle.recovery.specs.Outlined.{Outlines}
+use Rattle.recovery.specs.Stores.{readings}
+use Rattle.recovery.specs.declared.outlined.Outlined.{Outlined}
+use Rattle.trace_files.specs.Standing.{IsStanding}
+use Rattle.trace_files.specs.declared.standing.Standing.TheVariants as standings
+use Rattle.trace_info.specs.declared.info.Info.{Info}
+use Rattle.trace_reader.specs.Reading.{IsWhyNotRead}
+use Rattle.trace_reader.specs.Summaries.{IsJudged}
+use Rattle.trace_reader.specs.declared.fault.ReadFault.{ReadFault}
+use Rattle.trace_advice.specs.Faults.{read_fault}
+use Rattle.trace_advice.specs.declared.complaint.Complaint.{Complaint}
+use Rattle.recorder.specs.Telling.{IsToldOf, IsOfMemory, IsOfWriter}
+
+-- what a reading found: a trace's files, and what they are together; or why they aren't read
+abbrev pub IsGathered : Image → Result Info ReadFault → Type 0
+IsGathered image (Ok info) = IsStanding standings.Ours image × IsJudged image info.outlined
+IsGathered image (Err fault) = IsWhyNotRead fault image
+
+-- how it ended: its files are one whole trace, and that was told; or why they aren't; or it couldn't be told
+pub data IsInfo (image : Image) : Result Unit Complaint → Type 0 where
+  whole : (r : Outlined) → IsStanding standings.Ours image → Outlines (readings image) r → IsInfo image (Ok tt)
+  refused : (fault : ReadFault) (complaint : Complaint) → IsWhyNotRead fault image → IsToldOf (read_fault fault) complaint → IsInfo image (Err complaint)
+  not_told : (complaint : Complaint) → IsOfWriter complaint ⊎ IsOfMemory complaint → IsInfo image (Err complaint)
