@@ -1,7 +1,8 @@
 -- What came through a writer of lines, as it is known by what it holds.
-use Rattle.std.proofs.Common.{◌≡◌, ℕ, zero, suc, ◌<◌, Bool, true, false, Option, Some, None, List, [], ◌∷◌, ◌++◌, length, take, refl, sym, ◌∙◌, ap, subst, append-nil, arith}
-use Rattle.std.specs.Io.KnownBytes.{Appends}
-use Rattle.chosen_lines.specs.Lines.{rest_after, handed_on, rest, HandsOn, entries_shown, Passed}
+use Rattle.std.proofs.Common.{◌≡◌, ℕ, zero, suc, ◌<◌, true, false, Option, Some, None, List, [], ◌∷◌, ◌++◌, length, take, refl, sym, ◌∙◌, ap, subst, append-nil, arith}
+use Rattle.std.specs.Io.KnownBytes.{Appends, Keeps}
+use Rattle.std.proofs.KnownBytes.{Appends-kept}
+use Rattle.chosen_lines.specs.Lines.{rest_after, handed_on, rest, HandsOn, entries_shown, has_ended, Rule, Left, PassedBy, Passed}
 use Rattle.chosen_lines.specs.Held.{counted, after_counted, line_contents}
 use Rattle.chosen_lines.proofs.LineLemmas.{rest_after-fed}
 use Rattle.chosen_lines.proofs.Contents.{counted-append}
@@ -53,29 +54,41 @@ same_writer numbers later start later_start given text grown =
     (same.0, same.1, apart.1)
 
 -- so what is handed on for that text's lines came through it, or what is handed on for a front of it where the rest was lost
-pub passed : (hand later_hand : List ℕ → List ℕ) (numbers later : List (Option (List ℕ))) (start later_start now : Option (List ℕ)) (given lost text line made : List ℕ) (sent : ℕ) (refused : Bool) (entries : ℕ)
-    → (later ≡ numbers → later_hand ≡ hand) → line ≡ rest_after [] given → (0 < sent → made ≡ later_hand line) → (0 < sent → sent < length made) → Appends later_start now (handed_on later_hand given ++ take sent made) → entries ≡ entries_shown later_hand given
-    → (refused ≡ false → lost ≡ []) → (refused ≡ true → 0 < length lost) → (refused ≡ true → sent ≡ 0) → Appends (line_contents numbers start []) (line_contents later later_start (given ++ lost)) text → Passed refused entries hand text start now
-passed hand later_hand numbers later start later_start now given lost text line made sent refused entries alike is due short held counted none_lost some_lost unsent grown =
+pub passed : (rule later_rule : Rule) (numbers later : List (Option (List ℕ))) (start later_start now : Option (List ℕ)) (given lost text line made : List ℕ) (sent : ℕ) (left : Left)
+    → (later ≡ numbers → (later_rule.hand ≡ rule.hand) × (later_rule.ends ≡ rule.ends)) → line ≡ rest_after [] given → (0 < sent → made ≡ later_rule.hand line) → (0 < sent → sent < length made) → Appends later_start now (handed_on later_rule.hand given ++ take sent made)
+    → left.entries ≡ entries_shown later_rule.hand given → left.ended ≡ has_ended later_rule.ends given
+    → (left.refused ≡ false → lost ≡ []) → (left.refused ≡ true → 0 < length lost) → (left.refused ≡ true → sent ≡ 0) → Appends (line_contents numbers start []) (line_contents later later_start (given ++ lost)) text → Passed left rule text start now
+passed rule later_rule numbers later start later_start now given lost text line made sent left alike is due short held counted ended none_lost some_lost unsent grown =
     let same = same_writer numbers later start later_start (given ++ lost) text grown in
-    let by_given : Passed refused entries later_hand (given ++ lost) later_start now = (elim refused as (λ r. (r ≡ false → lost ≡ []) → (r ≡ true → 0 < length lost) → (r ≡ true → sent ≡ 0) → Passed r entries later_hand (given ++ lost) later_start now) [
-      | false ↦ λ none some sends. subst (λ t. HandsOn later_hand t later_start now × (entries ≡ entries_shown later_hand t)) (sym (append-nil given) ∙ ap (λ l. given ++ l) (sym (none refl))) (
+    let hand : List ℕ → List ℕ = later_rule.hand in
+    let by_given : Passed left later_rule (given ++ lost) later_start now = (elim left.refused as (λ r. (r ≡ false → lost ≡ []) → (r ≡ true → 0 < length lost) → (r ≡ true → sent ≡ 0) → PassedBy r left later_rule (given ++ lost) later_start now) [
+      | false ↦ λ none some sends. subst (λ t. HandsOn hand t later_start now × (left.entries ≡ entries_shown hand t) × (left.ended ≡ has_ended later_rule.ends t)) (sym (append-nil given) ∙ ap (λ l. given ++ l) (sym (none refl))) (
         record {
           sent = sent;
-          short = λ any. subst (λ l. sent < length l) (due any ∙ ap later_hand is) (short any);
-          written = subst (λ more. Appends later_start now (handed_on later_hand given ++ more)) (sent-of sent made (later_hand line) due ∙ ap (λ l. take sent (later_hand l)) is) held;
+          short = λ any. subst (λ l. sent < length l) (due any ∙ ap hand is) (short any);
+          written = subst (λ more. Appends later_start now (handed_on hand given ++ more)) (sent-of sent made (hand line) due ∙ ap (λ l. take sent (hand l)) is) held;
         },
         counted,
+        ended,
       )
       | true ↦ λ none some sends. record {
         front = given;
         lost = lost;
         is = refl;
         some = some refl;
-        written = subst (Appends later_start now) (ap (λ n. handed_on later_hand given ++ take n made) (sends refl) ∙ append-nil (handed_on later_hand given)) held;
+        written = subst (Appends later_start now) (ap (λ n. handed_on hand given ++ take n made) (sends refl) ∙ append-nil (handed_on hand given)) held;
       }
     ]) none_lost some_lost unsent in
-    subst (λ h. Passed refused entries h text start now) (alike same.1) (subst (λ s. Passed refused entries later_hand text s now) same.0 (subst (λ t. Passed refused entries later_hand t later_start now) same.2 by_given))
+    let by_rule : later_rule ≡ rule = let alike_now = alike same.1 in ap (λ h. record later_rule { hand = h }) alike_now.0 ∙ ap (λ e. record rule { ends = e }) alike_now.1 in
+    subst (λ r. Passed left r text start now) by_rule (subst (λ s. Passed left later_rule text s now) same.0 (subst (λ t. Passed left later_rule t later_start now) same.2 by_given))
+
+-- what is written out stays so
+pub passed-kept : (left : Left) (rule : Rule) (text : List ℕ) (was now after : Option (List ℕ)) → Passed left rule text was now → Keeps now after → Passed left rule text was after
+passed-kept left rule text was now after by kept =
+    (elim left.refused as (λ r. PassedBy r left rule text was now → PassedBy r left rule text was after) [
+      | false ↦ λ all. (record { sent = all.0.sent; short = all.0.short; written = Appends-kept was now after _ all.0.written kept }, all.1, all.2)
+      | true ↦ λ part. record { front = part.front; lost = part.lost; is = part.is; some = part.some; written = Appends-kept was now after _ part.written kept }
+    ]) by
 
 none-taken : (n : ℕ) → take {A = ℕ} n [] ≡ []
 none-taken zero = refl

@@ -1,9 +1,10 @@
 -- What a writer of lines keeps while it takes bytes and hands on.
-use Rattle.std.proofs.Common.{◌≡◌, ℕ, zero, suc, ◌-◌, ◌+◌, ◌<◌, ◌^◌, min, Bool, true, false, ◌&&◌, nat_lt, cond, Option, List, [], ◌∷◌, ◌++◌, length, take, drop, refl, sym, ◌∙◌, ap, subst, append_assoc, append-nil, arith}
+use Rattle.std.proofs.Common.{◌≡◌, ℕ, zero, suc, ◌-◌, ◌+◌, ◌<◌, ◌^◌, min, Bool, true, false, ◌&&◌, ◌||◌, nat_lt, cond, Option, List, [], ◌∷◌, ◌++◌, length, take, drop, refl, sym, ◌∙◌, ap, subst, append_assoc, append-nil, arith}
 use Rattle.std.proofs.Math.Seq.{take-add, take-length}
 use Rattle.std.proofs.lemmas.List.Sums.{sum_by_push}
 use Rattle.std.specs.Int.{from_bool}
-use Rattle.std.specs.List.{count_by}
+use Rattle.std.specs.List.{count_by, list_any}
+use Rattle.std.proofs.lemmas.List.Folds.{list_any-append}
 use Rattle.std.specs.Io.KnownBytes.{Appends}
 use Rattle.std.proofs.KnownBytes.{Appends-trans, Appends-nil}
 use Rattle.chosen_lines.specs.declared.given.Given.{Given}
@@ -106,3 +107,22 @@ counted-fed hand given after line made entries later shown came is due told more
 pub counted-new : (hand : List ℕ → List ℕ) (given : Given) → given.bytes ≡ [] → 0 ≡ entries_shown hand given.bytes
 unfolding entries_shown
 counted-new hand given none = sym (ap (entries_shown hand) none)
+
+-- ---- whether a line came behind which a listing ends
+
+-- not with a part of one
+pub ended-grown : (ends : List ℕ → Bool) (given later : Given) (line part : List ℕ) → later ≡ with_more given part → line ≡ rest_after [] given.bytes → lines_after line part ≡ [] → list_any ends (lines_after [] given.bytes) ≡ list_any ends (lines_after [] later.bytes)
+ended-grown ends given later line part came is none =
+    let none_more : lines_after (rest_after [] given.bytes) part ≡ [] = ap (λ text. lines_after text part) (sym is) ∙ none in
+    sym (ap (λ g. list_any ends (lines_after [] (bytes_of g))) came ∙ ap (list_any ends) (lines-part given.bytes part none_more))
+
+same-or_false : (b : Bool) → (b || false) ≡ b
+same-or_false true = refl
+same-or_false false = refl
+
+-- where none came before, it is the one that ends now
+pub ended-fed : (ends : List ℕ → Bool) (given after : Given) (line : List ℕ) → after ≡ with_more given (10 ∷ []) → line ≡ rest_after [] given.bytes → list_any ends (lines_after [] given.bytes) ≡ false → ends line ≡ list_any ends (lines_after [] after.bytes)
+ended-fed ends given after line came is none =
+    let grown : list_any ends (lines_after [] (given.bytes ++ 10 ∷ [])) ≡ list_any ends (lines_after [] given.bytes) || (ends (rest_after [] given.bytes) || false) =
+    ap (list_any ends) (lines-fed given.bytes) ∙ list_any-append ends (lines_after [] given.bytes) (rest_after [] given.bytes ∷ []) in
+    ap ends is ∙ sym (ap (λ g. list_any ends (lines_after [] (bytes_of g))) came ∙ grown ∙ ap (λ b. b || (ends (rest_after [] given.bytes) || false)) none ∙ same-or_false (ends (rest_after [] given.bytes)))

@@ -3,10 +3,11 @@ use Rattle.std.specs.Prelude.{ℕ, Bool, Option, List, ◌&&◌, is_none, string
 use Rattle.std.specs.Option.{option_map}
 use Rattle.chosen_lines.specs.declared.choice.Choice.{Choice}
 
--- the numbers of the first and of the last entry, words for kinds with commas between them, a traced process and a function's module, name and number of arguments, each where it is asked for
+-- the numbers of the first and of the last entry, whether a listing is read on behind that, words for kinds with commas between them, a traced process and a function's module, name and number of arguments, each where it is asked for
 pub record Asks : Type 0 where
   pub from : Option ℕ
   pub to : Option ℕ
+  pub is_whole : Bool
   pub kinds : Option (List ℕ)
   pub pid : Option (List ℕ)
   pub of_module : Option (List ℕ)
@@ -17,6 +18,7 @@ abbrev pub asks_of : Choice → Asks
 asks_of choice = record {
   from = choice.from;
   to = choice.to;
+  is_whole = choice.is_whole;
   kinds = option_map string_bytes choice.kinds;
   pid = option_map string_bytes choice.pid;
   of_module = option_map string_bytes choice.module;

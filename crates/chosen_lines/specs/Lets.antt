@@ -1,5 +1,5 @@
 -- Which lines a choice lets through.
-use Rattle.std.specs.Prelude.{ℕ, Bool, true, false, Option, Some, None, List, ◌==◌, ◌&&◌, ◌||◌, nat_le, codes, is_some}
+use Rattle.std.specs.Prelude.{◌≡◌, ℕ, ◌<◌, Bool, true, false, not, Option, Some, None, List, ◌==◌, ◌&&◌, ◌||◌, nat_le, codes, is_some}
 use Rattle.std.specs.List.{slice_split, list_any}
 use Rattle.std.specs.Option.{option_and_then}
 use Rattle.std.specs.Str.{bytes_eq}
@@ -67,9 +67,9 @@ abbrev pub is_of_function : Asks → Option (List ℕ) → List ℕ → List ℕ
 is_of_function asks None kind told = true
 is_of_function asks (Some wanted) kind told = is_of_call kind && is_of_arity asks.of_arity (after_function wanted asks.of_name told)
 
--- the line of an entry is let through where it is of a drop record, or all that is asked for is so
+-- the line of an entry that isn't above the last is let through where it is of a drop record, or all else that is asked for is so
 abbrev pub lets_entry : Asks → ℕ → List ℕ → List ℕ → Bool
-lets_entry asks number kind told = bytes_eq kind (codes "drop") || (is_from asks.from number && (is_to asks.to number && (is_of_kinds asks.kinds kind && (is_of_pid asks.pid told && is_of_function asks asks.of_module kind told))))
+lets_entry asks number kind told = is_to asks.to number && (bytes_eq kind (codes "drop") || (is_from asks.from number && (is_of_kinds asks.kinds kind && (is_of_pid asks.pid told && is_of_function asks asks.of_module kind told))))
 
 -- a line that has no number is no entry's, and let through
 abbrev pub lets_line : Asks → Option ℕ → List ℕ → Bool
@@ -81,3 +81,24 @@ lets_by asks line = lets_line asks (number_of line) line
 
 abbrev pub lets : Choice → List ℕ → Bool
 lets choice line = lets_by (asks_of choice) line
+
+-- this is the number of the last entry that is asked for, or a greater one
+abbrev pub is_at_end : Option ℕ → Option ℕ → Bool
+is_at_end None number = false
+is_at_end (Some last) None = false
+is_at_end (Some last) (Some number) = nat_le last number
+
+-- a listing ends behind the line of such an entry, unless it is to be whole
+unfoldable pub ends_by : Asks → List ℕ → Bool
+ends_by asks line = not asks.is_whole && is_at_end asks.to (number_of line)
+
+abbrev pub ends : Choice → List ℕ → Bool
+ends choice line = ends_by (asks_of choice) line
+
+-- the lines of two entries, the second of which has the greater number
+pub record ComesLater (line later : List ℕ) : Type 0 where
+  pub number : ℕ
+  pub greater : ℕ
+  pub first : number_of line ≡ Some number
+  pub second : number_of later ≡ Some greater
+  pub rises : number < greater

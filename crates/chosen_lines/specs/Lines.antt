@@ -1,6 +1,6 @@
 -- A text by lines.
 use Rattle.std.specs.Prelude.{◌≡◌, ℕ, ◌<◌, ◌-◌, ◌^◌, min, nat_lt, Bool, true, false, ◌&&◌, List, [], ◌∷◌, ◌++◌, ◌==◌, if◌then◌else◌, length, take, flat_map, Option}
-use Rattle.std.specs.List.{count_by}
+use Rattle.std.specs.List.{count_by, list_any}
 use Rattle.std.specs.Char.{is_ascii_digit}
 use Rattle.std.specs.Io.KnownBytes.{Appends}
 
@@ -54,7 +54,25 @@ shows_entry hand line = begins_entry line && nat_lt 0 (length (hand line))
 unfoldable pub entries_shown : (List ℕ → List ℕ) → List ℕ → ℕ
 entries_shown hand text = min (count_by (shows_entry hand) (lines_after [] text)) (2 ^ 64 - 1)
 
--- what a writer of lines made of a text: all of it was handed on, with so many entries; or a line was refused memory
-abbrev pub Passed : Bool → ℕ → (List ℕ → List ℕ) → List ℕ → Option (List ℕ) → Option (List ℕ) → Type 0
-Passed false entries hand text was now = HandsOn hand text was now × (entries ≡ entries_shown hand text)
-Passed true entries hand text was now = HandsOnFront hand text was now
+-- one of the whole lines of a text is a line behind which a listing ends
+abbrev pub has_ended : (List ℕ → Bool) → List ℕ → Bool
+has_ended ends text = list_any ends (lines_after [] text)
+
+-- what a rule makes of a line: what is handed on for it, and whether a listing ends behind it
+pub record Rule : Type 0 where
+  pub hand : List ℕ → List ℕ
+  pub ends : List ℕ → Bool
+
+-- how a writer of lines was left: a line was refused memory; a line came behind which a listing ends; so many entries are shown
+pub record Left : Type 0 where
+  pub refused : Bool
+  pub ended : Bool
+  pub entries : ℕ
+
+-- what a writer of lines made of a text: all of it was handed on; or a line was refused memory
+abbrev pub PassedBy : Bool → Left → Rule → List ℕ → Option (List ℕ) → Option (List ℕ) → Type 0
+PassedBy false left rule text was now = HandsOn rule.hand text was now × (left.entries ≡ entries_shown rule.hand text) × (left.ended ≡ has_ended rule.ends text)
+PassedBy true left rule text was now = HandsOnFront rule.hand text was now
+
+abbrev pub Passed : Left → Rule → List ℕ → Option (List ℕ) → Option (List ℕ) → Type 0
+Passed left rule text was now = PassedBy left.refused left rule text was now

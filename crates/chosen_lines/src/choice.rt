@@ -13,8 +13,10 @@ use std::alloc::AllocError;
 pub struct Choice {
     /// The number of the first entry.
     pub from: Option<u64>,
-    /// The number of the last entry.
+    /// The number of the last entry, behind which a listing ends.
     pub to: Option<u64>,
+    /// A listing goes on to its end all the same, and its other lines are passed over.
+    pub is_whole: bool,
     /// Words for kinds, with commas between them.
     pub kinds: Option<String>,
     /// The traced process, as a listing shows it, with or without its angle brackets.
@@ -28,7 +30,7 @@ pub struct Choice {
 }
 
 impl Choice {
-    ghost use Rattle.chosen_lines.specs.Lets.{lets, is_from, is_to, is_of_kinds, is_of_pid, is_of_function, after_function, is_of_arity};
+    ghost use Rattle.chosen_lines.specs.Lets.{lets, ends, is_from, is_to, is_of_kinds, is_of_pid, is_of_function, after_function, is_of_arity};
     ghost use Rattle.std.specs.Option.{option_copied};
     ghost use Rattle.chosen_lines.specs.Asks.{asks_of, asks_no_text, asks_nothing};
 
@@ -45,7 +47,8 @@ impl Choice {
         self.kinds.is_none() && self.pid.is_none() && self.module.is_none() && self.name.is_none()
     }
 
-    /// Whether a line, without its line feed, is to be shown. A line that isn't of an entry is, and so is that of a drop record.
+    /// Whether a line, without its line feed, is to be shown. A line that isn't of an entry is, and so is that of a drop record
+    /// which doesn't come after the last entry.
     #[tactic(auto, unfolding(crate::specs::Lets::lets_by))]
     pub fn lets_through(&self, line: &[u8]) -> bool
         ensures { result ≡ lets self.now line.now }
@@ -55,17 +58,41 @@ impl Choice {
             return true;
         };
         let (kind, told) = cut_word(rest);
-        kind == b"drop".as_slice()
-            || self.has_number(number)
-                && self.has_kind(kind)
-                && self.has_pid(told)
-                && self.has_function(kind, told)
+        self.is_not_later(number)
+            && (kind == b"drop".as_slice()
+                || self.is_not_before(number)
+                    && self.has_kind(kind)
+                    && self.has_pid(told)
+                    && self.has_function(kind, told))
     }
 
-    fn has_number(&self, number: u64) -> bool
-        ensures { result ≡ (is_from self.now.from number && is_to self.now.to number) }
+    /// Whether no line that comes after this one in a listing is to be shown: it is of the last entry, or of a later one.
+    #[tactic(auto, unfolding(crate::specs::Lets::ends_by))]
+    pub fn ends_with(&self, line: &[u8]) -> bool
+        ensures { result ≡ ends self.now line.now }
     {
-        self.from.is_none_or(|first| first <= number) && self.to.is_none_or(|last| number <= last)
+        let Some(last) = self.to else {
+            return false;
+        };
+        if self.is_whole {
+            return false;
+        }
+        match number_told(cut_word(line).0) {
+            Some(number) => last <= number,
+            None => false,
+        }
+    }
+
+    fn is_not_before(&self, number: u64) -> bool
+        ensures { result ≡ is_from self.now.from number }
+    {
+        self.from.is_none_or(|first| first <= number)
+    }
+
+    fn is_not_later(&self, number: u64) -> bool
+        ensures { result ≡ is_to self.now.to number }
+    {
+        self.to.is_none_or(|last| number <= last)
     }
 
     fn has_kind(&self, kind: &[u8]) -> bool
@@ -127,13 +154,17 @@ impl Choice {
 
 /// A line that it lets through is handed on with its line feed, and nothing for any other.
 impl LineRule for Choice {
-    ghost use Rattle.chosen_lines.specs.{Asks.asks_of, Held.numbers_of, Lets.lets, Lines.line_let, Rules.same_lines};
+    ghost use Rattle.chosen_lines.specs.{Asks.asks_of, Held.numbers_of, Lets.lets, Lets.ends, Lines.line_let, Rules.same_rule, Rules.nothing_later};
 
     ghost numbers = { λ choice. numbers_of (asks_of choice) };
 
     ghost handed = { λ choice. line_let (lets choice) };
 
-    ghost same = { λ a b by. same_lines (asks_of a) (asks_of b) by };
+    ghost ends = { λ choice. ends choice };
+
+    ghost same = { λ a b by. same_rule (asks_of a) (asks_of b) by };
+
+    ghost later = { λ choice. nothing_later (asks_of choice) };
 
     #[inline(always)]
     fn put(&self, line: &[u8], out: &mut Vec<u8>) -> Result<(), AllocError> {
@@ -142,6 +173,11 @@ impl LineRule for Choice {
         }
         out.extend_from_slice(line)?;
         Ok(out.push(b'\n')?)
+    }
+
+    #[inline(always)]
+    fn is_last(&self, line: &[u8]) -> bool {
+        self.ends_with(line)
     }
 }
 

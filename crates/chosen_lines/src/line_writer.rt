@@ -1,7 +1,8 @@
 //! A writer that hands on something for each line.
-ghost use Rattle.std.specs.Prelude.{◌≡◌, ◌<◌, ◌≤◌, ℕ, true, false, ◌&&◌, nat_lt, Option, List, [], ◌∷◌, ◌++◌, take, vec_len, length, OnOk, OnErr, IfOk, IsErr};
-ghost use Rattle.std.specs.Io.{WritesAtMost, KnownBytes.Appends, KnownBytes.WriteAppends};
-ghost use Rattle.chosen_lines.specs.{Lines.lines_after, Lines.rest_after, Lines.handed_on, Lines.begins_entry, Lines.entries_shown, Held.line_contents, Growth.Appends-prop, Taking.Takes, Taking.came};
+ghost use Rattle.std.specs.Prelude.{◌≡◌, ◌<◌, ◌≤◌, ℕ, true, false, ◌&&◌, nat_lt, Bool, Option, List, [], ◌∷◌, ◌++◌, take, vec_len, length, OnOk, OnErr, IfOk, IsErr};
+ghost use Rattle.std.specs.List.{list_any};
+ghost use Rattle.std.specs.Io.{WritesAtMost, KnownBytes.Appends, KnownBytes.Keeps, KnownBytes.WriteAppends};
+ghost use Rattle.chosen_lines.specs.{Lines.lines_after, Lines.rest_after, Lines.handed_on, Lines.begins_entry, Lines.entries_shown, Lets.ComesLater, Held.line_contents, Growth.Appends-prop, Taking.Takes, Taking.came};
 
 use crate::given::Given;
 use crate::words::index_of;
@@ -19,15 +20,24 @@ pub trait LineRule: Drop {
     /// What is handed on for a line, which comes without its line feed.
     ghost handed: { Self → List ℕ → List ℕ };
 
+    /// Behind which lines a listing ends: nothing is handed on for an entry that comes later.
+    ghost ends: { Self → List ℕ → Bool };
+
     /// Puts what is handed on for a line.
     fn put(&self, line: &[u8], out: &mut Vec<u8>) -> Result<(), AllocError>
         ensures { OnOk result (out.new.items ≡ out.old.items ++ handed self.now line.now) };
 
-    ghost same: { (a b : Self) → numbers a ≡ numbers b → handed a ≡ handed b };
+    /// Whether a listing ends behind a line.
+    fn is_last(&self, line: &[u8]) -> bool
+        ensures { result ≡ ends self.now line.now };
+
+    ghost same: { (a b : Self) → numbers a ≡ numbers b → (handed a ≡ handed b) × (ends a ≡ ends b) };
+
+    ghost later: { (rule : Self) (line later : List ℕ) → ends rule line ≡ true → ComesLater line later → handed rule later ≡ [] };
 }
 
 /// Takes lines, and hands on what its rule gives for each, whole. Where there is no memory for a line, it is lost, and nothing
-/// is taken or handed on after that.
+/// is taken or handed on after that. Nor is it behind a line that ends a listing: then a write, and a flush, is refused.
 #[derive(Drop)]
 pub struct LineWriter<L: LineRule, W: Write> {
     pub rule: L,
@@ -40,6 +50,8 @@ pub struct LineWriter<L: LineRule, W: Write> {
     pub sent: usize,
     /// A line, or what is handed on for it, had no memory.
     pub is_refused: bool,
+    /// A line came behind which a listing ends.
+    pub is_ended: bool,
     /// How many lines of entries were handed on, in whatever form.
     pub entries: u64,
     pub given: Given,
@@ -50,6 +62,7 @@ pub struct LineWriter<L: LineRule, W: Write> {
     pub ghost due: { 0 < sent → made.items ≡ L.handed rule line.items },
     pub ghost short: { 0 < sent → sent < length made.items },
     pub ghost held: { Appends given.start (W.contents out) (handed_on (L.handed rule) given.bytes ++ take sent made.items) } by { Appends-prop given.start (W.contents out) (handed_on (L.handed rule) given.bytes ++ take sent made.items) },
+    pub ghost ended: { is_ended ≡ list_any (L.ends rule) (lines_after [] given.bytes) },
     pub ghost counted: { entries ≡ entries_shown (L.handed rule) given.bytes },
     pub ghost none_lost: { is_refused ≡ false → lost.bytes ≡ [] },
     pub ghost some_lost: { is_refused ≡ true → 0 < length lost.bytes },
@@ -92,6 +105,7 @@ impl<L: LineRule, W: Write> LineWriter<L, W> {
         ensures start { result.given.start ≡ W.contents out }
         ensures none { result.given.bytes ≡ [] }
         ensures kept { result.is_refused ≡ false }
+        ensures begun { result.is_ended ≡ false }
         ensures rule { result.rule ≡ rule }
         ensures out { result.out ≡ out }
     {
@@ -102,6 +116,7 @@ impl<L: LineRule, W: Write> LineWriter<L, W> {
             made: Vec::new(alloc),
             sent: 0,
             is_refused: false,
+            is_ended: false,
             entries: 0,
             given: Given::new(),
             lost: Given::new(),
@@ -147,6 +162,7 @@ impl<L: LineRule, W: Write> LineWriter<L, W> {
         ensures given { self.new.given ≡ self.old.given }
         ensures lost { self.new.lost ≡ self.old.lost }
         ensures kept { self.new.is_refused ≡ self.old.is_refused }
+        ensures ended { self.new.is_ended ≡ self.old.is_ended }
         ensures line { self.new.line.items ≡ self.old.line.items }
         ensures ok { OnOk result (self.new.made.items ≡ L.handed self.new.rule self.new.line.items) }
         ensures err { OnErr result (self.new.sent ≡ 0) }
@@ -163,6 +179,7 @@ impl<L: LineRule, W: Write> LineWriter<L, W> {
     fn send(&mut self) -> io::Result<()>
         requires made { self.old.made.items ≡ L.handed self.old.rule self.old.line.items }
         requires kept { self.old.is_refused ≡ false }
+        requires goes_on { self.old.is_ended ≡ false }
         ensures rule { self.new.rule ≡ self.old.rule }
         ensures given { Takes (10 ∷ []) (came self.old.given self.old.lost) (came self.new.given self.new.lost) result }
     {
@@ -173,6 +190,7 @@ impl<L: LineRule, W: Write> LineWriter<L, W> {
         }
         let is_shown = shows_entry(&self.line, &self.made);
         self.entries = self.entries.saturating_add(u64::from(is_shown));
+        self.is_ended = self.rule.is_last(&self.line);
         self.line.clear();
         self.sent = 0;
         self.given.note(&[FEED]);
@@ -181,7 +199,8 @@ impl<L: LineRule, W: Write> LineWriter<L, W> {
 
     /// Takes the line feed that ends a line, which is one byte.
     fn end_line(&mut self) -> io::Result<usize>
-        requires { self.old.is_refused ≡ false }
+        requires kept { self.old.is_refused ≡ false }
+        requires goes_on { self.old.is_ended ≡ false }
         ensures rule { self.new.rule ≡ self.old.rule }
         ensures given { Takes (10 ∷ []) (came self.old.given self.old.lost) (came self.new.given self.new.lost) result }
         ensures all { IfOk result (λ count. count ≡ 1) }
@@ -203,9 +222,13 @@ impl<L: LineRule, W: Write> Write for LineWriter<L, W> {
         ensures bytes { WriteAppends (line_contents (L.numbers self.old.rule) self.old.given.start (self.old.given.bytes ++ self.old.lost.bytes))
             (line_contents (L.numbers self.new.rule) self.new.given.start (self.new.given.bytes ++ self.new.lost.bytes)) result bytes.now }
         ensures refused { self.old.is_refused ≡ true → IsErr result }
+        ensures ended { self.old.is_ended ≡ true → IsErr result }
     {
         if self.is_refused {
             return Err(io::Error::from(ErrorKind::OutOfMemory));
+        }
+        if self.is_ended {
+            return Err(io::Error::from(ErrorKind::BrokenPipe));
         }
         if bytes.is_empty() {
             return Ok(0);
@@ -217,10 +240,19 @@ impl<L: LineRule, W: Write> Write for LineWriter<L, W> {
         }
     }
 
-    fn flush(&mut self) -> io::Result<()> {
+    fn flush(&mut self) -> io::Result<()>
+        ensures stay { Keeps (line_contents (L.numbers self.old.rule) self.old.given.start (self.old.given.bytes ++ self.old.lost.bytes))
+            (line_contents (L.numbers self.new.rule) self.new.given.start (self.new.given.bytes ++ self.new.lost.bytes)) }
+        ensures refused { self.old.is_refused ≡ true → IsErr result }
+        ensures ended { self.old.is_ended ≡ true → IsErr result }
+    {
         if self.is_refused {
             return Err(io::Error::from(ErrorKind::OutOfMemory));
         }
-        self.out.flush()
+        self.out.flush()?;
+        if self.is_ended {
+            return Err(io::Error::from(ErrorKind::BrokenPipe));
+        }
+        Ok(())
     }
 }

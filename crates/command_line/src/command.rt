@@ -470,6 +470,7 @@ fn choice_in<'a>(alloc: Global, matches: &ArgMatches<'a>) -> Result<Option<Choic
     let choice = Choice {
         from: matches.get_one::<u64>("from"),
         to: matches.get_one::<u64>("to"),
+        is_whole: matches.get_flag("salvage"),
         kinds: kept(alloc, kinds)?,
         pid: kept(alloc, process)?,
         module: kept(alloc, function.map(|function| function.module))?,

@@ -1,5 +1,5 @@
 //! An object for each line.
-ghost use Rattle.std.specs.Prelude.{[], refl};
+ghost use Rattle.std.specs.Prelude.{[], false, refl};
 ghost use Rattle.json_lines.specs.Objects.{object_line};
 
 use crate::object::put_object_line;
@@ -15,10 +15,19 @@ impl LineRule for Objects {
 
     ghost handed = { λ _. object_line };
 
-    ghost same = { λ a b by. refl };
+    ghost ends = { λ _ _. false };
+
+    ghost same = { λ a b by. (refl, refl) };
+
+    ghost later = { λ _ line later ends comes. absurd cc };
 
     #[inline(always)]
     fn put(&self, line: &[u8], out: &mut Vec<u8>) -> Result<(), AllocError> {
         put_object_line(out, line)
+    }
+
+    #[inline(always)]
+    fn is_last(&self, _line: &[u8]) -> bool {
+        false
     }
 }

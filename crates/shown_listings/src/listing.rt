@@ -1,6 +1,9 @@
 //! Listings, shown whole, by some of their lines or as JSON objects.
-ghost use Rattle.std.specs.Prelude.{◌≡◌, ℕ, List, Option, Result};
-ghost use Rattle.shown_listings.specs.Listings.{Listing, LineByLine, told_of, Shows};
+ghost use Rattle.std.specs.Prelude.{◌≡◌, ℕ, List, None, Option, Result, IfErr};
+ghost use Rattle.std.specs.Io.KnownBytes.{Keeps};
+ghost use Rattle.script_port.specs.declared.fault.SimFault.TheVariants as faults;
+ghost use Rattle.trace_advice.specs.declared.complaint.Complaint.TheVariants as complaints;
+ghost use Rattle.shown_listings.specs.Listings.{Listing, LineByLine, IsToldBy, Shows};
 
 use crate::counted::Counted;
 use crate::outlet::{Output, taken};
@@ -48,12 +51,34 @@ fn out_of<L: LineRule, W: Write>(lines: LineWriter<L, W>) -> W
     lines.out
 }
 
-/// How a listing ended of which so many entries are shown, or that a line of it had no memory.
-fn told_of(done: Result<(), Complaint>, is_refused: bool, entries: u64) -> Result<(), Complaint>
-    ensures { result ≡ told_of is_refused entries done }
+/// Writes out what is shown.
+fn write_out<W: Write>(output: &mut W) -> Result<(), Complaint>
+    ensures kept { Keeps (W.contents output.old) (W.contents output.new) }
+    ensures err { IfErr result (λ complaint. complaint ≡ complaints.Fault faults.Write None) }
+{
+    match output.flush() {
+        Ok(()) => Ok(()),
+        Err(_) => Err(Complaint::from(SimFault::Write)),
+    }
+}
+
+/// How a listing ended of which so many entries are shown; that a line of it had no memory; or whether what is shown is written
+/// out, where a line came behind which it ends.
+fn told_of<W: Write>(
+    done: Result<(), Complaint>,
+    is_refused: bool,
+    is_ended: bool,
+    entries: u64,
+    output: &mut W,
+) -> Result<(), Complaint>
+    ensures told { IsToldBy is_refused is_ended entries done result }
+    ensures kept { Keeps (W.contents output.old) (W.contents output.new) }
 {
     if is_refused {
         return Err(Complaint::from(SimFault::NoMemory));
+    }
+    if is_ended {
+        return write_out(output);
     }
     match done {
         Ok(()) => Ok(()),
@@ -62,7 +87,7 @@ fn told_of(done: Result<(), Complaint>, is_refused: bool, entries: u64) -> Resul
 }
 
 impl<S: Listable, L: LineRule + Default> Listable for ByLine<S, L> {
-    ghost lists = { λ by had. LineByLine (L.handed by.rule) (S.lists by.listing had) };
+    ghost lists = { λ by had. LineByLine (record { hand = L.handed by.rule; ends = L.ends by.rule }) (S.lists by.listing had) };
 
     fn list<R: Wait, I: Read + Drop, W: Output>(
         self,
@@ -78,13 +103,14 @@ impl<S: Listable, L: LineRule + Default> Listable for ByLine<S, L> {
         let mut lines = LineWriter::new(alloc, rule, taken(alloc, output));
         let done = listing.list(waiter, input, &mut lines);
         let is_refused = lines.is_refused;
+        let is_ended = lines.is_ended;
         let entries = lines.entries;
         *output = out_of(lines);
-        told_of(done, is_refused, entries)
+        told_of(done, is_refused, is_ended, entries, output)
     }
 }
 
-/// Shows a listing. The lines that are chosen are shown, as they are or as objects. Where standard error is a terminal it says
+/// Shows a listing. The lines that are chosen are shown, as they are or as objects; behind the last that may be it ends. Where standard error is a terminal it says
 /// how many entries are opaque, also of those that are passed over.
 pub fn show<S: Listable, R: Wait, I: Read + Drop, W: Output>(
     rt: &HostRuntime,

@@ -1,6 +1,6 @@
-use Rattle.std.proofs.Common.{◌≡◌, ◌∙◌, ◌+◌, ◌-◌, ◌^◌, min, ◌&&◌, nat_lt, length, length-drop, take, drop, arith, ap}
+use Rattle.std.proofs.Common.{◌≡◌, ◌∙◌, ◌+◌, ◌-◌, ◌^◌, min, ◌&&◌, nat_lt, length, length-drop, take, drop, arith, ap, sym}
 use Rattle.chosen_lines.specs.Lines.{begins_entry}
-use Rattle.chosen_lines.proofs.Holding.{held-fed, held-sent, part-fed, counted-fed}
+use Rattle.chosen_lines.proofs.Holding.{held-fed, held-sent, part-fed, counted-fed, ended-fed}
 use Rattle.chosen_lines.proofs.WordLemmas.{cut-whole}
 use Rattle.chosen_lines.proofs.line_writer.LineWriter.send.Goals as goal
 
@@ -31,3 +31,8 @@ invariant_of-self-2-clause-counted g c =
     counted-fed (g.L.LineRule.handed was.rule) was.given c.note.new.self was.line.items was.made.items was.entries _ shown.result c.note.ensures was.part c.requires.made
     (shown.ensures ∙ ap (λ line. begins_entry line && nat_lt 0 (length c.deref-3.result.now)) c.deref-2.ensures.value ∙ ap (λ made. begins_entry was.line.items && nat_lt 0 (length made)) c.deref-3.ensures.value)
     (c.saturating_add-self.ensures ∙ ap (λ n. min (was.entries + n) (2 ^ 64 - 1)) c.from.ensures) was.counted
+
+pub invariant_of-self-2-clause-ended : goal.invariant_of-self-2-clause-ended
+invariant_of-self-2-clause-ended g c =
+    let was = c.args.self.now in
+    c.is_last-self.ensures ∙ ap (g.L.LineRule.ends was.rule) c.deref-4.ensures.value ∙ ended-fed (g.L.LineRule.ends was.rule) was.given c.note.new.self was.line.items c.note.ensures was.part (sym was.ended ∙ c.requires.goes_on)

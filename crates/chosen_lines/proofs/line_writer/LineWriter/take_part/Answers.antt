@@ -1,5 +1,5 @@
 use Rattle.std.proofs.Common.{rules, ◌∙◌}
-use Rattle.chosen_lines.proofs.Holding.{part-grown, held-grown, counted-grown}
+use Rattle.chosen_lines.proofs.Holding.{part-grown, held-grown, counted-grown, ended-grown}
 use Rattle.chosen_lines.proofs.line_writer.LineWriter.take_part.Goals as goal
 
 pub invariant_of-self-2-clause-part : goal.invariant_of-self-2-clause-part
@@ -15,3 +15,8 @@ pub invariant_of-self-2-clause-counted : goal.invariant_of-self-2-clause-counted
 invariant_of-self-2-clause-counted g c =
     let was = c.args.self.now in
     was.counted ∙ counted-grown (g.L.LineRule.handed was.rule) was.given c.note.new.self was.line.items c.args.part.now c.note.ensures was.part c.requires.none
+
+pub invariant_of-self-2-clause-ended : goal.invariant_of-self-2-clause-ended
+invariant_of-self-2-clause-ended g c =
+    let was = c.args.self.now in
+    was.ended ∙ ended-grown (g.L.LineRule.ends was.rule) was.given c.note.new.self was.line.items c.args.part.now c.note.ensures was.part c.requires.none
