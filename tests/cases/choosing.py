@@ -4,10 +4,12 @@ themselves, read by the tables; the lines are those of the whole listing, readab
 import dataclasses
 import random
 import struct
+import subprocess
 
 from cases import STREAMS, group
 from entries import drop, kept, message, split
-from program import same
+from program import PATIENCE, same
+from telling import damaged
 from terms import AnyReader, OTHER_WORDS, Unread, Writer, kind, name_text, short_atom, text
 
 CASES, case = group()
@@ -70,9 +72,11 @@ class Asked:
 
     def lets(self, number, shown, found):
         """Whether the line of an entry is shown: its number, the word of its kind, and what its message tells."""
+        if self.last is not None and self.last < number:
+            return False
         if shown == "drop":
             return True
-        if self.first is not None and number < self.first or self.last is not None and self.last < number:
+        if self.first is not None and number < self.first:
             return False
         if self.kinds is not None and shown not in self.kinds:
             return False
@@ -82,7 +86,7 @@ class Asked:
 
 
 def chosen(listing, entries, asked):
-    """The lines of a whole listing that are asked for."""
+    """The lines of a whole listing that are asked for, up to the last entry that may be."""
     found = []
     for line in listing.decode().splitlines(keepends=True):
         number = line.split(" ")[0]
@@ -93,6 +97,8 @@ def chosen(listing, entries, asked):
         told = Told() if shown in ("drop", "opaque") else told_by(entries[int(number)])
         if asked.lets(int(number), shown, told):
             found.append(line)
+        if asked.last is not None and asked.last <= int(number):
+            break
     return "".join(found).encode()
 
 
@@ -155,6 +161,33 @@ def the_numbers_of_the_first_and_the_last_entry_are_chosen(program):
         listed.shows(Asked(first=first, last=end), "--from", str(first), "--to", str(end))
         listed.shows(Asked(first=first), "--from", str(first))
         listed.shows(Asked(last=end), f"--to={end}")
+
+
+@case
+def a_listing_ends_behind_the_last_entry_that_is_asked_for(program):
+    data, place = damaged(drop(1), drop(2), drop(3))
+    (program.folder / "t").write_bytes(data)
+    same(program.good("list", "t", "--to", "1"), b"0 drop 1\n1 drop 2\n")
+    same(program.good("list", "t", "--to", "1", "--from", "1", "--json"), b'{"n":0,"kind":"drop","count":1}\n{"n":1,"kind":"drop","count":2}\n')
+    same(program.good("list", "t", "--to", "2"), b"0 drop 1\n1 drop 2\n2 drop 3\n")
+    outcome = program.run("list", "t", "--to", "3")
+    same((outcome.status, outcome.output), (1, b"0 drop 1\n1 drop 2\n2 drop 3\n"))
+    salvaged = program.run("list", "t", "--salvage", "--to", "1")
+    same((salvaged.status, salvaged.output), (1, b"0 drop 1\n1 drop 2\n"))
+    with program.start("stream", "--to", "1") as stream:
+        stream.write(drop(1) + drop(2) + drop(3))
+        same([stream.line(), stream.line(), stream.process.wait(PATIENCE)], ["0 drop 1", "1 drop 2", 0])
+        same((stream.process.stdout.read(), stream.process.stderr.read()), (b"", b""))
+
+
+@case
+def a_choice_whose_lines_cannot_be_written_is_told(program):
+    program.good("import", "t", stdin=drop(1) * 3)
+    for words in (("--to", "1"), ("--to", "1", "--json"), ("--from", "0")):
+        with open("/dev/full", "wb") as full:
+            ran = subprocess.run([program.path, "list", "t", *words], cwd=program.folder, stdin=subprocess.DEVNULL, stdout=full, stderr=subprocess.PIPE, timeout=PATIENCE, check=False)
+        why = b"standard output can't be written: No space left on device (os error 28)\n"
+        same((ran.returncode, ran.stderr), (1, b"dbgrec: refused 2 Write\n" + why))
 
 
 @case
@@ -233,6 +266,8 @@ def drop_records_are_always_shown(program):
     stream = b"".join(entry + (drop(number + 1) if number % 3 == 0 else b"") for number, entry in enumerate(entries))
     listed = Listed(program, stream)
     listed.shows(Asked(first=2**40), "--from", str(2**40))
+    listed.shows(Asked(last=4), "--to", "4")
+    listed.shows(Asked(first=3, last=4, kinds=("exception",)), "--from=3", "--to=4", "--only", "exception")
     listed.shows(Asked(kinds=("exception",)), "--only", "exception")
     listed.shows(Asked(process="<a@b.1.0.0>"), "--pid", "<a@b.1.0.0>")
     listed.shows(Asked(function=("nowhere",)), "--mfa", "nowhere")

@@ -60,18 +60,18 @@ def objects_and_chosen_lines_of_what_is_added_come_at_once(program):
             importer.write(message(EXAMPLE))
             first = told.line()
             same(both.line(), first)
+            same(end_of(both), Outcome(0, b"", b""))
             importer.write(message(b"x"))
             second = told.line()
             same(chosen.line(), "1 opaque 1")
             importer.write(drop(3))
             lost = told.line()
             same(chosen.line(), "2 drop 3")
-            same(both.line(), lost)
             same(importer.end().status, 0)
             lines = f"{first}\n{second}\n{lost}\n"
             same(lines.encode() + end_of(told).output, program.good("list", "--json", "t"))
             same(end_of(chosen), Outcome(0, END, b""))
-            same(f"{first}\n{lost}\n".encode() + end_of(both).output, program.good("list", "--json", "--to", "0", "t"))
+            same(f"{first}\n".encode(), program.good("list", "--json", "--to", "0", "t"))
 
 
 def reads_of(follower):

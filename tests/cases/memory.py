@@ -147,7 +147,7 @@ def a_stream_that_is_refused_memory_is_listed_to_there(program):
     kept = Kept(program)
     kept.reads("stream", stdin=b"".join([*ENTRIES[:6], message(LONG)]))
     kept.reads("stream", stdin=b"".join(ENTRIES[:4]) + message(LONG)[:-1])
-    kept.reads("stream", "--mfa", "lists:seq/2", "--to", "3", stdin=b"".join([*ENTRIES[:6], message(LONG)]))
+    kept.reads("stream", "--mfa", "lists:seq/2", "--to", "9", stdin=b"".join([*ENTRIES[:6], message(LONG)]))
     kept.reads("stream", "-p", "--json", stdin=b"".join([*ENTRIES[:6], message(LONG)]))
 
 

@@ -190,7 +190,7 @@ fn to<'a>(alloc: Global) -> Arg<'a> {
         alloc,
         "to",
         "N",
-        "Shows no entry after the one of this number",
+        "Ends behind the entry of this number",
     )
     .value_parser(value_parser!(u64))
 }

@@ -92,6 +92,8 @@ struct Tally {
     is_on: bool,
     range: Range,
     sight: Sight,
+    /// The entry of the last number came, or a later one.
+    is_over: bool,
     /// What the line began with that isn't at its end.
     head: [u8; HEAD],
     length: usize,
@@ -106,6 +108,7 @@ impl Tally {
                 entries: 0,
                 opaque: 0,
             },
+            is_over: false,
             head: [0; HEAD],
             length: 0,
         }
@@ -115,14 +118,14 @@ impl Tally {
     fn end_line(&mut self) {
         let length = self.length.min(HEAD);
         let (word, rest) = cut_word(&self.head[..length]);
-        if let Some(number) = number_told(word)
-            && self.range.first <= number
-            && number <= self.range.last
-        {
-            let (kind, _) = cut_word(rest);
-            let is_opaque = kind == b"opaque".as_slice();
-            self.sight.entries = self.sight.entries.saturating_add(1);
-            self.sight.opaque = self.sight.opaque.saturating_add(u64::from(is_opaque));
+        if let Some(number) = number_told(word) {
+            self.is_over = self.is_over || self.range.last <= number;
+            if self.range.first <= number && number <= self.range.last {
+                let (kind, _) = cut_word(rest);
+                let is_opaque = kind == b"opaque".as_slice();
+                self.sight.entries = self.sight.entries.saturating_add(1);
+                self.sight.opaque = self.sight.opaque.saturating_add(u64::from(is_opaque));
+            }
         }
         self.length = 0;
     }
@@ -185,10 +188,10 @@ impl<W: Output> Output for Counting<W> {
 }
 
 /// The writer below, and what was counted.
-fn ended<W: Write>(counting: Counting<W>) -> (W, Sight)
+fn ended<W: Write>(counting: Counting<W>) -> (W, Tally)
     ensures { result.0 ≡ counting.out }
 {
-    (counting.out, counting.tally.sight)
+    (counting.out, counting.tally)
 }
 
 /// A listing, at whose end standard error tells how many of its entries are opaque, where that is asked for.
@@ -233,9 +236,10 @@ impl<S: Listable> Listable for Counted<S> {
             tally: Tally::new(is_on, range),
         };
         let done = listing.list(waiter, input, &mut counting);
-        let (out, sight) = ended(counting);
+        let (out, tally) = ended(counting);
         *output = out;
-        if done.is_ok() && sight.opaque > 0 {
+        let sight = tally.sight;
+        if (done.is_ok() || tally.is_over) && sight.opaque > 0 {
             let _ = eprintln!(rt; "dbgrec: {sight}");
         }
         done
