@@ -169,14 +169,14 @@ Serves (requests.Import asked rules) old new saw observed was now result = Feeds
 
 -- no device call was made yet on the files of a trace, whatever the world that they are part of
 abbrev pub IsUntouched : World → Files → Type 0
-IsUntouched world files = past_of files.store ≡ record { world = world; count = file_count files.place.kind; events = [] }
+IsUntouched world files = past_of files.store ≡ record { world = world; names = (past_of files.store).names; count = file_count files.place.kind; events = [] }
 
--- and they are locked no more than they were: who writes them may take the lock
+-- and they aren't locked: who writes them may take the lock
 pub record IsFree (world : World) (files : Files) : Type 0 where
   pub past : IsUntouched world files
-  pub not_locked : files.locked ≡ None
+  pub not_locked : files.store.is_locked ≡ false
 
 -- and their lock was taken
 pub record IsLocked (world : World) (files : Files) : Type 0 where
   pub past : IsUntouched world files
-  pub locked : IsSome files.locked
+  pub locked : files.store.is_locked ≡ true

@@ -1,5 +1,5 @@
 -- What is done with a trace or a stream for the words of a command line, and how it is shown.
-use Rattle.std.specs.Prelude.{◌≡◌, ℕ, Bool, Option, None, List, [], Result, Ok, Err, IsSome, IfSome}
+use Rattle.std.specs.Prelude.{◌≡◌, ℕ, Bool, true, false, Option, None, List, [], Result, Ok, Err, IsSome, IfSome}
 use Rattle.std.specs.Io.KnownBytes.{Appends, Keeps}
 use Rattle.stores.specs.Events.{World}
 use Rattle.command_line.specs.declared.request.Asked.{Asked}
@@ -35,8 +35,8 @@ Does (tasks.Followed is_pretty) files saw = KeepsOn is_pretty files
 -- the files that are made for what is asked, of which nothing was read yet; they are locked exactly where they are to be changed
 pub record AreMade (world : World) (request : TraceRequest) (files : Files) : Type 0 where
   pub past : IsUntouched world files
-  pub locked : Changes request → IsSome files.locked
-  pub free : (Changes request → ⊥) → files.locked ≡ None
+  pub locked : Changes request → files.store.is_locked ≡ true
+  pub free : (Changes request → ⊥) → files.store.is_locked ≡ false
   pub place : IsAtPlace (asked_in request) files
 
 -- files were made for what is asked, it was done with them and shown so; or none could be had, and nothing is written

@@ -7,7 +7,9 @@ use Rattle.trace_advice.specs.Complaints.{status_told}
 use Rattle.trace_advice.specs.declared.complaint.Complaint.{Complaint}
 use Rattle.recorder.specs.declared.files.Files.{Files}
 use Rattle.trace_places.specs.Finding.{IsFound, IsPlaceFor}
+use Rattle.trace_places.specs.Places.{AreNames}
 use Rattle.trace_places.specs.declared.lookup.Found.{Found}
+use Rattle.stores.specs.FolderStore.{past_of}
 
 -- what a request says of where its trace is
 abbrev pub asked_in : TraceRequest → Asked
@@ -19,10 +21,11 @@ asked_in (requests.Salvage asked form) = asked
 asked_in (requests.Info asked is_json) = asked
 asked_in (requests.Wipe asked is_forced) = asked
 
--- files in the place of what is asked, by what was found of it
+-- files in the place of what is asked, by what was found of it; the store is over those of that place's names
 pub record IsAt (asked : Asked) (found : Found) (files : Files) : Type 0 where
   pub found_is : files.found ≡ found
   pub place : IsPlaceFor asked found files.place
+  pub names : AreNames files.place (past_of files.store).names
 
 -- the same of something that may be found where that is asked
 pub record IsAtPlace (asked : Asked) (files : Files) : Type 0 where

@@ -8,7 +8,6 @@ mod files;
 mod following;
 mod informing;
 mod live;
-mod locked;
 mod salvaging;
 mod serving;
 mod sites;

@@ -1,5 +1,5 @@
 //! The files of the trace that a command line asks for.
-ghost use Rattle.std.specs.Prelude.{◌≡◌, None, IfOk, IfErr, IsSome};
+ghost use Rattle.std.specs.Prelude.{◌≡◌, true, false, IfOk, IfErr};
 ghost use Rattle.stores.specs.Events.{World};
 ghost use Rattle.trace_places.specs.Finding.{IsFound};
 ghost use Rattle.trace_advice.specs.Complaints.{status_told};
@@ -15,8 +15,8 @@ use trace_places::{Crowded, Found, Place, find, is_crowded};
 pub fn files_for<'a>(rt: &HostRuntime, request: &TraceRequest<'a>) -> Result<Files<'a>, Complaint>
     ghost world: { World }
     ensures past { IfOk result (IsUntouched world) }
-    ensures locked { Changes request.now → IfOk result (λ files. IsSome files.locked) }
-    ensures free { (Changes request.now → ⊥) → IfOk result (λ files. files.locked ≡ None) }
+    ensures locked { Changes request.now → IfOk result (λ files. files.store.is_locked ≡ true) }
+    ensures free { (Changes request.now → ⊥) → IfOk result (λ files. files.store.is_locked ≡ false) }
     ensures place { IfOk result (IsAtPlace (asked_in request.now)) }
     ensures refused { IfErr result (λ complaint. status_told complaint ≡ 1) }
 {

@@ -111,9 +111,9 @@ fn suffix_of<'a>(asked: &Asked<'a>) -> &'a str
 }
 
 impl Place<'_> {
-    ghost use Rattle.std.specs.Prelude.{◌≡◌, ◌<◌, ℕ, length, IfOk, Some, map, slice_get};
+    ghost use Rattle.std.specs.Prelude.{◌≡◌, length, IfOk, map};
     ghost use Rattle.std.specs.String.{string_bytes};
-    ghost use Rattle.trace_places.specs.Places.{name_of};
+    ghost use Rattle.trace_places.specs.Places.{name_of, AreNames};
 
     /// How many files there are.
     pub fn files(&self) -> u32
@@ -138,7 +138,7 @@ impl Place<'_> {
     /// The names of all files, in the order of their numbers.
     pub fn names(&self, alloc: Global) -> Result<Vec<String>, AllocError>
         ensures count { IfOk result (λ names. length names.items ≡ file_count self.now.kind) }
-        ensures names { IfOk result (λ names. (k : ℕ) → k < file_count self.now.kind → slice_get (map string_bytes names.items) k ≡ Some (name_of self.now.kind self.now.base.now self.now.suffix.now k)) }
+        ensures names { IfOk result (λ names. AreNames self.now (map string_bytes names.items)) }
     {
         let mut names = Vec::new(alloc);
         for k in 0..self.files() {

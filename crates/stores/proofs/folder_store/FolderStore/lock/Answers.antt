@@ -4,7 +4,7 @@ use Rattle.stores.specs.LockFault.{file_of}
 use Rattle.stores.specs.NotedFiles.{past}
 use Rattle.stores.proofs.folder_store.FolderStore.lock.Goals as goal
 
-pub returns-clause-file : goal.returns-clause-file
-returns-clause-file c =
+pub returns-else-is_ok-clause-file : goal.returns-else-is_ok-clause-file
+returns-else-is_ok-clause-file c =
     let p = past c.args.self.now.files in
-    subst (λ (n : ℕ). IfErr c.lock.result (λ fault. file_of fault < n)) (sym (length-reads p.world p.count p.events)) c.lock.ensures.file
+    subst (λ (n : ℕ). IfErr c.lock-taken.result (λ fault. file_of fault < n)) (sym (length-reads p.world p.count p.events)) c.lock-taken.ensures.file

@@ -3,4 +3,4 @@ use Rattle.stores.specs.Events.{world_after}
 use Rattle.stores.proofs.folder_store.FolderStore.renew.Given as goal
 
 abbrev pub ghost-renew : goal.ghost-renew
-ghost-renew a = world_after (length a.self.now.calls.events) a.self.now.calls.world
+ghost-renew a = (world_after (length a.self.now.calls.events) a.self.now.calls.world, a.self.now.calls.names)
