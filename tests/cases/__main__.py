@@ -37,6 +37,7 @@ import locking
 import machine
 import memory
 import pretty
+import reaching
 import readings
 import recording
 import replacing
@@ -49,7 +50,7 @@ import wording
 from cases import Skipped
 from program import Program
 
-GROUPS = (rows, scripts, emitting, readings, listing, pretty, forms, choosing, json_listing, recording, importing, info, foreign, absent, keeping, telling, crashes, images, machine, faults, locking, replacing, live, following, windows, salvage, large, wording, installing, memory, libraries)
+GROUPS = (rows, scripts, emitting, readings, listing, pretty, forms, choosing, json_listing, recording, importing, info, foreign, absent, keeping, telling, crashes, images, machine, faults, locking, replacing, live, following, windows, salvage, large, wording, installing, memory, libraries, reaching)
 
 
 def words():

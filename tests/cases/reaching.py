@@ -1,0 +1,77 @@
+"""A case of what reaches the system's files: no clause says what a function does with them beside the store that it is lent,
+so each function that opens, reads, changes or removes one, or makes a store over some, is listed here with its reason."""
+
+import pathlib
+import re
+
+from cases import group
+from program import same
+
+CASES, case = group()
+
+CRATES = pathlib.Path(__file__).parents[2] / "crates"
+
+# what reaches a file by its name
+REACH = re.compile(r"\b(?:fs::[a-z_]+(?=\()|File::[a-z_]+|OpenOptions::new|FolderStore::over|FailureMark::new|fchown(?=\())")
+
+FUNCTION = re.compile(r"^ *(?:pub )?fn ([a-z_0-9]+)")
+
+# who changes files: the store, and the mark of a failed disk
+CHANGES = {
+    ("stores/src/failure_mark.rt", "create"): ["OpenOptions::new"],
+    ("stores/src/failure_mark.rt", "remove"): ["fs::remove_file"],
+    ("stores/src/named_file.rt", "create_new"): ["OpenOptions::new"],
+    ("stores/src/named_file.rt", "match_owner"): ["fchown"],
+    ("stores/src/named_file.rt", "open_file"): ["File::open", "OpenOptions::new"],
+    ("stores/src/named_file.rt", "remove_beside"): ["fs::remove_file"],
+    ("stores/src/named_file.rt", "rename"): ["fs::rename"],
+    ("stores/src/named_file.rt", "successor"): ["fs::remove_file"],
+}
+
+# who makes a store over files, or a mark, by the names of a trace's place; the first and the last store are only read
+STORES = {
+    ("recorder/src/awaiting.rt", "is_own"): ["FolderStore::over"],
+    ("recorder/src/files.rt", "at"): ["FolderStore::over"],
+    ("recorder/src/files.rt", "has_failed"): ["FailureMark::new"],
+    ("recorder/src/files.rt", "remove_mark"): ["FailureMark::new"],
+    ("stores/src/named_files.rt", "marks_failures_at"): ["FailureMark::new"],
+    ("trace_places/src/lookup.rt", "header_in"): ["FolderStore::over"],
+}
+
+# who only looks
+LOOKS = {
+    ("recorder/src/state.rt", "first_bytes"): ["File::open"],
+    ("stores/src/failure_mark.rt", "is_there"): ["fs::read", "fs::symlink_metadata"],
+    ("stores/src/folder.rt", "sync_folder"): ["File::open"],
+    ("stores/src/folder.rt", "target_of"): ["fs::canonicalize", "fs::symlink_metadata"],
+    ("stores/src/named_file.rt", "is_named"): ["fs::metadata"],
+    ("stores/src/named_file.rt", "open"): ["fs::metadata"],
+    ("stores/src/named_file.rt", "plain_file"): ["fs::symlink_metadata"],
+    ("trace_places/src/lookup.rt", "has_bytes"): ["fs::metadata"],
+    ("trace_places/src/room.rt", "is_crowded"): ["File::open"],
+    ("trace_places/src/spot.rt", "is_gone"): ["fs::metadata"],
+    ("trace_places/src/spot.rt", "target_of"): ["fs::read_link"],
+}
+
+
+def reached():
+    """What each function of the crates of the program reaches."""
+    found = {}
+    for path in sorted(CRATES.glob("*/src/**/*.rt")):
+        name = str(path.relative_to(CRATES))
+        if name.startswith("acceptance"):
+            continue
+        function = ""
+        for line in path.read_text(encoding="utf-8").splitlines():
+            if begins := FUNCTION.match(line):
+                function = begins[1]
+            if not line.lstrip().startswith("//"):
+                for what in REACH.findall(line):
+                    found.setdefault((name, function), set()).add(what)
+    return found
+
+
+@case
+def files_are_reached_by_these_functions_alone(_program):
+    listed = {**CHANGES, **STORES, **LOOKS}
+    same({place: sorted(what) for place, what in reached().items()}, {place: sorted(what) for place, what in listed.items()})
