@@ -6,8 +6,7 @@ use Rattle.command_line.specs.declared.request.TraceRequest.TheVariants as reque
 use Rattle.trace_advice.specs.Complaints.{status_told}
 use Rattle.trace_advice.specs.declared.complaint.Complaint.{Complaint}
 use Rattle.recorder.specs.declared.files.Files.{Files}
-use Rattle.trace_places.specs.Finding.{IsFound, IsPlaceFor}
-use Rattle.trace_places.specs.Places.{AreNames}
+use Rattle.trace_places.specs.Finding.{IsFound, IsPlaceFor, AreNames}
 use Rattle.trace_places.specs.declared.lookup.Found.{Found}
 use Rattle.stores.specs.FolderStore.{past_of}
 

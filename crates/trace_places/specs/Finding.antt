@@ -1,5 +1,5 @@
 -- Where a trace is stored, by what is asked and what is found.
-use Rattle.std.specs.Prelude.{◌≡◌, ◌≢◌, ◌+◌, ◌<◌, ℕ, min, Option, Some, None, List, [], unwrap_or}
+use Rattle.std.specs.Prelude.{◌≡◌, ◌≢◌, ◌+◌, ◌<◌, ℕ, min, Option, Some, None, List, [], unwrap_or, slice_get}
 use Rattle.std.specs.Option.{option_or, option_copied}
 use Rattle.command_line.specs.declared.request.Asked.{Asked}
 use Rattle.command_line.specs.declared.request.Shape.{Shape}
@@ -9,7 +9,7 @@ use Rattle.segment.specs.Seen.{spec_seen}
 use Rattle.segment.specs.declared.header.SegHeader.{SegHeader}
 use Rattle.segment.specs.declared.specification.StoreSpec.TheVariants as stored
 use Rattle.recovery.specs.Stores.{file_for}
-use Rattle.trace_places.specs.Places.{name_of}
+use Rattle.trace_places.specs.Places.{file_count, name_of}
 use Rattle.trace_places.specs.declared.lookup.Found.{Found}
 use Rattle.trace_places.specs.declared.lookup.Found.TheVariants as found
 use Rattle.trace_places.specs.declared.place.Kind.{Kind}
@@ -90,3 +90,7 @@ pub record IsFound (shape : Option Shape) (is : Found) : Type 0 where
 -- a name of a file of the wrap that is asked for, as long as one can be
 abbrev pub IsWrapFile : Asked → List ℕ → Type 0
 IsWrapFile asked name = (k : ℕ) × (k < MOST_RUNS + 1) × (name ≡ name_of (kinds.Wrap MOST_RUNS) asked.base.now (suffix_by (kinds.Wrap MOST_RUNS) asked) k)
+
+-- these are the names of all files of a trace, in the order of their numbers
+abbrev pub AreNames : Place → List (List ℕ) → Type 0
+AreNames place names = (k : ℕ) → k < file_count place.kind → slice_get names k ≡ Some (name_of place.kind place.base.now place.suffix.now k)

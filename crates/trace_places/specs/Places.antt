@@ -1,9 +1,8 @@
 -- The files of a trace.
-use Rattle.std.specs.Prelude.{◌≡◌, ℕ, ◌+◌, ◌<◌, Option, Some, None, List, ◌++◌, slice_get}
+use Rattle.std.specs.Prelude.{ℕ, ◌+◌, Option, Some, None, List, ◌++◌}
 use Rattle.std.specs.Fmt.{decimal}
 use Rattle.command_line.specs.declared.request.Wanted.{Wanted}
 use Rattle.trace_places.specs.declared.place.Kind.{Kind}
-use Rattle.trace_places.specs.declared.place.Place.{Place}
 use Rattle.trace_places.specs.declared.place.Kind.TheVariants as kinds
 use Rattle.trace_places.specs.declared.place.Turn.{Turn}
 use Rattle.trace_places.specs.declared.place.Turn.TheVariants as turning
@@ -17,10 +16,6 @@ file_count (kinds.Wrap count) = count + 1
 abbrev pub name_of : Kind → List ℕ → List ℕ → ℕ → List ℕ
 name_of kinds.File base suffix k = base
 name_of (kinds.Wrap count) base suffix k = base ++ decimal k ++ suffix
-
--- these are the names of all files, in the order of their numbers
-abbrev pub AreNames : Place → List (List ℕ) → Type 0
-AreNames place names = (k : ℕ) → k < file_count place.kind → slice_get names k ≡ Some (name_of place.kind place.base.now place.suffix.now k)
 
 -- the bytes of a run of a wrap where the command line doesn't say
 abbrev pub standard_size : ℕ

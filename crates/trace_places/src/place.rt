@@ -113,7 +113,7 @@ fn suffix_of<'a>(asked: &Asked<'a>) -> &'a str
 impl Place<'_> {
     ghost use Rattle.std.specs.Prelude.{◌≡◌, length, IfOk, map};
     ghost use Rattle.std.specs.String.{string_bytes};
-    ghost use Rattle.trace_places.specs.Places.{name_of, AreNames};
+    ghost use Rattle.trace_places.specs.{Places.name_of, Finding.AreNames};
 
     /// How many files there are.
     pub fn files(&self) -> u32
