@@ -3,6 +3,7 @@ pub mod Characters
 pub mod SpelledLemmas
 pub mod Telling
 pub mod WholeDecimal
+pub mod FloatLemmas
 pub mod AnyLemmas
 pub mod LeafLemmas
 pub mod KindFinding

@@ -7,6 +7,7 @@ pub mod AnyTerm
 pub mod SpellsAny
 pub mod AnyReading
 pub mod Controls
+pub mod FloatText
 pub mod Pretty
 pub mod PrettyWords
 pub mod Sights

@@ -22,8 +22,8 @@ mod term_text;
 mod told;
 
 pub use any_laws::{
-    one_any_reading, one_pretty_kind, one_pretty_text, read_any_is_spelled, spelled_any_is_read,
-    subset_is_spelled,
+    integers_have_no_point, one_any_reading, one_pretty_kind, one_pretty_text, read_any_is_spelled,
+    spelled_any_is_read, subset_is_spelled,
 };
 pub use atom_text::is_plain;
 pub use line::{Apart, put_before, put_end, put_line, put_missing, put_opaque_line, whole_term};
