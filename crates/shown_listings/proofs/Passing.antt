@@ -1,5 +1,5 @@
 -- What a listing into a writer of lines leaves written.
-use Rattle.std.proofs.Common.{◌≡◌, ℕ, ◌<◌, Bool, true, false, Option, List, [], ◌∷◌, ◌++◌, length, take, subst}
+use Rattle.std.proofs.Common.{◌≡◌, ℕ, ◌<◌, true, false, Option, List, [], ◌∷◌, ◌++◌, length, take, subst}
 use Rattle.std.specs.Io.KnownBytes.{Appends, Keeps}
 use Rattle.chosen_lines.specs.declared.given.Given.{Given}
 use Rattle.chosen_lines.specs.Lines.{rest_after, handed_on, entries_shown, has_ended, Rule, Left}
