@@ -35,16 +35,16 @@ fn serve<R: Wait, I: Read + Drop, W: Output>(
             asked,
             is_pretty,
             shown,
-        } => follow_files(rt, waiter, asked, is_pretty, shown, input, output),
+        } => follow_files(rt, waiter, asked, is_pretty, shown, input, output).0,
         Request::Sim => serve_sim(rt.alloc(), input, output),
         Request::Stream { is_pretty, shown } => {
             let alloc = rt.alloc();
             let listing = StreamListing { alloc, is_pretty };
-            show(rt, waiter, listing, shown, input, output)
+            show(rt, waiter, listing, shown, input, output).0
         }
-        Request::OfTrace { request, shown } => serve_files(
-            rt, waiter, request, shown, input, output,
-        ),
+        Request::OfTrace { request, shown } => {
+            serve_files(rt, waiter, request, shown, input, output).0
+        }
     }
 }
 

@@ -5,3 +5,4 @@ pub mod Followed
 pub mod Keeping
 pub mod Salvaged
 pub mod Informed
+pub mod Made

@@ -1,5 +1,5 @@
 -- What is done with a trace or a stream for the words of a command line, and how it is shown.
-use Rattle.std.specs.Prelude.{◌≡◌, ℕ, Bool, true, false, Option, None, List, [], Result, Ok, Err, IsSome, IfSome}
+use Rattle.std.specs.Prelude.{◌≡◌, ℕ, Bool, true, false, Option, Some, None, List, [], Result, Ok, Err, IfSome}
 use Rattle.std.specs.Io.KnownBytes.{Appends, Keeps}
 use Rattle.stores.specs.Events.{World}
 use Rattle.command_line.specs.declared.request.Asked.{Asked}
@@ -19,18 +19,18 @@ use Rattle.trace_client.specs.Streams.{IsListed}
 use Rattle.recorder.specs.declared.serving.Task.{Task}
 use Rattle.recorder.specs.declared.serving.Task.TheVariants as tasks
 
--- what is asked is done with the files of a trace, by what is seen of the stream that comes in, as a listing
-abbrev pub ServesTrace : TraceRequest → Files → Outside → Listing
-ServesTrace request old saw result was now = (observed : Observations) × (new : Files) × Serves request old new saw observed was now result
+-- what is asked is done with the files of a trace, by what is seen of the stream that comes in, as a listing that leaves them so
+abbrev pub ServesTrace : TraceRequest → Files → Outside → Files → Listing
+ServesTrace request old saw new result was now = (observed : Observations) × Serves request old new saw observed was now result
 
 -- how a trace is followed, as a listing
-abbrev pub KeepsOn : Bool → Files → Listing
-KeepsOn is_pretty old result was now = (new : Files) × Follows is_pretty old new was now result
+abbrev pub KeepsOn : Bool → Files → Files → Listing
+KeepsOn is_pretty old new result was now = Follows is_pretty old new was now result
 
 -- what is done with the files of a trace, as a listing
-abbrev pub Does : Task → Files → Outside → Listing
-Does (tasks.Asked request) files saw = ServesTrace request files saw
-Does (tasks.Followed is_pretty) files saw = KeepsOn is_pretty files
+abbrev pub Does : Task → Files → Outside → Files → Listing
+Does (tasks.Asked request) files saw left = ServesTrace request files saw left
+Does (tasks.Followed is_pretty) files saw left = KeepsOn is_pretty files left
 
 -- the files that are made for what is asked, of which nothing was read yet; they are locked exactly where they are to be changed
 pub record AreMade (world : World) (request : TraceRequest) (files : Files) : Type 0 where
@@ -39,15 +39,18 @@ pub record AreMade (world : World) (request : TraceRequest) (files : Files) : Ty
   pub free : (Changes request → ⊥) → files.store.is_locked ≡ false
   pub place : IsAtPlace (asked_in request) files
 
--- files were made for what is asked, it was done with them and shown so; or none could be had, and nothing is written
-pub data ServesFiles (world : World) (request : TraceRequest) (shown : Shown) (had was now : Option (List ℕ)) : Result Unit Complaint → Type 0 where
-  served : {result : Result Unit Complaint} (files : Files) → AreMade world request files → Shows shown.is_json shown.choice (ServesTrace request files (outside had 0 [])) result was now → ServesFiles world request shown had was now result
-  no_files : (complaint : Complaint) → status_told complaint ≡ 1 → Keeps was now → ServesFiles world request shown had was now (Err complaint)
+-- files were made for what is asked, it was done with them and shown so, and they are left; or none could be had, and nothing is
+-- written
+pub data ServesFiles (world : World) (request : TraceRequest) (shown : Shown) (had was now : Option (List ℕ)) : Result Unit Complaint → Option Files → Type 0 where
+  served : {result : Result Unit Complaint} (files left : Files) → AreMade world request files → Shows shown.is_json shown.choice (ServesTrace request files (outside had 0 []) left) result was now
+      → ServesFiles world request shown had was now result (Some left)
+  no_files : (complaint : Complaint) → status_told complaint ≡ 1 → Keeps was now → ServesFiles world request shown had was now (Err complaint) None
 
--- files were made for what is asked, and they were followed and shown so; or none could be had, and nothing is written
-pub data FollowsFiles (world : World) (asked : Asked) (is_pretty : Bool) (shown : Shown) (was now : Option (List ℕ)) : Result Unit Complaint → Type 0 where
-  followed : {result : Result Unit Complaint} (files : Files) → AreMade world (asks.List asked is_pretty) files → Shows shown.is_json shown.choice (KeepsOn is_pretty files) result was now → FollowsFiles world asked is_pretty shown was now result
-  not_followed : (complaint : Complaint) → status_told complaint ≡ 1 → Keeps was now → FollowsFiles world asked is_pretty shown was now (Err complaint)
+-- files were made for what is asked, and they were followed and shown so, and are left; or none could be had, and nothing is written
+pub data FollowsFiles (world : World) (asked : Asked) (is_pretty : Bool) (shown : Shown) (was now : Option (List ℕ)) : Result Unit Complaint → Option Files → Type 0 where
+  followed : {result : Result Unit Complaint} (files left : Files) → AreMade world (asks.List asked is_pretty) files → Shows shown.is_json shown.choice (KeepsOn is_pretty files left) result was now
+      → FollowsFiles world asked is_pretty shown was now result (Some left)
+  not_followed : (complaint : Complaint) → status_told complaint ≡ 1 → Keeps was now → FollowsFiles world asked is_pretty shown was now (Err complaint) None
 
 -- a stream that had these bytes is listed in a style, to its end or until a fault
 abbrev pub ListsStream : Bool → Option (List ℕ) → Listing

@@ -17,14 +17,19 @@ pub struct StreamListing {
 }
 
 impl Listable for StreamListing {
-    ghost lists = { λ stream had. ListsStream stream.is_pretty had };
+    type Left = ();
+
+    ghost lists = { λ stream had left. ListsStream stream.is_pretty had };
 
     fn list<R: Wait, I: Read + Drop, W: Output>(
         self,
         _waiter: &R,
         input: I,
         output: &mut W,
-    ) -> Result<(), Complaint> {
-        serve_stream(self.alloc, self.is_pretty, input, output)
+    ) -> (Result<(), Complaint>, ()) {
+        (
+            serve_stream(self.alloc, self.is_pretty, input, output),
+            (),
+        )
     }
 }

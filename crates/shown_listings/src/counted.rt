@@ -217,14 +217,16 @@ impl<S: Listable> Counted<S> {
 }
 
 impl<S: Listable> Listable for Counted<S> {
-    ghost lists = { λ listed had. S.lists listed.listing had };
+    type Left = S::Left;
+
+    ghost lists = { λ listed had left. S.lists listed.listing had left };
 
     fn list<R: Wait, I: Read + Drop, W: Output>(
         self,
         waiter: &R,
         input: I,
         output: &mut W,
-    ) -> Result<(), Complaint> {
+    ) -> (Result<(), Complaint>, S::Left) {
         let Counted {
             rt,
             listing,
@@ -235,13 +237,13 @@ impl<S: Listable> Listable for Counted<S> {
             out: taken(rt.alloc(), output),
             tally: Tally::new(is_on, range),
         };
-        let done = listing.list(waiter, input, &mut counting);
+        let (done, left) = listing.list(waiter, input, &mut counting);
         let (out, tally) = ended(counting);
         *output = out;
         let sight = tally.sight;
         if (done.is_ok() || tally.is_over) && sight.opaque > 0 {
             let _ = eprintln!(rt; "dbgrec: {sight}");
         }
-        done
+        (done, left)
     }
 }

@@ -18,8 +18,11 @@ use trace_advice::Complaint;
 
 /// What can be listed.
 pub trait Listable {
-    /// What comes of it, by the bytes that the input has.
-    ghost lists: { Self → Option (List ℕ) → Listing };
+    /// What is left of it in the end, as the files of a trace.
+    type Left;
+
+    /// What comes of it, by the bytes that the input has and by what is left.
+    ghost lists: { Self → Option (List ℕ) → Self.Left → Listing };
 
     /// Lists it. It may read the input, and wait for what is to be listed.
     fn list<R: Wait, I: Read + Drop, W: Output>(
@@ -27,8 +30,8 @@ pub trait Listable {
         waiter: &R,
         input: I,
         output: &mut W,
-    ) -> Result<(), Complaint>
-        ensures { lists self (I.remaining input) result (W.contents output.old) (W.contents output.new) };
+    ) -> (Result<(), Complaint>, Self::Left)
+        ensures { lists self (I.remaining input) result.1 result.0 (W.contents output.old) (W.contents output.new) };
 }
 
 /// A listing of which what a rule gives for each line is shown.
@@ -87,26 +90,29 @@ fn told_of<W: Write>(
 }
 
 impl<S: Listable, L: LineRule + Default> Listable for ByLine<S, L> {
-    ghost lists = { λ by had. LineByLine (record { hand = L.handed by.rule; ends = L.ends by.rule }) (S.lists by.listing had) };
+    type Left = S::Left;
+
+    ghost lists = { λ by had left. LineByLine (record { hand = L.handed by.rule; ends = L.ends by.rule }) (S.lists by.listing had left) };
 
     fn list<R: Wait, I: Read + Drop, W: Output>(
         self,
         waiter: &R,
         input: I,
         output: &mut W,
-    ) -> Result<(), Complaint> {
+    ) -> (Result<(), Complaint>, S::Left) {
         let ByLine {
             alloc,
             listing,
             rule,
         } = self;
         let mut lines = LineWriter::new(alloc, rule, taken(alloc, output));
-        let done = listing.list(waiter, input, &mut lines);
+        let (done, left) = listing.list(waiter, input, &mut lines);
         let is_refused = lines.is_refused;
         let is_ended = lines.is_ended;
         let entries = lines.entries;
         *output = out_of(lines);
-        told_of(done, is_refused, is_ended, entries, output)
+        let told = told_of(done, is_refused, is_ended, entries, output);
+        (told, left)
     }
 }
 
@@ -119,8 +125,8 @@ pub fn show<S: Listable, R: Wait, I: Read + Drop, W: Output>(
     shown: Shown,
     input: I,
     output: &mut W,
-) -> Result<(), Complaint>
-    ensures { Shows shown.is_json shown.choice (S.lists listing (I.remaining input)) result (W.contents output.old) (W.contents output.new) }
+) -> (Result<(), Complaint>, S::Left)
+    ensures { Shows shown.is_json shown.choice (S.lists listing (I.remaining input) result.1) result.0 (W.contents output.old) (W.contents output.new) }
 {
     let is_on = shown.is_plain && rt.stderr().is_terminal();
     let counted = Counted::new(rt, listing, is_on, &shown.choice);
@@ -135,8 +141,8 @@ fn show_lines<S: Listable, R: Wait, I: Read + Drop, W: Output>(
     shown: Shown,
     input: I,
     output: &mut W,
-) -> Result<(), Complaint>
-    ensures { Shows shown.is_json shown.choice (S.lists listing (I.remaining input)) result (W.contents output.old) (W.contents output.new) }
+) -> (Result<(), Complaint>, S::Left)
+    ensures { Shows shown.is_json shown.choice (S.lists listing (I.remaining input) result.1) result.0 (W.contents output.old) (W.contents output.new) }
 {
     let Shown {
         is_json,

@@ -6,7 +6,7 @@ pub returns-in-Follow : goal.returns-in-Follow
 returns-in-Follow g c =
     let contents = g.W.Write.contents in
     let call = c.follow_files in
-    subst (λ request. IsServed g.world' request (g.I.Read.remaining c.args.input) (contents c.args.output.now) (contents call.new.output) call.result) (sym c.in-Follow.is) call.ensures
+    subst (λ request. IsServed g.world' request (g.I.Read.remaining c.args.input) (contents c.args.output.now) (contents call.new.output) call.result.0) (sym c.in-Follow.is) (call.result.1, call.ensures)
 
 pub returns-in-Sim : goal.returns-in-Sim
 returns-in-Sim g c =
@@ -18,10 +18,10 @@ pub returns-in-Stream : goal.returns-in-Stream
 returns-in-Stream g c =
     let contents = g.W.Write.contents in
     let call = c.show in
-    subst (λ request. IsServed g.world' request (g.I.Read.remaining c.args.input) (contents c.args.output.now) (contents call.new.output) call.result) (sym c.in-Stream.is) call.ensures
+    subst (λ request. IsServed g.world' request (g.I.Read.remaining c.args.input) (contents c.args.output.now) (contents call.new.output) call.result.0) (sym c.in-Stream.is) call.ensures
 
 pub returns-in-OfTrace : goal.returns-in-OfTrace
 returns-in-OfTrace g c =
     let contents = g.W.Write.contents in
     let call = c.serve_files in
-    subst (λ request. IsServed g.world' request (g.I.Read.remaining c.args.input) (contents c.args.output.now) (contents call.new.output) call.result) (sym c.in-OfTrace.is) call.ensures
+    subst (λ request. IsServed g.world' request (g.I.Read.remaining c.args.input) (contents c.args.output.now) (contents call.new.output) call.result.0) (sym c.in-OfTrace.is) (call.result.1, call.ensures)

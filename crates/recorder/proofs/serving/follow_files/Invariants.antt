@@ -1,4 +1,4 @@
 use Rattle.recorder.proofs.serving.follow_files.Given as goal
 
-abbrev pub ghost-files_for : goal.ghost-files_for
-ghost-files_for g a = g.world'
+abbrev pub ghost-files_to_follow : goal.ghost-files_to_follow
+ghost-files_to_follow g a = g.world'
