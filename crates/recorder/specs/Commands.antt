@@ -40,7 +40,7 @@ use Rattle.trace_advice.specs.Faults.{read_fault, wipe_fault}
 use Rattle.recorder.specs.Telling.{IsToldOf, IsOfMemory, IsOfWriter}
 use Rattle.recorder.specs.Informing.{IsInfo}
 use Rattle.recorder.specs.Salvaging.{IsSalvage}
-use Rattle.recorder.specs.Files.{OnlyLooks, LooksOver, WasRecorded, WasFed, IsKeptOf}
+use Rattle.recorder.specs.Files.{OnlyLooks, LooksWell, LooksBehind, LooksOver, MayFail, WasRecorded, WasFed, IsKeptOf}
 use Rattle.trace_recording.specs.Incoming.{Outside, outside}
 use Rattle.trace_recording.specs.Beginning.{Begins, EndsWithin, IsUnread}
 use Rattle.trace_recording.specs.declared.incoming.Incoming.{Incoming}
@@ -87,12 +87,14 @@ pub data Clears (clearing : Clearing) (old new : FolderStore) (was now : Option 
   not_told : (complaint : Complaint) → IsCleared clearing old new → AppendsPrefix was now (line_of Done) → status_told complaint ≡ 1 → Clears clearing old new was now (Err complaint)
   refused : (fault : WipeFault) (complaint : Complaint) → IsWhyNotWiped clearing fault (reads_of old) → Appends was now [] → IsToldOf (wipe_fault fault) complaint → Clears clearing old new was now (Err complaint)
 
--- a port was opened for a trace of this kind
+-- a port was opened for a trace of this kind, of a store that was honest where it is, and no device call failed
 pub record IsOpened (spec : Spec) (old new : FolderStore) (opened : AnyOpening) (origin : Origin) : Type 0 where
   pub suits : FitsStore folder.ghosts opened new
   pub opens : honest_of new → GoesOnOrBegins (reads_of old) (first_told opened (device new)) spec greatest_limit origin
   pub ours : honest_of new → HasNoForeign (reads_of old)
   pub moments : honest_of new → KeepsTrace (device old) (device new) spec
+  pub was_honest : honest_of new → honest_of old
+  pub no_failure : failures_of new ≡ failures_of old
 
 -- none was
 pub record IsNotOpened (spec : Spec) (old new : FolderStore) (fault : SimFault) : Type 0 where
@@ -100,32 +102,33 @@ pub record IsNotOpened (spec : Spec) (old new : FolderStore) (fault : SimFault) 
   pub failed : IsFaultOfDevice fault → Rose (failures_of old) (failures_of new)
   pub untouched : honest_of new → HasForeign (reads_of old) → OnlyLooks old new
   pub moments : honest_of new → KeepsTrace (device old) (device new) spec
+  pub was_honest : honest_of new → honest_of old
 
 -- a trace was opened and the lines of a script, which had these bytes, were run at its port; or nothing was done but the opening, or not even that
 pub data Records (spec : Spec) (old new : FolderStore) (had was now : Option (List ℕ)) : Result Unit Complaint → Type 0 where
   runs : {mid : FolderStore} {opened : AnyOpening} {origin : Origin} {result : Result Unit Complaint} {has : Option (List ℕ)} (done : Result Unit SimFault) → IsOpened spec old mid opened origin → WasRecorded opened origin mid new had has done was now → IsToldAs done result
       → Records spec old new had was now result
-  not_opened : {mid : FolderStore} (fault : SimFault) (complaint : Complaint) → IsNotOpened spec old mid fault → OnlyLooks mid new → Keeps was now → IsToldOf fault complaint → Records spec old new had was now (Err complaint)
+  not_opened : {mid : FolderStore} (fault : SimFault) (complaint : Complaint) → IsNotOpened spec old mid fault → LooksBehind fault mid new → Keeps was now → IsToldOf fault complaint → Records spec old new had was now (Err complaint)
   no_memory : (complaint : Complaint) → new ≡ old → Keeps was now → IsOfMemory complaint → Records spec old new had was now (Err complaint)
 
 -- what an import did, by what was seen before it and what was observed until its end
 pub data Feeds (spec : Spec) (rules : Rules) (old new : FolderStore) (saw : Outside) (observed : Observations) (was now : Option (List ℕ)) : Result Unit Complaint → Type 0 where
   -- a byte came; then a trace was opened, and the stream put into its port
   feeds : {first mid last : FolderStore} {opened : AnyOpening} {origin : Origin} {result : Result Unit Complaint} {then : Outside} {incoming : Incoming} (begins : Begins rules.skip saw then incoming)
-      (remaining : Option (List ℕ)) (reads : ℕ) (come : List ℕ) (left : Incoming) (done : Result Unit SimFault) → OnlyLooks old first → IsOpened spec first mid opened origin
-      → WasFed opened origin rules mid last begins.mid (outside remaining reads observed) come left done (λ text. Appends was now text) → OnlyLooks last new → IsExplained rules.skip done result
+      (remaining : Option (List ℕ)) (reads : ℕ) (come : List ℕ) (left : Incoming) (done : Result Unit SimFault) → LooksWell old first → IsOpened spec first mid opened origin
+      → WasFed opened origin rules mid last begins.mid (outside remaining reads observed) come left done (λ text. Appends was now text) → OnlyLooks last new → MayFail (failures_of last) (failures_of new) → IsExplained rules.skip done result
       -- where it is told how much of the stream is kept, so much is
       → (honest_of new → IfErr result (λ complaint. IfSome (kept_told complaint) (IsKeptOf (first_told opened (device mid)) rules.skip come (reads_of new)))) → Feeds spec rules old new saw observed was now result
   -- a byte came; then the trace wasn't opened
-  not_opened : {first mid : FolderStore} {then : Outside} {incoming : Incoming} (fault : SimFault) (complaint : Complaint) → Begins rules.skip saw then incoming → OnlyLooks old first → (honest_of first → HasNoForeign (reads_of old)) → IsNotOpened spec first mid fault
-      → OnlyLooks mid new → observed ≡ then.observed → Keeps was now → IsToldOf fault complaint → Feeds spec rules old new saw observed was now (Err complaint)
+  not_opened : {first mid : FolderStore} {then : Outside} {incoming : Incoming} (fault : SimFault) (complaint : Complaint) → Begins rules.skip saw then incoming → LooksWell old first → (honest_of first → HasNoForeign (reads_of old)) → IsNotOpened spec first mid fault
+      → LooksBehind fault mid new → observed ≡ then.observed → Keeps was now → IsToldOf fault complaint → Feeds spec rules old new saw observed was now (Err complaint)
   -- no byte came
   nothing_came : {then : Outside} → EndsWithin rules.skip saw then → OnlyLooks old new → (honest_of new → HasNoForeign (reads_of old)) → observed ≡ then.observed → Keeps was now → Feeds spec rules old new saw observed was now (Ok tt)
   -- the first byte couldn't be had
   unread : {then : Outside} (fault : SimFault) (complaint : Complaint) → IsUnread rules.skip saw then fault → OnlyLooks old new → (honest_of new → HasNoForeign (reads_of old)) → observed ≡ then.observed → Keeps was now → IsToldOf fault complaint
       → Feeds spec rules old new saw observed was now (Err complaint)
   -- its files aren't a trace's, or that can't be known, and nothing was read
-  refused : {first : FolderStore} (fault : SimFault) (complaint : Complaint) → (honest_of new → IsWhyNotOpened spec fault (reads_of old)) → OnlyLooks old first → TellsFault (failures_of old) (failures_of first) fault → OnlyLooks first new → observed ≡ saw.observed → Keeps was now → IsToldOf fault complaint
+  refused : {first : FolderStore} (fault : SimFault) (complaint : Complaint) → (honest_of new → IsWhyNotOpened spec fault (reads_of old)) → OnlyLooks old first → TellsFault (failures_of old) (failures_of first) fault → LooksBehind fault first new → observed ≡ saw.observed → Keeps was now → IsToldOf fault complaint
       → Feeds spec rules old new saw observed was now (Err complaint)
 
 -- whether files that aren't of a trace are cleared, too

@@ -3,7 +3,8 @@ use Rattle.std.specs.Prelude.{◌≡◌, ℕ, ◌+◌, true, Option, Some, None,
 use Rattle.std.specs.Io.KnownBytes.{Appends}
 use Rattle.segment.specs.DeviceCalls.{DeviceReads}
 use Rattle.trace_store.specs.Device.{OnlyReads, device_of}
-use Rattle.stores.specs.FolderStore.{honest_of, reads_of, images_of, moments_of, clock_of}
+use Rattle.trace_store.specs.Moments.{Rose}
+use Rattle.stores.specs.FolderStore.{honest_of, reads_of, images_of, moments_of, clock_of, failures_of}
 use Rattle.stores.specs.declared.folder_store.FolderStore.{FolderStore}
 use Rattle.stores.specs.contracts.folder_store.FolderStoreStore.TheImpl as folder
 use Rattle.trace_port.specs.Opened.{opened_told}
@@ -13,6 +14,7 @@ use Rattle.wrap_port.specs.WrapOpened.{wrap_opened_told}
 use Rattle.wrap_port.specs.WrapPort.{wrap_told}
 use Rattle.command_line.specs.declared.request.Rules.{Rules}
 use Rattle.script_port.specs.Answers.{opened_answer}
+use Rattle.script_port.specs.Faults.{IsFaultOfDevice}
 use Rattle.script_port.specs.Sides.{in_desk}
 use Rattle.script_port.specs.Texts.{line_of}
 use Rattle.script_port.specs.Read.{Stretch, first_lines}
@@ -38,7 +40,23 @@ use Rattle.script_port.specs.declared.reply.Origin.{Origin}
 abbrev pub OnlyLooks : FolderStore → FolderStore → Type 0
 OnlyLooks old new = OnlyReads honest_of clock_of reads_of images_of moments_of old new
 
--- and this was told of them, where they are honest
+-- and no device call failed
+pub record LooksWell (old new : FolderStore) : Type 0 where
+  pub only_reads : OnlyLooks old new
+  pub no_failure : failures_of new ≡ failures_of old
+
+-- the failure count after some device calls, of which any may have failed
+pub data MayFail (before : ℕ) : ℕ → Type 0 where
+  none : MayFail before before
+  more : {mid now : ℕ} → MayFail before mid → Rose mid now → MayFail before now
+
+-- the files were read at most, to tell of a fault; where that is of the device, no call failed behind the one that it tells of
+pub record LooksBehind (fault : SimFault) (old new : FolderStore) : Type 0 where
+  pub only_reads : OnlyLooks old new
+  pub failures : MayFail (failures_of old) (failures_of new)
+  pub of_device : IsFaultOfDevice fault → failures_of new ≡ failures_of old
+
+-- the files were read at most, and this was told of them, where they are honest
 pub record LooksOver (old new : FolderStore) (Told : Type 0) : Type 0 where
   pub only_reads : OnlyLooks old new
   pub told : honest_of new → Told
