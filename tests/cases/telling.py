@@ -223,6 +223,19 @@ def at_a_terminal(program, *words, stdin=b""):
 
 
 @case
+def a_terminal_gets_a_chosen_line_before_the_listing_ends(program):
+    program.good("import", "t", stdin=drop(7) + message(EXAMPLE) * 400_000)
+    screen, terminal = pty.openpty()
+    quiet = subprocess.DEVNULL
+    with subprocess.Popen([program.path, "list", "t", "--only", "drop"], cwd=program.folder, stdin=quiet, stdout=terminal, stderr=quiet) as listing:
+        os.close(terminal)
+        first, is_listing = os.read(screen, 100), listing.poll() is None
+        listing.kill()
+    os.close(screen)
+    same((first, is_listing), (b"0 drop 7\r\n", True))
+
+
+@case
 def opaque_entries_are_counted_at_a_terminal(program):
     stream = (message(EXAMPLE) + message(b"x")) * 1_200 + drop(1)
     program.good("import", "t", stdin=stream)

@@ -2,7 +2,7 @@
 ghost use Rattle.std.specs.Prelude.{◌≡◌};
 
 use std::alloc::Global;
-use std::io::{self, BufWriter, ErrorKind, Write};
+use std::io::{self, BufWriter, ErrorKind, IsTerminal, Write};
 use std::mem;
 use std::rt::Stdout;
 
@@ -23,10 +23,12 @@ pub fn taken<W: Output>(alloc: Global, output: &mut W) -> W
     mem::replace(output, W::none(alloc))
 }
 
-/// Standard output, by a buffer, or nothing where it was taken. It knows why a write failed.
+/// Standard output, by a buffer, or nothing where it was taken. A terminal gets each line when it is whole. It knows why a write
+/// failed.
 #[derive(Drop)]
 pub struct Outlet {
     inner: Option<BufWriter<Stdout>>,
+    is_terminal: bool,
     reason: Option<io::Error>,
 }
 
@@ -35,6 +37,7 @@ impl Outlet {
     pub fn new(rt: &HostRuntime) -> io::Result<Outlet> {
         Ok(Outlet {
             inner: Some(BufWriter::with_capacity(rt.alloc(), BUFFER, rt.stdout())?),
+            is_terminal: rt.stdout().is_terminal(),
             reason: None,
         })
     }
@@ -59,7 +62,14 @@ impl Write for Outlet {
         let Some(inner) = &mut self.inner else {
             return Err(io::Error::from(ErrorKind::InvalidInput));
         };
-        let answer = inner.write(bytes);
+        let mut answer = inner.write(bytes);
+        if self.is_terminal
+            && answer.is_ok()
+            && bytes.ends_with(b"\n")
+            && let Err(reason) = inner.flush()
+        {
+            answer = Err(reason);
+        }
         self.noted(answer)
     }
 
@@ -76,6 +86,7 @@ impl Output for Outlet {
     fn none(_alloc: Global) -> Outlet {
         Outlet {
             inner: None,
+            is_terminal: false,
             reason: None,
         }
     }
