@@ -7,8 +7,7 @@ use Rattle.stores.specs.declared.mem_store.MemStore.{MemStore}
 use Rattle.segment.specs.Specification.{Spec}
 use Rattle.trace_port.specs.Openings.{IsKept}
 use Rattle.trace_port.proofs.Leaving.{weaker}
-use Rattle.stores.specs.MemStore.{reads_of, failures_of, fuse_of, IsSettled}
-use Rattle.stores.specs.declared.fuse.Fuse.TheVariants.{Whole}
+use Rattle.stores.specs.MemStore.{reads_of, failures_of}
 use Rattle.trace_script.specs.Reading.{Progress}
 use Rattle.std.specs.declared.vec.Vec.{Vec}
 use Rattle.std.specs.declared.alloc.Global.{Global}
@@ -16,7 +15,7 @@ use Rattle.trace_script.specs.declared.line.Unsynced.{Unsynced}
 use Rattle.trace_script.specs.declared.line.Line.{Line}
 use Rattle.trace_script.specs.declared.line.Line.TheVariants as lines
 use Rattle.script_port.specs.Read.{Stretch, stretch, first_lines}
-use Rattle.simulator.specs.Simulated.{device, IsOfStore, Does, lists, Fails, answers_in_part, lists_in_part, DoesOrFails, IsOver, IsFinished, told, not_told, failed, OnlyLooked, IsRunWhole, LeavesSo, WasRun, ComesOf, SaysWhyNot, ended_so, Simulates, IsRun, runs, not_written_out, first_of}
+use Rattle.simulator.specs.Simulated.{device, IsNew, IsOfStore, Does, lists, Fails, answers_in_part, lists_in_part, DoesOrFails, IsOver, IsFinished, told, not_told, failed, OnlyLooked, IsRunWhole, LeavesSo, WasRun, ComesOf, SaysWhyNot, ended_so, Simulates, IsRun, runs, not_written_out, first_of}
 use Rattle.simulator.specs.Stored.{IsListed}
 use Rattle.script_port.specs.declared.fault.SimFault.TheVariants as faults
 use Rattle.script_port.specs.declared.fault.SimFault.{SimFault}
@@ -33,9 +32,9 @@ was_run origin spec limit old new over (Ok left) Writes run = run
 was_run origin spec limit old new over (Err fault) Writes run = run
 
 -- and it wasn't refused
-pub not_refused : {Fault : Type 0} (name : Fault → Refusal) (Why : MemStore → MemStore → Fault → Type 0) (old new : MemStore) (left : Result (Option Leave) SimFault) → SaysWhyNot name Why old new (ended_so left)
-not_refused name Why old new (Ok leave) = tt
-not_refused name Why old new (Err fault) = tt
+pub not_refused : {Fault : Type 0} (name : Fault → Refusal) (Tells : ℕ → ℕ → Fault → Type 0) (Why : MemStore → MemStore → Fault → Type 0) (old new : MemStore) (left : Result (Option Leave) SimFault) → SaysWhyNot name Tells Why old new (ended_so left)
+not_refused name Tells Why old new (Ok leave) = tt
+not_refused name Tells Why old new (Err fault) = tt
 
 -- a line was run whole, in a script of the same kind
 pub whole_so : (of_desk here : Bool) (line : Line) (old new : MemStore) (behind to : Progress) (result : Result Unit SimFault) (was now : Option (List ℕ)) → here ≡ of_desk → IsRunWhole line old new (stretch here behind to) result was now
@@ -84,8 +83,8 @@ lists_so (Ok done) old new Writes listed looked = (listed.0, lists listed.1 look
 lists_so (Err fault) old new Writes listed looked = lists_in_part listed looked
 
 -- a script was run, and what it wrote was written out or not
-pub is_run : (old new : MemStore) (count : ℕ) (had has was mid now : Option (List ℕ)) (done flushed : Result Unit SimFault) → IsSettled old (replicate 1 []) → fuse_of old ≡ Whole → Simulates old new (first_lines false count had has) was mid done → Keeps mid now → IfErr flushed (λ fault. fault ≡ faults.Write)
+pub is_run : (old new : MemStore) (count : ℕ) (had has was mid now : Option (List ℕ)) (done flushed : Result Unit SimFault) → IsNew old (replicate 1 []) → Simulates old new (first_lines false count had has) was mid done → Keeps mid now → IfErr flushed (λ fault. fault ≡ faults.Write)
     → IsRun had has was now (first_of done flushed)
-is_run old new count had has was mid now (Ok done) (Ok out) blank whole run keeps written = runs count blank whole run keeps
-is_run old new count had has was mid now (Ok done) (Err fault) blank whole run keeps written = subst (λ (f : SimFault). IsRun had has was now (Err f)) (sym written) (not_written_out count blank whole run keeps)
-is_run old new count had has was mid now (Err fault) flushed blank whole run keeps written = runs count blank whole run keeps
+is_run old new count had has was mid now (Ok done) (Ok out) blank run keeps written = runs count blank run keeps
+is_run old new count had has was mid now (Ok done) (Err fault) blank run keeps written = subst (λ (f : SimFault). IsRun had has was now (Err f)) (sym written) (not_written_out count blank run keeps)
+is_run old new count had has was mid now (Err fault) flushed blank run keeps written = runs count blank run keeps

@@ -18,7 +18,7 @@ use Rattle.recovery.specs.Views.{empty}
 use Rattle.recovery.specs.Stores.{readings, IsBlank}
 use Rattle.recovery.specs.Wiping.{IsWiped, IsWiping}
 use Rattle.trace_port.specs.declared.create.CreateFault.TheVariants.{BadSpec}
-use Rattle.trace_port.specs.Openings.{ReadsAlike}
+use Rattle.trace_port.specs.Openings.{ReadsAlike, TellsCreate, TellsResume}
 use Rattle.trace_port.specs.Creations.{IsNotCreated}
 use Rattle.trace_port.specs.Resumptions.{IsNotResumed}
 use Rattle.trace_port.specs.Opened.{opened_told}
@@ -58,6 +58,13 @@ use Rattle.script_port.specs.declared.reply.Stop.TheVariants as stops
 abbrev pub device : MemStore → Device
 device m = device_of mem.ghosts m
 
+-- a store that holds these bytes, on which no call was made yet, and which has no fuse
+pub record IsNew (m : MemStore) (image : Image) : Type 0 where
+  pub settled : IsSettled m image
+  pub fuse : fuse_of m ≡ Whole
+  pub clock : clock_of m ≡ 0
+  pub failures : failures_of m ≡ 0
+
 -- each moment of making a port leaves what was there; a creation over a blank store also an empty trace, and a resumption what reads alike
 abbrev pub LeavesSo : Origin → Spec → MemStore → MemStore → Type 0
 LeavesSo Created spec old new =
@@ -71,12 +78,13 @@ RanOn (openings.File opening) origin old new over left Writes =
 RanOn (openings.Wrap opening) origin old new over left Writes =
     WasHeld (wrap_told mem.ghosts pending.ghosts) Alone (wrap_opened_told pending.ghosts opening (device old)) (greeting origin) (length (reads_of old)) over left (device new) Writes
 
--- a port was made over the store, and the lines after this one were run on it until it was given up
+-- a port was made over the store, with no device call that failed, and the lines after this one were run on it until it was given up
 pub record WasRun (origin : Origin) (spec : Spec) (limit : ℕ) (old new : MemStore) (over : Stretch) (left : Result (Option Leave) SimFault) (Writes : List ℕ → Type 0) : Type 0 where
   pub mid : MemStore
   pub opening : AnyOpening
   pub opens : GoesOnOrBegins (reads_of old) (first_told opening (device mid)) spec limit origin
   pub moments : LeavesSo origin spec old mid
+  pub no_failure : failures_of mid ≡ failures_of old
   pub ran : RanOn opening origin mid new over left Writes
 
 -- a run that a fault ended, as what came of its line
@@ -92,7 +100,7 @@ ComesOf origin spec limit old new over (Err (stops.Refused refusal)) Writes = Le
 
 -- a crash left what was picked of the store and is answered of, or it can't leave that and the store stays as it is
 pub data Crashes (unsynced : Unsynced) (old new : MemStore) : List ℕ → Type 0 where
-  leaves : IsPossible (pick_of unsynced) old → IsSettled new (image_of (pick_of unsynced) (disk_of old)) → fuse_of new ≡ Whole → Crashes unsynced old new (line_of answers.Done)
+  leaves : IsPossible (pick_of unsynced) old → IsSettled new (image_of (pick_of unsynced) (disk_of old)) → fuse_of new ≡ Whole → clock_of new ≡ clock_of old → failures_of new ≡ failures_of old → Crashes unsynced old new (line_of answers.Done)
   refuses : (fault : CrashFault) → (fault ≡ NotImage → IsPossible (pick_of unsynced) old → ⊥) → new ≡ old → Crashes unsynced old new (line_of (answers.Refused (refusals.Crash fault)))
 
 -- how it is answered that a port was left, or that there is none: the text, and what is left of the store
@@ -128,9 +136,9 @@ IsOfStore _ = ⊥
 
 -- what a line that makes no port does to the store, and what is written of it
 pub data Does (old new : MemStore) : Line → List ℕ → Type 0 where
-  blanks : {files : ℕ} → IsSettled new (replicate files []) → fuse_of new ≡ Whole → Does old new (lines.Store files) (line_of answers.Done)
+  blanks : {files : ℕ} → IsNew new (replicate files []) → Does old new (lines.Store files) (line_of answers.Done)
   no_memory : {files : ℕ} → new ≡ old → Does old new (lines.Store files) (line_of (answers.Refused refusals.NoMemory))
-  holds : {file : ℕ} {bytes : Vec ℕ Global} → IsSettled new (set (reads_of old) file bytes.items) → fuse_of new ≡ Whole → Does old new (lines.Bytes file bytes) (line_of answers.Done)
+  holds : {file : ℕ} {bytes : Vec ℕ Global} → IsNew new (set (reads_of old) file bytes.items) → Does old new (lines.Bytes file bytes) (line_of answers.Done)
   holds_not : {file : ℕ} {bytes : Vec ℕ Global} (refusal : Refusal) → OnlyLooked old new → TellsRefusal (failures_of old) (failures_of new) refusal → Does old new (lines.Bytes file bytes) (line_of (answers.Refused refusal))
   fuses : {calls : ℕ} → fuse_of new ≡ After (clock_of old) calls → SameButFuse old new → Does old new (lines.Fuse calls) (line_of answers.Done)
   fails_once : {calls : ℕ} → fuse_of new ≡ Once (clock_of old) calls → SameButFuse old new → Does old new (lines.FailOnce calls) (line_of answers.Done)
@@ -161,21 +169,21 @@ DoesAlone line old new (Err (stops.Refused refusal)) Writes = ⊥
 abbrev pub IsNoWrap : MemStore → MemStore → Result (Option Leave) Stop → (List ℕ → Type 0) → Type 0
 IsNoWrap old new result Writes = (new ≡ old) × (result ≡ Err (stops.Refused (refusals.Create BadSpec))) × Writes []
 
--- a line that makes a port, and is refused, is told why: by such a fault, and what that says of the store holds
-abbrev pub SaysWhyNot : {Fault : Type 0} → (Fault → Refusal) → (MemStore → MemStore → Fault → Type 0) → MemStore → MemStore → Result (Option Leave) Stop → Type 0
-SaysWhyNot name Why old new (Ok left) = Unit {0}
-SaysWhyNot name Why old new (Err (stops.Failed fault)) = Unit {0}
-SaysWhyNot {Fault} name Why old new (Err (stops.Refused refusal)) = (fault : Fault) × (refusal ≡ name fault) × Why old new fault
+-- a line that makes a port, and is refused, is told why: by such a fault, and what that says of the store and of the device calls that failed holds
+abbrev pub SaysWhyNot : {Fault : Type 0} → (Fault → Refusal) → (ℕ → ℕ → Fault → Type 0) → (MemStore → MemStore → Fault → Type 0) → MemStore → MemStore → Result (Option Leave) Stop → Type 0
+SaysWhyNot name Tells Why old new (Ok left) = Unit {0}
+SaysWhyNot name Tells Why old new (Err (stops.Failed fault)) = Unit {0}
+SaysWhyNot {Fault} name Tells Why old new (Err (stops.Refused refusal)) = (fault : Fault) × (refusal ≡ name fault) × Why old new fault × Tells (failures_of old) (failures_of new) fault
 
 -- of a creation, and of a resumption of a file or of a wrap
 abbrev pub SaysWhyNotCreated : MemStore → MemStore → Result (Option Leave) Stop → Type 0
-SaysWhyNotCreated = SaysWhyNot refusals.Create (IsNotCreated mem.ghosts)
+SaysWhyNotCreated = SaysWhyNot refusals.Create TellsCreate (IsNotCreated mem.ghosts)
 
 abbrev pub SaysWhyNotResumed : MemStore → MemStore → Result (Option Leave) Stop → Type 0
-SaysWhyNotResumed = SaysWhyNot refusals.Resume (IsNotResumed mem.ghosts)
+SaysWhyNotResumed = SaysWhyNot refusals.Resume TellsResume (IsNotResumed mem.ghosts)
 
 abbrev pub SaysWhyNoWrap : MemStore → MemStore → Result (Option Leave) Stop → Type 0
-SaysWhyNoWrap = SaysWhyNot refusals.Resume (IsNoWrapResumed mem.ghosts)
+SaysWhyNoWrap = SaysWhyNot refusals.Resume TellsResume (IsNoWrapResumed mem.ghosts)
 
 -- what comes of a line, and of the stretch of the script after it that its port takes
 abbrev pub Runs : Line → MemStore → MemStore → Stretch → Result (Option Leave) Stop → (List ℕ → Type 0) → Type 0
@@ -214,7 +222,7 @@ first_of (Err fault) later = Err fault
 
 -- a script was run, whose reader had these bytes and has those left, over a store that was blank at first and had one file, and what was written was written out
 pub data IsRun (had has was now : Option (List ℕ)) : Result Unit SimFault → Type 0 where
-  runs : {old new : MemStore} {mid : Option (List ℕ)} {done : Result Unit SimFault} (count : ℕ) → IsSettled old (replicate 1 []) → fuse_of old ≡ Whole → Simulates old new (first_lines false count had has) was mid done → Keeps mid now → IsRun had has was now done
-  not_written_out : {old new : MemStore} {mid : Option (List ℕ)} (count : ℕ) → IsSettled old (replicate 1 []) → fuse_of old ≡ Whole → Simulates old new (first_lines false count had has) was mid (Ok tt) → Keeps mid now → IsRun had has was now (Err faults.Write)
+  runs : {old new : MemStore} {mid : Option (List ℕ)} {done : Result Unit SimFault} (count : ℕ) → IsNew old (replicate 1 []) → Simulates old new (first_lines false count had has) was mid done → Keeps mid now → IsRun had has was now done
+  not_written_out : {old new : MemStore} {mid : Option (List ℕ)} (count : ℕ) → IsNew old (replicate 1 []) → Simulates old new (first_lines false count had has) was mid (Ok tt) → Keeps mid now → IsRun had has was now (Err faults.Write)
   -- there was no memory for its store
   no_memory : has ≡ had → Keeps was now → IsRun had has was now (Err faults.NoMemory)

@@ -1,9 +1,8 @@
 //! A store with other bytes in one of its files.
 ghost use Rattle.std.specs.Prelude.{◌≡◌, ◌+◌, ◌*◌, ◌<◌, ◌≤◌, IfOk, IfErr, length, set};
 ghost use Rattle.trace_store.specs.Disk.{file_of};
-ghost use Rattle.stores.specs.{CallRecords.contents_of, MemStore.reads_of, MemStore.failures_of, MemStore.fuse_of, MemStore.IsSettled};
-ghost use Rattle.stores.specs.declared.fuse.Fuse.TheVariants.{Whole};
-ghost use Rattle.simulator.specs.{Simulated.OnlyLooked, Stored.TellsRefusal};
+ghost use Rattle.stores.specs.{CallRecords.contents_of, MemStore.reads_of, MemStore.failures_of};
+ghost use Rattle.simulator.specs.{Simulated.IsNew, Simulated.OnlyLooked, Stored.TellsRefusal};
 ghost use Rattle.segment.specs.DeviceCalls.{DeviceReads};
 
 use script_port::Refusal;
@@ -21,8 +20,7 @@ pub fn with_bytes(
     requires { file < length (reads_of store.old) }
     ensures only_reads { OnlyLooked store.old store.new }
     ensures refused { IfErr result (TellsRefusal (failures_of store.old) (failures_of store.new)) }
-    ensures made { IfOk result (λ made. IsSettled made (set (reads_of store.old) file bytes.now)) }
-    ensures fuse { IfOk result (λ made. fuse_of made ≡ Whole) }
+    ensures made { IfOk result (λ made. IsNew made (set (reads_of store.old) file bytes.now)) }
 {
     let mut contents = contents_of(alloc, store)?;
     let mut own = Vec::new(alloc);

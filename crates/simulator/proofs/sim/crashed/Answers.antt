@@ -10,7 +10,7 @@ returns-in-Ok c =
     let same = c.from.ensures in
     let e = c.in-Ok.ensures in
     leaves (subst (λ (pick : Pick). IsPossible pick c.args.store.now) same e.is_image)
-    (subst (λ (pick : Pick). IsSettled c.crash.new.self (image_of pick (disk_of c.args.store.now))) same e.left) e.fuse
+    (subst (λ (pick : Pick). IsSettled c.crash.new.self (image_of pick (disk_of c.args.store.now))) same e.left) e.fuse e.clock e.failures
 
 pub returns-in-Err : goal.returns-in-Err
 returns-in-Err c =

@@ -2,6 +2,7 @@ use Rattle.std.proofs.Common.{refl}
 use Rattle.recovery.specs.Stores.{is_blank}
 use Rattle.stores.specs.contracts.mem_store.MemStoreStore.TheImpl as mem
 use Rattle.trace_port.specs.Creations.{IsNotCreated}
+use Rattle.trace_port.specs.Openings.{TellsCreate}
 use Rattle.script_port.specs.PortOpenings.{begins}
 use Rattle.script_port.specs.declared.opening.AnyOpening.TheVariants as openings
 use Rattle.script_port.specs.declared.refusal.Refusal.TheVariants as refusals
@@ -22,8 +23,9 @@ returns-in-Ok g c =
               opening = openings.File c.in-Ok.opening;
               opens = begins (is_blank (e.created.blank tt)) refl e.limit (e.fits tt);
               moments = (c.begin_create.ensures.creates.any_moment tt, c.begin_create.ensures.creates.not_blank_stays tt);
+              no_failure = e.device.no_failure;
               ran = c.hold.ensures.held.did.2;
             }));
           };
-      why_not = rw c.hold.ensures.held.did.1 (not_refused refusals.Create (IsNotCreated mem.ghosts) c.args.store.now c.hold.new.store c.hold.ensures.held.did.0);
+      why_not = rw c.hold.ensures.held.did.1 (not_refused refusals.Create TellsCreate (IsNotCreated mem.ghosts) c.args.store.now c.hold.new.store c.hold.ensures.held.did.0);
     }

@@ -3,6 +3,7 @@ use Rattle.segment.specs.Specification.{File}
 use Rattle.std.proofs.KnownBytes.{Appends-nil}
 use Rattle.stores.specs.contracts.mem_store.MemStoreStore.TheImpl as mem
 use Rattle.trace_port.specs.Resumptions.{IsNotResumed}
+use Rattle.trace_port.specs.Openings.{TellsResume}
 use Rattle.script_port.specs.PortOpenings.{goes_on}
 use Rattle.script_port.specs.declared.opening.AnyOpening.TheVariants as openings
 use Rattle.script_port.specs.declared.refusal.Refusal.TheVariants as refusals
@@ -24,10 +25,11 @@ returns-in-Ok g c =
               opening = openings.File c.in-Ok.opening;
               opens = goes_on found.0 found.1 e.limit found.2;
               moments = only_kept File c.args.store.now c.begin_resume.new.store c.begin_resume.ensures.device.kept;
+              no_failure = e.device.no_failure;
               ran = c.hold.ensures.held.did.2;
             }));
           };
-      why_not = rw c.hold.ensures.held.did.1 (not_refused refusals.Resume (IsNotResumed mem.ghosts) c.args.store.now c.hold.new.store c.hold.ensures.held.did.0);
+      why_not = rw c.hold.ensures.held.did.1 (not_refused refusals.Resume TellsResume (IsNotResumed mem.ghosts) c.args.store.now c.hold.new.store c.hold.ensures.held.did.0);
     }
 
 pub returns-in-Err : goal.returns-in-Err
@@ -39,5 +41,5 @@ returns-in-Err g c =
         reader = refl;
         did = (only_kept File c.args.store.now c.begin_resume.new.store c.begin_resume.ensures.device.kept, refl, Appends-nil _);
       };
-      why_not = (c.in-Err.fault, refl, c.in-Err.ensures.refused);
+      why_not = (c.in-Err.fault, refl, c.in-Err.ensures.refused, c.in-Err.ensures.device.failures);
     }

@@ -1,5 +1,6 @@
 use Rattle.stores.specs.contracts.mem_store.MemStoreStore.TheImpl as mem
 use Rattle.wrap_port.specs.Resumptions.{IsNotResumed}
+use Rattle.trace_port.specs.Openings.{TellsResume}
 use Rattle.script_port.specs.PortOpenings.{goes_on}
 use Rattle.script_port.specs.declared.opening.AnyOpening.TheVariants as openings
 use Rattle.script_port.specs.declared.refusal.Refusal.TheVariants as refusals
@@ -22,8 +23,9 @@ returns-in-Ok g c =
               opening = openings.Wrap c.in-Ok.opening;
               opens = goes_on found.0 found.1 c.in-Ok.opening.longest found.2;
               moments = c.begin_resume.ensures.any_moment tt;
+              no_failure = e.device.no_failure;
               ran = c.hold.ensures.held.did.2;
             }));
       };
-      why_not = rw c.hold.ensures.held.did.1 (not_refused refusals.Resume (IsNotResumed mem.ghosts) c.args.store.now c.hold.new.store c.hold.ensures.held.did.0);
+      why_not = rw c.hold.ensures.held.did.1 (not_refused refusals.Resume TellsResume (IsNotResumed mem.ghosts) c.args.store.now c.hold.new.store c.hold.ensures.held.did.0);
     }
