@@ -186,13 +186,9 @@ fn from<'a>(alloc: Global) -> Arg<'a> {
 }
 
 fn to<'a>(alloc: Global) -> Arg<'a> {
-    option(
-        alloc,
-        "to",
-        "N",
-        "Ends behind the entry of this number",
-    )
-    .value_parser(value_parser!(u64))
+    option(alloc, "to", "N", "Ends behind the entry of this number").value_parser(value_parser!(
+        u64
+    ))
 }
 
 fn only<'a>(alloc: Global) -> Arg<'a> {

@@ -27,9 +27,6 @@ impl Listable for StreamListing {
         input: I,
         output: &mut W,
     ) -> (Result<(), Complaint>, ()) {
-        (
-            serve_stream(self.alloc, self.is_pretty, input, output),
-            (),
-        )
+        (serve_stream(self.alloc, self.is_pretty, input, output), ())
     }
 }

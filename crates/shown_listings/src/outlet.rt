@@ -47,6 +47,17 @@ impl Outlet {
         self.reason
     }
 
+    /// Writes out bytes that were written, where they end a line.
+    #[cold]
+    #[inline(never)]
+    fn written_out(&mut self, bytes: &[u8], answer: io::Result<usize>) -> io::Result<usize> {
+        let count = self.noted(answer)?;
+        if bytes.ends_with(b"\n") {
+            self.flush()?;
+        }
+        Ok(count)
+    }
+
     fn noted<T>(&mut self, answer: io::Result<T>) -> io::Result<T>
         ensures { result ≡ answer }
     {
@@ -62,13 +73,9 @@ impl Write for Outlet {
         let Some(inner) = &mut self.inner else {
             return Err(io::Error::from(ErrorKind::InvalidInput));
         };
-        let mut answer = inner.write(bytes);
-        if self.is_terminal
-            && answer.is_ok()
-            && bytes.ends_with(b"\n")
-            && let Err(reason) = inner.flush()
-        {
-            answer = Err(reason);
+        let answer = inner.write(bytes);
+        if self.is_terminal {
+            return self.written_out(bytes, answer);
         }
         self.noted(answer)
     }
