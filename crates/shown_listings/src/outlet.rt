@@ -1,5 +1,5 @@
 //! Standard output.
-ghost use Rattle.std.specs.Prelude.{◌≡◌};
+ghost use Rattle.std.specs.Prelude.{◌≡◌, Ok, IfOk};
 
 use std::alloc::Global;
 use std::io::{self, BufWriter, ErrorKind, IsTerminal, Write};
@@ -50,7 +50,9 @@ impl Outlet {
     /// Writes out bytes that were written, where they end a line.
     #[cold]
     #[inline(never)]
-    fn written_out(&mut self, bytes: &[u8], answer: io::Result<usize>) -> io::Result<usize> {
+    fn written_out(&mut self, bytes: &[u8], answer: io::Result<usize>) -> io::Result<usize>
+        ensures { IfOk result (λ count. answer ≡ Ok count) }
+    {
         let count = self.noted(answer)?;
         if bytes.ends_with(b"\n") {
             self.flush()?;
