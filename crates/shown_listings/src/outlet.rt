@@ -1,5 +1,5 @@
 //! Standard output.
-ghost use Rattle.std.specs.Prelude.{◌≡◌, Ok, IfOk};
+ghost use Rattle.std.specs.Prelude.{◌≡◌};
 
 use std::alloc::Global;
 use std::io::{self, BufWriter, ErrorKind, IsTerminal, Write};
@@ -8,6 +8,9 @@ use std::rt::Stdout;
 
 /// What is written at a time, in bytes.
 const BUFFER: usize = 65_536;
+
+/// The same at a terminal, where no line waits for another.
+const TERMINAL_BUFFER: usize = 1;
 
 /// What is written to. It can be taken from where it is lent, so that its owner knows what it holds then: what a call did to a
 /// struct that was lent a writer is known of the struct's value, and not that it still has the same writer.
@@ -23,21 +26,24 @@ pub fn taken<W: Output>(alloc: Global, output: &mut W) -> W
     mem::replace(output, W::none(alloc))
 }
 
-/// Standard output, by a buffer, or nothing where it was taken. A terminal gets each line when it is whole. It knows why a write
-/// failed.
+/// Standard output, by a buffer, or nothing where it was taken. A terminal gets each line when it is written. It knows why a
+/// write failed.
 #[derive(Drop)]
 pub struct Outlet {
     inner: Option<BufWriter<Stdout>>,
-    is_terminal: bool,
     reason: Option<io::Error>,
 }
 
 impl Outlet {
     /// Standard output, with nothing in its buffer.
     pub fn new(rt: &HostRuntime) -> io::Result<Outlet> {
+        let size = if rt.stdout().is_terminal() {
+            TERMINAL_BUFFER
+        } else {
+            BUFFER
+        };
         Ok(Outlet {
-            inner: Some(BufWriter::with_capacity(rt.alloc(), BUFFER, rt.stdout())?),
-            is_terminal: rt.stdout().is_terminal(),
+            inner: Some(BufWriter::with_capacity(rt.alloc(), size, rt.stdout())?),
             reason: None,
         })
     }
@@ -45,19 +51,6 @@ impl Outlet {
     /// Why the last write that failed did so.
     pub fn reason(&self) -> Option<io::Error> {
         self.reason
-    }
-
-    /// Writes out bytes that were written, where they end a line.
-    #[cold]
-    #[inline(never)]
-    fn written_out(&mut self, bytes: &[u8], answer: io::Result<usize>) -> io::Result<usize>
-        ensures { IfOk result (λ count. answer ≡ Ok count) }
-    {
-        let count = self.noted(answer)?;
-        if bytes.ends_with(b"\n") {
-            self.flush()?;
-        }
-        Ok(count)
     }
 
     fn noted<T>(&mut self, answer: io::Result<T>) -> io::Result<T>
@@ -76,9 +69,6 @@ impl Write for Outlet {
             return Err(io::Error::from(ErrorKind::InvalidInput));
         };
         let answer = inner.write(bytes);
-        if self.is_terminal {
-            return self.written_out(bytes, answer);
-        }
         self.noted(answer)
     }
 
@@ -95,7 +85,6 @@ impl Output for Outlet {
     fn none(_alloc: Global) -> Outlet {
         Outlet {
             inner: None,
-            is_terminal: false,
             reason: None,
         }
     }
