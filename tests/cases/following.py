@@ -174,6 +174,33 @@ def a_wrap_is_followed_from_file_to_file(program):
             same(end_of(follower), Outcome(0, END, b""))
 
 
+def bytes_read_by(follower):
+    """How many bytes a follower has read."""
+    with open(f"/proc/{follower.process.pid}/io", encoding="ascii") as counts:
+        return int(re.search(r"rchar: (\d+)", counts.read())[1])
+
+
+@case
+def what_is_read_at_a_turn_is_what_was_added(program):
+    words = ("--kind", "wrap", "--count", "4", "--size", "200000")
+    entry = message(b"x" * 1_000)
+    with program.start("import", "w", *words) as importer:
+        same(importer.opens(), "created")
+        importer.write(entry * 700)
+        with program.start("list", "-f", "w") as follower:
+            while follower.line() != "699 opaque 1000":
+                pass
+            before = bytes_read_by(follower)
+            for number in range(700, 1_900, 100):
+                importer.write(entry * 100)
+                same([follower.line() for _ in range(100)], [f"{number + place} opaque 1000" for place in range(100)])
+            made = bytes_read_by(follower) - before
+            added = 1_200 * len(entry)
+            assert added <= made <= added + added // 10, (added, made)
+            same(importer.end().status, 0)
+            same(end_of(follower), Outcome(0, END, b""))
+
+
 @case
 def a_wrap_by_time_is_followed(program):
     with program.start("import", "w", "--kind", "wrap", "--count", "2", "--time", "5") as importer:

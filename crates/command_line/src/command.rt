@@ -3,13 +3,12 @@ ghost use Rattle.std.specs.Prelude.{◌≡◌, IfOk, string_bytes};
 ghost use Rattle.std.specs.Option.{option_map, option_copied};
 
 use crate::function::{Function, function_in};
-use crate::kind::is_kind;
 use crate::process::is_process;
 use crate::request::{
     Asked, Ending, Flushing, Form, Misuse, Request, Rules, Shape, Shown, TraceRequest, Wanted,
 };
 use crate::size::bytes_in;
-use chosen_lines::Choice;
+use chosen_lines::{Choice, is_kind};
 use clap::{Arg, ArgAction, ArgMatches, Command, value_parser};
 use std::alloc::{AllocError, Global};
 use std::convert::AsStr;

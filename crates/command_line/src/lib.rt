@@ -3,7 +3,6 @@
 
 mod command;
 mod function;
-mod kind;
 mod process;
 mod request;
 mod size;

@@ -47,6 +47,7 @@ status_of_refusal refusal _ h = absurd h
 
 status_of_told : (fault : SimFault) (complaint : Complaint) → Tells fault complaint → status_told complaint ≡ status_of fault
 status_of_told (faults.Refused refusal) (complaints.Fault told advice) h = status_of_refusal refusal told h
+status_of_told (faults.Refused refusal) (complaints.TooManyOpen name files reason) h = refl
 status_of_told fault (complaints.Fault told advice) h = ap status_of h
 status_of_told (faults.Foreign file is_stream) (complaints.Foreign name looks_so) h = refl
 status_of_told faults.Absent (complaints.Absent name advice) h = refl

@@ -14,9 +14,10 @@ TellsRefusal refusal (faults.OfFile told name reason) = (told ≡ refusal) × Is
 TellsRefusal refusal (faults.InUse name) = IsOfDevice refusal
 TellsRefusal refusal _ = ⊥
 
--- a fault is told as it is, a refusal so; and a file that isn't a trace's, or that there is no trace, with its name
+-- a fault is told as it is, a refusal so, or with the file that is one too many; and a file that isn't a trace's, or that there is no trace, with its name
 abbrev pub Tells : SimFault → Complaint → Type 0
 Tells (faults.Refused refusal) (complaints.Fault told advice) = TellsRefusal refusal told
+Tells (faults.Refused refusal) (complaints.TooManyOpen name files reason) = IsOfDevice refusal
 Tells fault (complaints.Fault told advice) = told ≡ fault
 Tells (faults.Foreign file is_stream) (complaints.Foreign name looks_so) = looks_so ≡ is_stream
 Tells faults.Absent (complaints.Absent name advice) = Unit {0}

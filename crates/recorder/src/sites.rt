@@ -38,7 +38,7 @@ pub fn files_for<'a>(rt: &HostRuntime, request: &TraceRequest<'a>) -> Result<Fil
     }
 }
 
-/// Refuses a trace of more files than may be open at once, before one is made.
+/// Refuses a trace of more files than may be open at once, before one is changed.
 fn check_room(rt: &HostRuntime, place: &Place<'_>) -> Result<(), Complaint>
     ensures { IfErr result (λ complaint. status_told complaint ≡ 1) }
 {
@@ -69,7 +69,6 @@ fn found_to_read(rt: &HostRuntime, asked: Asked<'_>) -> Result<Found, Complaint>
             own,
         });
     }
-    check_room(rt, &Place::of(&asked, &found))?;
     if matches!(found, Found::File) {
         tell_idle_on_file(rt, &asked);
     }
@@ -95,6 +94,7 @@ fn files_to_wipe<'a>(rt: &HostRuntime, asked: Asked<'a>) -> Result<Files<'a>, Co
     ensures files { HasFiles (IsLocked world) asked.entry result }
 {
     let found = found_to_read(rt, asked)?;
+    check_room(rt, &Place::of(&asked, &found))?;
     Files::locked_at(*rt, asked, found)
 }
 

@@ -1,10 +1,11 @@
 //! A trace in numbers, as one JSON object.
 
 use crate::info::{Info, Part};
+use chosen_lines::KINDS;
 use segment::StoreSpec;
 use serde_json::{Map, Value};
 use std::alloc::{AllocError, Global};
-use trace_reader::{End, WORDS};
+use trace_reader::End;
 
 /// A number, or null.
 fn number(number: Option<u64>) -> Value {
@@ -134,7 +135,7 @@ impl Info {
     /// How many messages there are of each kind of which there are any.
     fn kinds_as_json(&self, alloc: Global) -> Result<Value, AllocError> {
         let mut kinds = Map::new(alloc);
-        for (place, word) in WORDS.iter().enumerate() {
+        for (place, word) in KINDS.iter().enumerate() {
             let count = self.count(place);
             if count > 0 {
                 kinds.insert(String::from_str(alloc, word)?, Value::from(count))?;

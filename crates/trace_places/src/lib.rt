@@ -9,6 +9,6 @@ mod spot;
 
 pub use lookup::{Found, Member, find, first_wrap_file, has_bytes, wrap_of};
 pub use place::{Kind, Place, Turn};
-pub use room::{Crowded, is_crowded};
+pub use room::{Crowded, is_crowded, is_too_many};
 pub use shown::Shown;
 pub use spot::{Spot, spot_of};

@@ -17,7 +17,8 @@ pub struct Crowded {
     pub reason: io::Error,
 }
 
-fn is_too_many(reason: io::Error) -> bool {
+/// Whether a file couldn't be opened since too many are open.
+pub fn is_too_many(reason: io::Error) -> bool {
     match reason.raw_os_error() {
         Some(code) => TOO_MANY.contains(&code),
         None => false,

@@ -1,17 +1,14 @@
-//! The words for kinds of entries.
+//! The words for kinds of messages.
 
-/// The kinds of a readable listing, those of every listing first.
-const KINDS: [&str; 32] = [
+/// The words with which the readable listing tells what a message is, in the order in which they are shown.
+pub const KINDS: [&str; 31] = [
     "call",
     "return",
     "exception",
+    "return_to",
     "send",
     "send_lost",
     "receive",
-    "other",
-    "opaque",
-    "drop",
-    "return_to",
     "spawn",
     "spawned",
     "exit",
@@ -34,9 +31,11 @@ const KINDS: [&str; 32] = [
     "open",
     "closed",
     "seq_trace",
+    "opaque",
+    "other",
 ];
 
 /// Whether a listing may have a kind of this word.
 pub fn is_kind(word: &str) -> bool {
-    KINDS.iter().any(|kind| *kind == word)
+    word == "drop" || KINDS.iter().any(|kind| *kind == word)
 }
