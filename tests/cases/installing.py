@@ -16,6 +16,7 @@ CASES, case = group()
 FILES = {
     "usr/bin/dbgrec": 0o755,
     "usr/share/bash-completion/completions/dbgrec": 0o644,
+    "usr/share/doc/dolvirkh/FORMATS.md": 0o644,
     "usr/share/doc/dolvirkh/copyright": 0o644,
     "usr/share/man/man1/dbgrec.1.gz": 0o644,
 }
