@@ -14,7 +14,7 @@ use Rattle.trace_reader.specs.declared.fault.ReadFault.TheVariants as faults
 use Rattle.trace_advice.specs.Faults.{read_fault}
 use Rattle.trace_advice.specs.declared.complaint.Complaint.{Complaint}
 use Rattle.recorder.specs.Files.{OnlyLooks, LooksOver}
-use Rattle.recorder.specs.Telling.{IsToldOf}
+use Rattle.script_port.specs.declared.fault.SimFault.{SimFault}
 use Rattle.recorder.specs.Informing.{IsInfo, whole, refused}
 use Rattle.recorder.proofs.Readings.{looks_both, same_behind}
 
@@ -26,15 +26,15 @@ found_after Found old mid new before over = record {
 }
 
 -- no fault was found
-pub whole_so : (image : Image) (outlined : Result Outlined RecoverFault) (found : Option RecoverFault) → found ≡ None → MatchResult outlined (λ _. found ≡ None) (λ fault. found ≡ Some fault) → IsStanding standings.Ours image → IsJudged image outlined → IsInfo image (Ok tt)
-whole_so image (Ok r) found none is there judged = whole r there judged
-whole_so image (Err cause) found none is there judged = let e : None ≡ Some cause = sym none ∙ is in absurd (cc)
+pub whole_so : (Told : SimFault → Complaint → Type 0) (image : Image) (outlined : Result Outlined RecoverFault) (found : Option RecoverFault) → found ≡ None → MatchResult outlined (λ _. found ≡ None) (λ fault. found ≡ Some fault) → IsStanding standings.Ours image → IsJudged image outlined → IsInfo Told image (Ok tt)
+whole_so Told image (Ok r) found none is there judged = whole r there judged
+whole_so Told image (Err cause) found none is there judged = let e : None ≡ Some cause = sym none ∙ is in absurd (cc)
 
 -- one was, and is told
-pub refused_so : (image : Image) (outlined : Result Outlined RecoverFault) (found : Option RecoverFault) (cause : RecoverFault) (complaint : Complaint) → found ≡ Some cause → MatchResult outlined (λ _. found ≡ None) (λ fault. found ≡ Some fault) → IsStanding standings.Ours image
-    → IsJudged image outlined → IsToldOf (read_fault (faults.Refused cause)) complaint → IsInfo image (Err complaint)
-refused_so image (Ok r) found cause complaint some is there judged told = let e : Some cause ≡ None = sym some ∙ is in absurd (cc)
-refused_so image (Err own) found cause complaint some is there judged told =
+pub refused_so : (Told : SimFault → Complaint → Type 0) (image : Image) (outlined : Result Outlined RecoverFault) (found : Option RecoverFault) (cause : RecoverFault) (complaint : Complaint) → found ≡ Some cause → MatchResult outlined (λ _. found ≡ None) (λ fault. found ≡ Some fault) → IsStanding standings.Ours image
+    → IsJudged image outlined → Told (read_fault (faults.Refused cause)) complaint → IsInfo Told image (Err complaint)
+refused_so Told image (Ok r) found cause complaint some is there judged told = let e : Some cause ≡ None = sym some ∙ is in absurd (cc)
+refused_so Told image (Err own) found cause complaint some is there judged told =
     let e : Some own ≡ Some cause = sym is ∙ some in
     let same : own ≡ cause = cc in
     refused (faults.Refused cause) complaint (subst (λ (c : RecoverFault). Refuses image c) same judged.0, λ _. there) told

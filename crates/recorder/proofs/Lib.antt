@@ -1,4 +1,5 @@
 pub mod Telling
+pub mod Naming
 pub mod Failing
 pub mod Readings
 pub mod Commanding

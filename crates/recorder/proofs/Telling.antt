@@ -26,7 +26,7 @@ tells_so (faults.Refused refusal) told was advice h = h
 tells_so fault told was advice h = h
 
 -- also with how much is kept
-tells_kept : (kept : Option Kept) (fault : SimFault) (complaint : Complaint) → Tells fault complaint → Tells fault (complaint_with kept complaint)
+pub tells_kept : (kept : Option Kept) (fault : SimFault) (complaint : Complaint) → Tells fault complaint → Tells fault (complaint_with kept complaint)
 tells_kept kept fault (complaints.Fault told (Some advice)) h = tells_so fault told (Some advice) (Some (advice_with kept advice)) h
 tells_kept kept fault (complaints.Fault told None) h = h
 tells_kept kept fault complaint h = h

@@ -37,7 +37,8 @@ use Rattle.trace_advice.specs.Complaints.{status_told, IsToldAs}
 use Rattle.trace_advice.specs.Kept.{kept_told, fault_past}
 use Rattle.script_port.specs.Faults.{run_fault, IsFaultOfDevice}
 use Rattle.trace_advice.specs.Faults.{read_fault, wipe_fault}
-use Rattle.recorder.specs.Telling.{IsToldOf, IsOfMemory, IsOfWriter}
+use Rattle.recorder.specs.Telling.{IsOfMemory, IsOfWriter}
+use Rattle.recorder.specs.Naming.{IsToldAt}
 use Rattle.recorder.specs.Informing.{IsInfo}
 use Rattle.recorder.specs.Salvaging.{IsSalvage}
 use Rattle.recorder.specs.Files.{OnlyLooks, LooksWell, LooksBehind, LooksOver, MayFail, WasRecorded, WasFed, IsKeptOf}
@@ -48,6 +49,7 @@ use Rattle.trace_port.specs.Limits.{greatest_limit}
 use Rattle.script_port.specs.PortOpenings.{first_told, FitsStore, GoesOnOrBegins}
 use Rattle.trace_recording.specs.Openings.{wanted, TellsFault, KeepsTrace, IsWhyNotOpened}
 use Rattle.trace_places.specs.Places.{file_count, turn_of}
+use Rattle.trace_places.specs.declared.place.Place.{Place}
 use Rattle.script_port.specs.Texts.{line_of}
 use Rattle.script_port.specs.declared.answer.Answer.TheVariants.{Done}
 use Rattle.trace_advice.specs.declared.complaint.Complaint.{Complaint}
@@ -63,16 +65,16 @@ abbrev pub device : FolderStore → Device
 device store = device_of folder.ghosts store
 
 -- how a call on an input ended is told, so many bytes of which were passed over first
-abbrev pub IsExplained : ℕ → Result Unit SimFault → Result Unit Complaint → Type 0
-IsExplained skip (Ok done) result = result ≡ Ok tt
-IsExplained skip (Err fault) (Ok done) = ⊥
-IsExplained skip (Err fault) (Err complaint) = IsToldOf (fault_past skip fault) complaint
+abbrev pub IsExplained : (SimFault → Complaint → Type 0) → ℕ → Result Unit SimFault → Result Unit Complaint → Type 0
+IsExplained Told skip (Ok done) result = result ≡ Ok tt
+IsExplained Told skip (Err fault) (Ok done) = ⊥
+IsExplained Told skip (Err fault) (Err complaint) = Told (fault_past skip fault) complaint
 
 -- how a reading of a trace ended, and what was written is written out: it was written whole; or so much of it as stands before a fault, or as could be written out
-pub data IsRead (Tells : Image → List ℕ → Type 0) (form : Form) (image : Image) (was now : Option (List ℕ)) : Result Unit Complaint → Type 0 where
-  whole : (text : List ℕ) (mid : Option (List ℕ)) → IsStanding standings.Ours image → Tells image text → Appends was mid text → Keeps mid now → IsRead Tells form image was now (Ok tt)
-  not_written_out : (text : List ℕ) (mid : Option (List ℕ)) (complaint : Complaint) → IsStanding standings.Ours image → Tells image text → Appends was mid text → Keeps mid now → IsOfWriter complaint → IsRead Tells form image was now (Err complaint)
-  refused : (fault : ReadFault) (entries : ℕ) (mid : Option (List ℕ)) (complaint : Complaint) → IsWhyNotRead fault image → IsWrittenInTurn form fault image was mid entries → Keeps mid now → IsToldOf (read_fault fault) complaint → IsRead Tells form image was now (Err complaint)
+pub data IsRead (Tells : Image → List ℕ → Type 0) (form : Form) (Told : SimFault → Complaint → Type 0) (image : Image) (was now : Option (List ℕ)) : Result Unit Complaint → Type 0 where
+  whole : (text : List ℕ) (mid : Option (List ℕ)) → IsStanding standings.Ours image → Tells image text → Appends was mid text → Keeps mid now → IsRead Tells form Told image was now (Ok tt)
+  not_written_out : (text : List ℕ) (mid : Option (List ℕ)) (complaint : Complaint) → IsStanding standings.Ours image → Tells image text → Appends was mid text → Keeps mid now → IsOfWriter complaint → IsRead Tells form Told image was now (Err complaint)
+  refused : (fault : ReadFault) (entries : ℕ) (mid : Option (List ℕ)) (complaint : Complaint) → IsWhyNotRead fault image → IsWrittenInTurn form fault image was mid entries → Keeps mid now → Told (read_fault fault) complaint → IsRead Tells form Told image was now (Err complaint)
 
 -- a trace was cleared for good: whatever a crash leaves of it is blank
 pub record IsCleared (clearing : Clearing) (old new : FolderStore) : Type 0 where
@@ -82,10 +84,10 @@ pub record IsCleared (clearing : Clearing) (old new : FolderStore) : Type 0 wher
   pub none_foreign : (c : Image) → images_of new c → HasNoForeign c
 
 -- how a clearing ended: it is said to be done where it is; or it is done, and that couldn't be told whole or the mark of a failed sync stays; or it isn't done
-pub data Clears (clearing : Clearing) (old new : FolderStore) (was now : Option (List ℕ)) : Result Unit Complaint → Type 0 where
-  done : IsCleared clearing old new → Appends was now (line_of Done) → Clears clearing old new was now (Ok tt)
-  not_told : (complaint : Complaint) → IsCleared clearing old new → AppendsPrefix was now (line_of Done) → status_told complaint ≡ 1 → Clears clearing old new was now (Err complaint)
-  refused : (fault : WipeFault) (complaint : Complaint) → IsWhyNotWiped clearing fault (reads_of old) → Appends was now [] → IsToldOf (wipe_fault fault) complaint → Clears clearing old new was now (Err complaint)
+pub data Clears (clearing : Clearing) (place : Place) (old new : FolderStore) (was now : Option (List ℕ)) : Result Unit Complaint → Type 0 where
+  done : IsCleared clearing old new → Appends was now (line_of Done) → Clears clearing place old new was now (Ok tt)
+  not_told : (complaint : Complaint) → IsCleared clearing old new → AppendsPrefix was now (line_of Done) → status_told complaint ≡ 1 → Clears clearing place old new was now (Err complaint)
+  refused : (fault : WipeFault) (complaint : Complaint) → IsWhyNotWiped clearing fault (reads_of old) → Appends was now [] → IsToldAt place new (wipe_fault fault) complaint → Clears clearing place old new was now (Err complaint)
 
 -- a port was opened for a trace of this kind, of a store that was honest where it is, and no device call failed
 pub record IsOpened (spec : Spec) (old new : FolderStore) (opened : AnyOpening) (origin : Origin) : Type 0 where
@@ -105,31 +107,31 @@ pub record IsNotOpened (spec : Spec) (old new : FolderStore) (fault : SimFault) 
   pub was_honest : honest_of new → honest_of old
 
 -- a trace was opened and the lines of a script, which had these bytes, were run at its port; or nothing was done but the opening, or not even that
-pub data Records (spec : Spec) (old new : FolderStore) (had was now : Option (List ℕ)) : Result Unit Complaint → Type 0 where
+pub data Records (place : Place) (spec : Spec) (old new : FolderStore) (had was now : Option (List ℕ)) : Result Unit Complaint → Type 0 where
   runs : {mid : FolderStore} {opened : AnyOpening} {origin : Origin} {result : Result Unit Complaint} {has : Option (List ℕ)} (done : Result Unit SimFault) → IsOpened spec old mid opened origin → WasRecorded opened origin mid new had has done was now → IsToldAs done result
-      → Records spec old new had was now result
-  not_opened : {mid : FolderStore} (fault : SimFault) (complaint : Complaint) → IsNotOpened spec old mid fault → LooksBehind fault mid new → Keeps was now → IsToldOf fault complaint → Records spec old new had was now (Err complaint)
-  no_memory : (complaint : Complaint) → new ≡ old → Keeps was now → IsOfMemory complaint → Records spec old new had was now (Err complaint)
+      → Records place spec old new had was now result
+  not_opened : {mid : FolderStore} (fault : SimFault) (complaint : Complaint) → IsNotOpened spec old mid fault → LooksBehind fault mid new → Keeps was now → IsToldAt place new fault complaint → Records place spec old new had was now (Err complaint)
+  no_memory : (complaint : Complaint) → new ≡ old → Keeps was now → IsOfMemory complaint → Records place spec old new had was now (Err complaint)
 
 -- what an import did, by what was seen before it and what was observed until its end
-pub data Feeds (spec : Spec) (rules : Rules) (old new : FolderStore) (saw : Outside) (observed : Observations) (was now : Option (List ℕ)) : Result Unit Complaint → Type 0 where
+pub data Feeds (place : Place) (spec : Spec) (rules : Rules) (old new : FolderStore) (saw : Outside) (observed : Observations) (was now : Option (List ℕ)) : Result Unit Complaint → Type 0 where
   -- a byte came; then a trace was opened, and the stream put into its port
   feeds : {first mid last : FolderStore} {opened : AnyOpening} {origin : Origin} {result : Result Unit Complaint} {then : Outside} {incoming : Incoming} (begins : Begins rules.skip saw then incoming)
       (remaining : Option (List ℕ)) (reads : ℕ) (come : List ℕ) (left : Incoming) (done : Result Unit SimFault) → LooksWell old first → IsOpened spec first mid opened origin
-      → WasFed opened origin rules mid last begins.mid (outside remaining reads observed) come left done (λ text. Appends was now text) → OnlyLooks last new → MayFail (failures_of last) (failures_of new) → IsExplained rules.skip done result
+      → WasFed opened origin rules mid last begins.mid (outside remaining reads observed) come left done (λ text. Appends was now text) → OnlyLooks last new → MayFail (failures_of last) (failures_of new) → IsExplained (IsToldAt place last) rules.skip done result
       -- where it is told how much of the stream is kept, so much is
-      → (honest_of new → IfErr result (λ complaint. IfSome (kept_told complaint) (IsKeptOf (first_told opened (device mid)) rules.skip come (reads_of new)))) → Feeds spec rules old new saw observed was now result
+      → (honest_of new → IfErr result (λ complaint. IfSome (kept_told complaint) (IsKeptOf (first_told opened (device mid)) rules.skip come (reads_of new)))) → Feeds place spec rules old new saw observed was now result
   -- a byte came; then the trace wasn't opened
   not_opened : {first mid : FolderStore} {then : Outside} {incoming : Incoming} (fault : SimFault) (complaint : Complaint) → Begins rules.skip saw then incoming → LooksWell old first → (honest_of first → HasNoForeign (reads_of old)) → IsNotOpened spec first mid fault
-      → LooksBehind fault mid new → observed ≡ then.observed → Keeps was now → IsToldOf fault complaint → Feeds spec rules old new saw observed was now (Err complaint)
+      → LooksBehind fault mid new → observed ≡ then.observed → Keeps was now → IsToldAt place new fault complaint → Feeds place spec rules old new saw observed was now (Err complaint)
   -- no byte came
-  nothing_came : {then : Outside} → EndsWithin rules.skip saw then → OnlyLooks old new → (honest_of new → HasNoForeign (reads_of old)) → observed ≡ then.observed → Keeps was now → Feeds spec rules old new saw observed was now (Ok tt)
+  nothing_came : {then : Outside} → EndsWithin rules.skip saw then → OnlyLooks old new → (honest_of new → HasNoForeign (reads_of old)) → observed ≡ then.observed → Keeps was now → Feeds place spec rules old new saw observed was now (Ok tt)
   -- the first byte couldn't be had
-  unread : {then : Outside} (fault : SimFault) (complaint : Complaint) → IsUnread rules.skip saw then fault → OnlyLooks old new → (honest_of new → HasNoForeign (reads_of old)) → observed ≡ then.observed → Keeps was now → IsToldOf fault complaint
-      → Feeds spec rules old new saw observed was now (Err complaint)
+  unread : {then : Outside} (fault : SimFault) (complaint : Complaint) → IsUnread rules.skip saw then fault → OnlyLooks old new → (honest_of new → HasNoForeign (reads_of old)) → observed ≡ then.observed → Keeps was now → IsToldAt place new fault complaint
+      → Feeds place spec rules old new saw observed was now (Err complaint)
   -- its files aren't a trace's, or that can't be known, and nothing was read
-  refused : {first : FolderStore} (fault : SimFault) (complaint : Complaint) → (honest_of new → IsWhyNotOpened spec fault (reads_of old)) → OnlyLooks old first → TellsFault (failures_of old) (failures_of first) fault → LooksBehind fault first new → observed ≡ saw.observed → Keeps was now → IsToldOf fault complaint
-      → Feeds spec rules old new saw observed was now (Err complaint)
+  refused : {first : FolderStore} (fault : SimFault) (complaint : Complaint) → (honest_of new → IsWhyNotOpened spec fault (reads_of old)) → OnlyLooks old first → TellsFault (failures_of old) (failures_of first) fault → LooksBehind fault first new → observed ≡ saw.observed → Keeps was now → IsToldAt place new fault complaint
+      → Feeds place spec rules old new saw observed was now (Err complaint)
 
 -- whether files that aren't of a trace are cleared, too
 abbrev pub clearing_of : Bool → Clearing
@@ -161,14 +163,14 @@ Changes _ = Unit {0}
 
 -- what is done with a trace for what the command line asks, by what is seen of the stream that comes in, what is observed until the end, and the bytes that are written
 abbrev pub Serves : TraceRequest → Files → Files → Outside → Observations → Option (List ℕ) → Option (List ℕ) → Result Unit Complaint → Type 0
-Serves (requests.List asked is_pretty) old new saw observed was now result = LooksOver old.store new.store (IsRead (ListsStore (style_of is_pretty)) (as_lines (style_of is_pretty)) (reads_of old.store) was now result)
-Serves (requests.Export asked) old new saw observed was now result = LooksOver old.store new.store (IsRead ExportsStore as_bytes (reads_of old.store) was now result)
-Serves (requests.Salvage asked form) old new saw observed was now result = LooksOver old.store new.store (IfErr result (IsSalvage (written_as form) (reads_of old.store) was now)) × IsErr result × IfErr result (λ complaint. status_told complaint ≡ 1)
-Serves (requests.Info asked is_json) old new saw observed was now result = LooksOver old.store new.store (IsInfo (reads_of old.store) result) × IfErr result (λ complaint. status_told complaint ≡ 1)
-Serves (requests.Wipe asked is_forced) old new saw observed was now result = (honest_of new.store → Clears (clearing_of is_forced) old.store new.store was now result)
+Serves (requests.List asked is_pretty) old new saw observed was now result = LooksOver old.store new.store (IsRead (ListsStore (style_of is_pretty)) (as_lines (style_of is_pretty)) (IsToldAt old.place new.store) (reads_of old.store) was now result)
+Serves (requests.Export asked) old new saw observed was now result = LooksOver old.store new.store (IsRead ExportsStore as_bytes (IsToldAt old.place new.store) (reads_of old.store) was now result)
+Serves (requests.Salvage asked form) old new saw observed was now result = LooksOver old.store new.store (IfErr result (IsSalvage (written_as form) (IsToldAt old.place new.store) (reads_of old.store) was now)) × IsErr result × IfErr result (λ complaint. status_told complaint ≡ 1)
+Serves (requests.Info asked is_json) old new saw observed was now result = LooksOver old.store new.store (IsInfo (IsToldAt old.place new.store) (reads_of old.store) result) × IfErr result (λ complaint. status_told complaint ≡ 1)
+Serves (requests.Wipe asked is_forced) old new saw observed was now result = (honest_of new.store → Clears (clearing_of is_forced) old.place old.store new.store was now result)
     × (honest_of new.store → IsNotToWipe (clearing_of is_forced) (reads_of old.store) → OnlyLooks old.store new.store) × (honest_of new.store → LeavesOnly clock_of moments_of old.store new.store (IsClearing (images_of old.store)))
-Serves (requests.Record asked) old new saw observed was now result = Records (wanted old.place.kind (turn_of asked)) old.store new.store saw.remaining was now result
-Serves (requests.Import asked rules) old new saw observed was now result = Feeds (wanted old.place.kind (turn_of asked)) rules old.store new.store saw observed was now result
+Serves (requests.Record asked) old new saw observed was now result = Records old.place (wanted old.place.kind (turn_of asked)) old.store new.store saw.remaining was now result
+Serves (requests.Import asked rules) old new saw observed was now result = Feeds old.place (wanted old.place.kind (turn_of asked)) rules old.store new.store saw observed was now result
 
 -- no device call was made yet on the files of a trace, whatever the world that they are part of
 abbrev pub IsUntouched : World → Files → Type 0

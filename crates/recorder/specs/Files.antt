@@ -50,11 +50,11 @@ pub data MayFail (before : ℕ) : ℕ → Type 0 where
   none : MayFail before before
   more : {mid now : ℕ} → MayFail before mid → Rose mid now → MayFail before now
 
--- the files were read at most, to tell of a fault; where that is of the device, no call failed behind the one that it tells of
+-- the files were read at most, to tell of a fault; where that is of the device, no call was made behind the one that it tells of
 pub record LooksBehind (fault : SimFault) (old new : FolderStore) : Type 0 where
   pub only_reads : OnlyLooks old new
   pub failures : MayFail (failures_of old) (failures_of new)
-  pub of_device : IsFaultOfDevice fault → failures_of new ≡ failures_of old
+  pub of_device : IsFaultOfDevice fault → new ≡ old
 
 -- the files were read at most, and this was told of them, where they are honest
 pub record LooksOver (old new : FolderStore) (Told : Type 0) : Type 0 where

@@ -12,7 +12,8 @@ use Rattle.trace_reader.specs.Summaries.{IsJudged}
 use Rattle.trace_reader.specs.declared.fault.ReadFault.{ReadFault}
 use Rattle.trace_advice.specs.Faults.{read_fault}
 use Rattle.trace_advice.specs.declared.complaint.Complaint.{Complaint}
-use Rattle.recorder.specs.Telling.{IsToldOf, IsOfMemory, IsOfWriter}
+use Rattle.script_port.specs.declared.fault.SimFault.{SimFault}
+use Rattle.recorder.specs.Telling.{IsOfMemory, IsOfWriter}
 
 -- what a reading found: a trace's files, and what they are together; or why they aren't read
 abbrev pub IsGathered : Image → Result Info ReadFault → Type 0
@@ -20,7 +21,7 @@ IsGathered image (Ok info) = IsStanding standings.Ours image × IsJudged image i
 IsGathered image (Err fault) = IsWhyNotRead fault image
 
 -- how it ended: its files are one whole trace, and that was told; or why they aren't; or it couldn't be told
-pub data IsInfo (image : Image) : Result Unit Complaint → Type 0 where
-  whole : (r : Outlined) → IsStanding standings.Ours image → Outlines (readings image) r → IsInfo image (Ok tt)
-  refused : (fault : ReadFault) (complaint : Complaint) → IsWhyNotRead fault image → IsToldOf (read_fault fault) complaint → IsInfo image (Err complaint)
-  not_told : (complaint : Complaint) → IsOfWriter complaint ⊎ IsOfMemory complaint → IsInfo image (Err complaint)
+pub data IsInfo (Told : SimFault → Complaint → Type 0) (image : Image) : Result Unit Complaint → Type 0 where
+  whole : (r : Outlined) → IsStanding standings.Ours image → Outlines (readings image) r → IsInfo Told image (Ok tt)
+  refused : (fault : ReadFault) (complaint : Complaint) → IsWhyNotRead fault image → Told (read_fault fault) complaint → IsInfo Told image (Err complaint)
+  not_told : (complaint : Complaint) → IsOfWriter complaint ⊎ IsOfMemory complaint → IsInfo Told image (Err complaint)

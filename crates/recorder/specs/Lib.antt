@@ -1,6 +1,7 @@
 pub mod Files
 pub mod Live
 pub mod Telling
+pub mod Naming
 pub mod Informing
 pub mod Commands
 pub mod Following

@@ -11,7 +11,8 @@ use Rattle.trace_advice.specs.declared.salvage.Salvage.{Salvage}
 use Rattle.trace_advice.specs.declared.complaint.Complaint.{Complaint}
 use Rattle.trace_advice.specs.declared.complaint.Complaint.TheVariants as complaints
 use Rattle.script_port.specs.declared.fault.SimFault.TheVariants as faults
-use Rattle.recorder.specs.Telling.{IsToldOf, IsOfMemory, IsOfWriter}
+use Rattle.script_port.specs.declared.fault.SimFault.{SimFault}
+use Rattle.recorder.specs.Telling.{IsOfMemory, IsOfWriter}
 
 -- what a salvage came to, as it is told
 pub record IsSum (s : Salvaged) (told : Salvage) : Type 0 where
@@ -20,14 +21,18 @@ pub record IsSum (s : Salvaged) (told : Salvage) : Type 0 where
   pub shown : told.shown ≡ s.entries
   pub missing : told.missing ≡ s.missing
 
+-- that is told
+abbrev pub TellsSum : Salvaged → Complaint → Type 0
+TellsSum s complaint = (told : Salvage) × IsSum s told × (complaint ≡ complaints.Salvaged told)
+
 -- what is told of one that came to its end: what it came to; of no file, that there is no trace; or that it can't be told or written out
-pub data IsSummary (s : Salvaged) : Complaint → Type 0 where
-  sums : (told : Salvage) → IsSum s told → IsSummary s (complaints.Salvaged told)
-  no_trace : (complaint : Complaint) → s.files ≡ 0 → IsToldOf faults.Absent complaint → IsSummary s complaint
-  not_told : (complaint : Complaint) → IsOfMemory complaint → IsSummary s complaint
-  not_written_out : (complaint : Complaint) → IsOfWriter complaint → IsSummary s complaint
+pub data IsSummary (Told : SimFault → Complaint → Type 0) (s : Salvaged) : Complaint → Type 0 where
+  sums : (complaint : Complaint) → TellsSum s complaint → IsSummary Told s complaint
+  no_trace : (complaint : Complaint) → s.files ≡ 0 → Told faults.Absent complaint → IsSummary Told s complaint
+  not_told : (complaint : Complaint) → IsOfMemory complaint → IsSummary Told s complaint
+  not_written_out : (complaint : Complaint) → IsOfWriter complaint → IsSummary Told s complaint
 
 -- how a salvage ended and is told, and what was written is written out: all that the files hold; or what a fault leaves of it
-pub data IsSalvage (form : Form) (image : Image) (was now : Option (List ℕ)) (complaint : Complaint) : Type 0 where
-  whole : (s : Salvaged) (text : List ℕ) (mid : Option (List ℕ)) → IsSalvaged form image s text → Appends was mid text → Keeps mid now → IsSummary s complaint → IsSalvage form image was now complaint
-  stopped : (fault : ReadFault) (mid : Option (List ℕ)) → IsLeftOf (IsSalvageBegun form image) fault was mid → Keeps mid now → IsToldOf (read_fault fault) complaint → IsSalvage form image was now complaint
+pub data IsSalvage (form : Form) (Told : SimFault → Complaint → Type 0) (image : Image) (was now : Option (List ℕ)) (complaint : Complaint) : Type 0 where
+  whole : (s : Salvaged) (text : List ℕ) (mid : Option (List ℕ)) → IsSalvaged form image s text → Appends was mid text → Keeps mid now → IsSummary Told s complaint → IsSalvage form Told image was now complaint
+  stopped : (fault : ReadFault) (mid : Option (List ℕ)) → IsLeftOf (IsSalvageBegun form image) fault was mid → Keeps mid now → Told (read_fault fault) complaint → IsSalvage form Told image was now complaint

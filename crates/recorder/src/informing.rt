@@ -2,7 +2,7 @@
 ghost use Rattle.std.specs.Prelude.{◌≡◌, ◌⊎◌, IfOk, IfErr};
 ghost use Rattle.stores.specs.FolderStore.{reads_of};
 ghost use Rattle.trace_advice.specs.{Complaints.status_told, Faults.read_fault};
-ghost use Rattle.recorder.specs.{Files.OnlyLooks, Files.LooksOver, Informing.IsGathered, Informing.IsInfo, Telling.IsToldOf};
+ghost use Rattle.recorder.specs.{Files.OnlyLooks, Files.LooksOver, Informing.IsGathered, Informing.IsInfo, Naming.IsToldAt};
 ghost use Rattle.script_port.specs.declared.fault.SimFault.TheVariants as faults;
 
 use crate::doing::Doing;
@@ -37,6 +37,7 @@ fn gathered(files: &Files<'_>, summary: TraceSummary) -> Result<Info, AllocError
 /// Reads a trace once.
 fn look_once(files: &mut Files<'_>) -> Result<Info, ReadFault>
     ensures found { LooksOver files.old.store files.new.store (IsGathered (reads_of files.old.store) result) }
+    ensures place { files.new.place ≡ files.old.place }
 {
     let summary = files.sum_up()?;
     match gathered(files, summary) {
@@ -48,6 +49,7 @@ fn look_once(files: &mut Files<'_>) -> Result<Info, ReadFault>
 /// Reads a trace, and where it isn't whole while another process writes it again, five times in all.
 fn look_over(files: &mut Files<'_>) -> Result<Info, ReadFault>
     ensures found { LooksOver files.old.store files.new.store (IsGathered (reads_of files.old.store) result) }
+    ensures place { files.new.place ≡ files.old.place }
 {
     let mut made = 0;
     'readings: loop {
@@ -111,7 +113,7 @@ fn flush<W: Write>(out: &mut W) -> Result<(), SimFault>
 
 /// What is told of a trace that isn't whole, or isn't read at all.
 pub fn told(files: &mut Files<'_>, fault: ReadFault, doing: Doing) -> Complaint
-    ensures told { IsToldOf (read_fault fault) result }
+    ensures told { IsToldAt files.old.place files.new.store (read_fault fault) result }
     ensures status { status_told result ≡ 1 }
     ensures only_reads { OnlyLooks files.old.store files.new.store }
 {
@@ -124,7 +126,8 @@ pub fn info<W: Write, H: Host>(
     is_json: bool,
     watched: &mut Watched<'_, W, H>,
 ) -> Result<(), Complaint>
-    ensures ended { LooksOver files.old.store files.new.store (IsInfo (reads_of files.old.store) result) }
+    ensures ended { LooksOver files.old.store files.new.store
+        (IsInfo (IsToldAt files.old.place files.new.store) (reads_of files.old.store) result) }
     ensures status { IfErr result (λ complaint. status_told complaint ≡ 1) }
 {
     let info = match look_over(files) {

@@ -1,9 +1,9 @@
 //! What each open file of a trace holds by itself, whether or not the trace is refused.
-ghost use Rattle.std.specs.Prelude.{◌≡◌, true, IsErr, IfErr, IfOk};
+ghost use Rattle.std.specs.Prelude.{◌≡◌, ◌⊎◌, true, IsErr, IfErr, IfOk};
 ghost use Rattle.stores.specs.FolderStore.{reads_of};
 ghost use Rattle.trace_advice.specs.Complaints.{status_told};
 ghost use Rattle.trace_reader.specs.WritesOut.{form_of};
-ghost use Rattle.recorder.specs.{Files.LooksOver, Commands.written_as, Salvaging.IsSummary, Salvaging.IsSalvage};
+ghost use Rattle.recorder.specs.{Files.LooksOver, Commands.written_as, Naming.IsToldAt, Salvaging.TellsSum, Salvaging.IsSalvage, Telling.IsOfMemory};
 
 use crate::commands::{style, written_out};
 use crate::doing::Doing;
@@ -68,7 +68,7 @@ fn summary(
     files: &Files<'_>,
     salvaged: &Salvaged,
 ) -> Result<Complaint, AllocError>
-    ensures told { IfOk result (IsSummary salvaged.now) }
+    ensures told { IfOk result (TellsSum salvaged.now) }
     ensures status { IfOk result (λ complaint. status_told complaint ≡ 1) }
 {
     Ok(Complaint::Salvaged(Salvage {
@@ -82,7 +82,7 @@ fn summary(
 
 /// The same, also where there is no memory for it.
 fn summary_at_least(rt: &HostRuntime, files: &Files<'_>, salvaged: &Salvaged) -> Complaint
-    ensures told { IsSummary salvaged.now result }
+    ensures told { TellsSum salvaged.now result ⊎ IsOfMemory result }
     ensures status { status_told result ≡ 1 }
 {
     match summary(rt, files, salvaged) {
@@ -98,7 +98,9 @@ pub fn salvage<W: Write, H: Host>(
     form: Form,
     watched: &mut Watched<'_, W, H>,
 ) -> Result<(), Complaint>
-    ensures salvage { LooksOver files.old.store files.new.store (IfErr result (IsSalvage (written_as form) (reads_of files.old.store) (W.contents watched.old.writer.now) (W.contents watched.new.writer.now))) }
+    ensures salvage { LooksOver files.old.store files.new.store (IfErr result
+        (IsSalvage (written_as form) (IsToldAt files.old.place files.new.store) (reads_of files.old.store)
+        (W.contents watched.old.writer.now) (W.contents watched.new.writer.now))) }
     ensures never { IsErr result }
     ensures status { IfErr result (λ complaint. status_told complaint ≡ 1) }
 {

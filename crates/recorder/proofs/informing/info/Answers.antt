@@ -1,9 +1,12 @@
-use Rattle.std.proofs.Common.{◌∙◌, ⊎_elim, inl, inr, ap, None}
+use Rattle.std.proofs.Common.{◌∙◌, ⊎_elim, inl, inr, ap, refl, None}
 use Rattle.segment.proofs.Taking.{reads_both}
 use Rattle.stores.specs.FolderStore.{honest_of, reads_of, images_of, moments_of, clock_of}
 use Rattle.script_port.specs.declared.fault.SimFault.{SimFault}
 use Rattle.trace_advice.specs.declared.complaint.Complaint.TheVariants as complaints
+use Rattle.trace_reader.specs.declared.fault.ReadFault.TheVariants as reads
+use Rattle.trace_advice.specs.Faults.{read_fault}
 use Rattle.recorder.specs.Informing.{refused, not_told}
+use Rattle.recorder.proofs.Naming.{told_moved}
 use Rattle.recorder.proofs.Informed.{whole_so, refused_so}
 use Rattle.recorder.proofs.informing.info.Goals as goal
 
@@ -13,7 +16,8 @@ returns-in-Err-clause-ended g c =
     let looks = c.told.ensures.only_reads in
     record {
       only_reads = reads_both honest_of clock_of reads_of images_of moments_of c.args.files.now.store c.look_over.new.files.store c.told.new.files.store e.only_reads looks;
-      told = λ h. refused c.in-Err.fault c.told.result (e.told (looks.was_honest h)) c.told.ensures.told;
+      told = λ h. refused c.in-Err.fault c.told.result (e.told (looks.was_honest h))
+          (told_moved c.args.files.now.place c.look_over.new.files.place c.told.new.files.store (read_fault c.in-Err.fault) (read_fault c.in-Err.fault) c.told.result c.look_over.ensures.place refl c.told.ensures.told);
     }
 
 pub returns-in-Err-write_info-clause-ended : goal.returns-in-Err-write_info-clause-ended
@@ -30,7 +34,7 @@ returns-in-None-clause-ended g c =
     let e = c.in-Ok.ensures.found in
     record {
       only_reads = e.only_reads;
-      told = λ h. let found = e.told h in whole_so (reads_of c.args.files.now.store) c.in-Ok.info.outlined c.fault.result c.in-None.is c.fault.ensures found.0 found.1;
+      told = λ h. let found = e.told h in whole_so _ (reads_of c.args.files.now.store) c.in-Ok.info.outlined c.fault.result c.in-None.is c.fault.ensures found.0 found.1;
     }
 
 pub returns-clause-ended : goal.returns-clause-ended
@@ -42,5 +46,6 @@ returns-clause-ended g c =
       only_reads = reads_both honest_of clock_of reads_of images_of moments_of c.args.files.now.store c.look_over.new.files.store told.new.files.store e.only_reads looks;
       told = λ h.
           let found = e.told (looks.was_honest h) in
-          refused_so (reads_of c.args.files.now.store) c.in-Ok.info.outlined c.fault.result c.in-Some.cause told.result c.in-Some.is c.fault.ensures found.0 found.1 told.ensures.told;
+          refused_so _ (reads_of c.args.files.now.store) c.in-Ok.info.outlined c.fault.result c.in-Some.cause told.result c.in-Some.is c.fault.ensures found.0 found.1
+          (told_moved c.args.files.now.place c.look_over.new.files.place told.new.files.store (read_fault (reads.Refused c.in-Some.cause)) (read_fault (reads.Refused c.in-Some.cause)) told.result c.look_over.ensures.place refl told.ensures.told);
     }

@@ -6,6 +6,7 @@ use Rattle.recorder.proofs.informing.look_over.Given as goal
 abbrev pub invariant-readings : goal.invariant-readings
 invariant-readings l = record {
   few : l.made ≤ 4;
+  place : l.files.place ≡ l.fn.files.place;
   only_reads : (l.files.store ≡ l.fn.files.store) ⊎ OnlyLooks l.fn.files.store l.files.store;
 }
 

@@ -1,6 +1,5 @@
 use Rattle.std.proofs.Common.{refl}
-use Rattle.recorder.specs.Salvaging.{sums}
 use Rattle.recorder.proofs.salvaging.summary.Goals as goal
 
 pub returns-clause-told : goal.returns-clause-told
-returns-clause-told c = sums _ (record { files = refl; entries = refl; shown = refl; missing = refl })
+returns-clause-told c = (_, record { files = refl; entries = refl; shown = refl; missing = refl }, refl)
