@@ -20,7 +20,8 @@ use Rattle.trace_advice.specs.declared.complaint.Advice.{Advice}
 use Rattle.trace_advice.specs.declared.complaint.Complaint.{Complaint}
 use Rattle.trace_advice.specs.declared.complaint.Complaint.TheVariants as complaints
 use Rattle.recorder.specs.Telling.{Tells, TellsRefusal, IsToldOf, IsOfMemory}
-use Rattle.recorder.specs.Naming.{NamesCall, Names, TellsCall, TellsAt, IsToldAt, in_use, of_file}
+use Rattle.std.specs.String.{string_bytes}
+use Rattle.recorder.specs.Naming.{NamesCall, NamesCrowded, Names, TellsCall, TellsAt, IsToldAt, in_use, of_file}
 use Rattle.recorder.proofs.Telling.{tells_kept}
 
 -- what is told at a place is told of the fault
@@ -70,6 +71,7 @@ names_before place was now (faults.Refused refusal) (complaints.Fault told advic
   | inl of ↦ subst (λ (newest : Option FileFault). NamesCall place newest refusal told) (same of) h
   | inr none ↦ names_none place was now refusal told none h
 ]
+names_before place was now (faults.Refused refusal) (complaints.TooManyOpen name files reason) same h = (h.0, subst (λ (newest : Option FileFault). NamesCrowded place newest (string_bytes name) reason) (same h.0) h.1)
 names_before place was now (faults.Foreign file is_stream) (complaints.Foreign name looks_so) same h = h
 names_before place was now faults.Absent (complaints.Absent name advice) same h = h
 names_before place was now _ _ same h = tt

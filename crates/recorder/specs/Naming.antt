@@ -4,6 +4,7 @@ use Rattle.std.specs.Option.{option_map}
 use Rattle.std.specs.String.{string_bytes}
 use Rattle.std.specs.declared.alloc.Global.{Global}
 use Rattle.std.specs.declared.string.String.{String}
+use Rattle.std.specs.declared.io.Error.{Error}
 use Rattle.stores.specs.Held.{IsHeld}
 use Rattle.stores.specs.FolderStore.{fault_of}
 use Rattle.stores.specs.declared.fault.FileFault.{FileFault}
@@ -40,9 +41,17 @@ abbrev pub NamesCall : Place → Option FileFault → Refusal → SimFault → T
 NamesCall place None refusal told = told ≡ faults.Refused refusal
 NamesCall place (Some call) refusal told = (IsOfDevice refusal → TellsCall place refusal call told) × ((IsOfDevice refusal → ⊥) → told ≡ faults.Refused refusal)
 
+-- the file that is one too many is named, and why it can't be opened: by the call that the system refused
+pub record NamesCrowded (place : Place) (newest : Option FileFault) (name : List ℕ) (reason : Error) : Type 0 where
+  pub call : FileFault
+  pub is : newest ≡ Some call
+  pub named : name ≡ name_at place call.file
+  pub why : reason ≡ call.reason
+
 -- a refusal names that call; a file that isn't a trace's is named, and a trace that isn't there
 abbrev pub Names : Place → Option FileFault → SimFault → Complaint → Type 0
 Names place newest (faults.Refused refusal) (complaints.Fault told advice) = NamesCall place newest refusal told
+Names place newest (faults.Refused refusal) (complaints.TooManyOpen name files reason) = IsOfDevice refusal × NamesCrowded place newest (string_bytes name) reason
 Names place newest (faults.Foreign file is_stream) (complaints.Foreign name looks_so) = string_bytes name ≡ name_at place file
 Names place newest faults.Absent (complaints.Absent name advice) = string_bytes name ≡ place.base.now
 Names place newest _ _ = Unit {0}
