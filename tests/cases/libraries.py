@@ -9,7 +9,7 @@ from refusing import each_refusal
 
 CASES, case = group()
 
-CRATES = ("acceptance_terms", "acceptance_listings", "acceptance", "acceptance_memory")
+CRATES = ("tests_values", "tests_reading", "tests_desks")
 
 
 def tests_of(crate):

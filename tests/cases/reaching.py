@@ -59,7 +59,7 @@ def reached():
     found = {}
     for path in sorted(CRATES.glob("*/src/**/*.rt")):
         name = str(path.relative_to(CRATES))
-        if name.startswith("acceptance"):
+        if name.startswith("tests_"):
             continue
         function = ""
         for line in path.read_text(encoding="utf-8").splitlines():

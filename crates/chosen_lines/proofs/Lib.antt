@@ -1,7 +1,11 @@
 pub mod Contents
 pub mod Handed
 pub mod Holding
+pub mod Joining
 pub mod LineLemmas
+pub mod Listed
 pub mod Measuring
+pub mod Numbering
 pub mod Numbers
+pub mod Printing
 pub mod WordLemmas

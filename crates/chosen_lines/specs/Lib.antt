@@ -4,8 +4,13 @@ pub mod Growth
 pub mod Held
 pub mod Lets
 pub mod Lines
+pub mod Listed
 pub mod Members
-pub mod Signs
-pub mod Words
+pub mod ObjectMembers
+pub mod Objects
 pub mod Rules
+pub mod Seen
+pub mod Signs
 pub mod Taking
+pub mod Told
+pub mod Words

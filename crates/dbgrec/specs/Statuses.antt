@@ -4,7 +4,7 @@ use Rattle.stores.specs.Events.{World}
 use Rattle.command_line.specs.declared.request.Request.{Request}
 use Rattle.command_line.specs.declared.request.Misuse.{Misuse}
 use Rattle.trace_advice.specs.declared.complaint.Complaint.{Complaint}
-use Rattle.exit_codes.specs.Statuses.{status_of_done, status_of_misuse}
+use Rattle.trace_advice.specs.Statuses.{status_of_done, status_of_misuse}
 use Rattle.dbgrec.specs.Serving.{IsServed}
 
 -- what is asked was done, and this is the status of it

@@ -8,7 +8,7 @@ ghost use Rattle.dbgrec.specs.Serving.{IsServed};
 ghost use Rattle.dbgrec.specs.Statuses.{EndsSo, Answers, Ends};
 
 use command_line::{Misuse, Request, asked_for};
-use exit_codes::{Reasons, code_of, correct, no_memory};
+use trace_advice::{Reasons, code_of, correct, no_memory};
 use recorder::{StreamListing, follow_files, serve_files};
 use shown_listings::{Inlet, Outlet, Output, show};
 use simulator::serve_sim;

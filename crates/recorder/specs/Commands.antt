@@ -21,7 +21,7 @@ use Rattle.trace_files.specs.declared.standing.Standing.TheVariants as standings
 use Rattle.trace_reader.specs.Listings.{ListsStore, ExportsStore}
 use Rattle.trace_reader.specs.Observing.{Observations}
 use Rattle.trace_reader.specs.Reading.{IsWhyNotRead}
-use Rattle.window_reader.specs.Windows.{IsWrittenInTurn}
+use Rattle.trace_reader.specs.Windows.{IsWrittenInTurn}
 use Rattle.trace_reader.specs.Streamed.{StopsBy}
 use Rattle.trace_reader.specs.Wiping.{HasForeign, IsWhyNotWiped, IsNotToWipe}
 use Rattle.trace_reader.specs.declared.fault.ReadFault.{ReadFault}

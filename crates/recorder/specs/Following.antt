@@ -11,11 +11,11 @@ use Rattle.trace_text.specs.declared.style.Style.{Style}
 use Rattle.trace_client.specs.Output.{AppendsPrefix}
 use Rattle.trace_reader.specs.declared.fault.ReadFault.{ReadFault}
 use Rattle.trace_reader.specs.declared.fault.ReadFault.TheVariants as faults
-use Rattle.trace_follower.specs.Looks.{HasLooked, IsWhyGone}
-use Rattle.trace_follower.specs.Sections.{HasTold, IsLookStopped}
-use Rattle.trace_follower.specs.declared.follower.Follower.{Follower}
-use Rattle.trace_follower.specs.declared.place.Look.{Look}
-use Rattle.trace_follower.specs.declared.place.Look.TheVariants as looks
+use Rattle.trace_reader.specs.Looks.{HasLooked, IsWhyGone}
+use Rattle.trace_reader.specs.Sections.{HasTold, IsLookStopped}
+use Rattle.trace_reader.specs.declared.follower.Follower.{Follower}
+use Rattle.trace_reader.specs.declared.place.Look.{Look}
+use Rattle.trace_reader.specs.declared.place.Look.TheVariants as looks
 use Rattle.trace_advice.specs.Faults.{read_fault}
 use Rattle.recorder.specs.Commands.{style_of}
 use Rattle.recorder.specs.Telling.{IsToldOf, IsOfWriter}

@@ -3,8 +3,8 @@ use Rattle.std.specs.Prelude.{◌≡◌, ℕ, List, Option}
 use Rattle.std.specs.Io.KnownBytes.{Appends, Keeps}
 use Rattle.trace_client.specs.Forms.{Form}
 use Rattle.trace_store.specs.Disk.{Image}
-use Rattle.window_reader.specs.Salvage.{IsSalvaged, IsSalvageBegun, IsLeftOf}
-use Rattle.window_reader.specs.declared.salvaging.Salvaged.{Salvaged}
+use Rattle.trace_reader.specs.Salvage.{IsSalvaged, IsSalvageBegun, IsLeftOf}
+use Rattle.trace_reader.specs.declared.salvaging.Salvaged.{Salvaged}
 use Rattle.trace_reader.specs.declared.fault.ReadFault.{ReadFault}
 use Rattle.trace_advice.specs.Faults.{read_fault}
 use Rattle.trace_advice.specs.declared.salvage.Salvage.{Salvage}

@@ -16,7 +16,7 @@ use std::io::Write;
 use trace_advice::{Complaint, Salvage};
 use trace_places::has_bytes;
 use trace_reader::{Host, Manner, ReadFault, Watched};
-use window_reader::Salvaged;
+use trace_reader::Salvaged;
 
 /// How entries are written.
 fn manner(form: Form) -> Manner

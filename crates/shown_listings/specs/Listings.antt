@@ -4,7 +4,7 @@ use Rattle.std.specs.Io.KnownBytes.{Appends}
 use Rattle.chosen_lines.specs.declared.choice.Choice.{Choice}
 use Rattle.chosen_lines.specs.Lets.{lets, ends}
 use Rattle.chosen_lines.specs.Lines.{line_let, Rule, Left, Passed}
-use Rattle.json_lines.specs.Objects.{object_line}
+use Rattle.chosen_lines.specs.Objects.{object_line}
 use Rattle.trace_advice.specs.Complaints.{with_shown}
 use Rattle.trace_advice.specs.declared.complaint.Complaint.{Complaint}
 use Rattle.trace_advice.specs.declared.complaint.Complaint.TheVariants as complaints

@@ -9,7 +9,7 @@ use crate::counted::Counted;
 use crate::outlet::{Output, taken};
 use chosen_lines::{LineRule, LineWriter};
 use command_line::Shown;
-use json_lines::Objects;
+use chosen_lines::Objects;
 use script_port::SimFault;
 use std::alloc::Global;
 use std::io::{IsTerminal, Read, Write};

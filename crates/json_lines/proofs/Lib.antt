@@ -1,4 +1,0 @@
-pub mod Joining
-pub mod Listed
-pub mod Numbering
-pub mod Printing
