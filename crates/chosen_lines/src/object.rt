@@ -8,8 +8,8 @@ ghost use Rattle.chosen_lines.specs.Seen.{seen};
 ghost use Rattle.chosen_lines.specs.Told.{process_told, function_told, arity_text, function_text};
 
 use crate::escapes::{put_decimal, put_escapes, put_quoted};
-use crate::told::{Called, function_told, process_told};
 use crate::members::after;
+use crate::told::{Called, function_told, process_told};
 use crate::words::{cut_word, number_told};
 use itoa::Buffer;
 use std::alloc::AllocError;

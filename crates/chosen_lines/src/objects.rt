@@ -2,8 +2,8 @@
 ghost use Rattle.std.specs.Prelude.{[], false, refl};
 ghost use Rattle.chosen_lines.specs.Objects.{object_line};
 
-use crate::object::put_object_line;
 use crate::line_writer::LineRule;
+use crate::object::put_object_line;
 use std::alloc::AllocError;
 
 /// For each line its object is handed on, with a line feed, and nothing for a line without bytes.

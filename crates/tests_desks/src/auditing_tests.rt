@@ -1,9 +1,9 @@
-use tests_values::EXAMPLE;
 use entry_codec::Entry;
 use recovery::Recovered;
 use std::alloc::Global;
 use std::process::Abort;
 use std::test::*;
+use tests_values::EXAMPLE;
 use tracees::{Mismatch, Receipt, audit};
 
 /// The entries of a receipt or a window: 0 stands for the example, another number for a drop record.

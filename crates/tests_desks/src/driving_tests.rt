@@ -1,11 +1,11 @@
 use crate::scenes::{GREATEST, attach};
-use tests_values::MOMENT;
 use intake::Counts;
 use std::alloc::Global;
 use std::process::Abort;
 use std::slice;
 use std::test::*;
 use stores::MemStore;
+use tests_values::MOMENT;
 use trace_message::Event;
 use trace_port::{FilePort, PortFault, TracePort};
 use trace_terms::{NoMemory, Term};

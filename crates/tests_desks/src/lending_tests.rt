@@ -1,9 +1,9 @@
 use crate::scenes::GREATEST;
 use crate::tracees_tests::left;
-use tests_values::EXAMPLE;
 use entry_codec::Entry;
 use std::test::*;
 use stores::MemStore;
+use tests_values::EXAMPLE;
 use trace_port::{FilePort, begin_create, put_both, put_one};
 use trace_store::Store;
 

@@ -1,8 +1,8 @@
 //! What the tests of desks begin with. What is refused memory is made once more.
 
-use tests_values::{RECEIVE, pid};
 use intake::Tracee;
 use std::alloc::Global;
+use tests_values::{RECEIVE, pid};
 
 /// The entry of `{trace,<nonode@nohost.80.0.0>,'receive',ok}`.
 pub(crate) const MESSAGE: &[u8] =

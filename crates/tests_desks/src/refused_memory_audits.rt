@@ -1,11 +1,11 @@
 //! Audits while memory is refused, which need none.
 
 use crate::memory_scenes::{MESSAGE, room};
-use tests_values::is_refused_for_good;
 use entry_codec::Entry;
 use recovery::Recovered;
 use std::alloc::Global;
 use std::test::*;
+use tests_values::is_refused_for_good;
 use tracees::{Mismatch, Receipt, audit};
 
 /// An entry of these bytes, which are copied once more where that was refused memory.

@@ -1,15 +1,15 @@
 //! Desks that hand over, and runs of steps, while memory is refused.
 
 use crate::fixed_store::FixedStore;
-use crate::refused_memory_ports::{FILE, GREATEST, SEAL};
 use crate::memory_scenes::{MESSAGE, ONE_MESSAGE, tracee};
-use tests_values::{MOMENT, TRIES, is_refused_for_good, receipt_of_ok};
+use crate::refused_memory_ports::{FILE, GREATEST, SEAL};
 use entry_codec::Entry;
 use intake::{EmitFault, Offer, Tracee};
 use std::alloc::Global;
 use std::process::Abort;
 use std::slice;
 use std::test::*;
+use tests_values::{MOMENT, TRIES, is_refused_for_good, receipt_of_ok};
 use trace_message::Event;
 use trace_port::{FilePort, Opening, Pending, TracePort, begin_create};
 use tracees::{Desk, HandFault, PlainBook, Receipt, Reply, Step, Traced, drive, record_one};

@@ -3,12 +3,12 @@
 ghost use Rattle.entry_codec.specs.{Entries.IsLawful, Seen.view};
 
 use crate::fixed_store::FixedStore;
-use tests_values::{TRIES, is_refused_for_good};
 use entry_codec::Entry;
 use recovery::RecoverFault;
 use std::alloc::Global;
 use std::process::Abort;
 use std::test::*;
+use tests_values::{TRIES, is_refused_for_good};
 use trace_port::{CreateFault, FilePort, ResumeFault, TracePort};
 use wrap_port::{WrapPort, WrapSpec};
 

@@ -6,13 +6,13 @@ ghost use Rattle.tests_desks.specs.Beginnings.{Begins};
 
 use crate::ledgers::{Told, Work, over_a_file};
 use crate::threads_tests::{Do, Plan, Until, jobs};
-use tests_values::{TRIES, is_refused_for_good};
 use intake::EmitFault;
 use std::alloc::Global;
 use std::process::Abort;
 use std::sync::{Mutex, Wait};
 use std::test::*;
 use std::thread::Threads;
+use tests_values::{TRIES, is_refused_for_good};
 use trace_port::TracePort;
 use tracees::{ActFault, Bookkeeping, Desk, HandFault, Job, JobState, SharedBook, run_threads};
 

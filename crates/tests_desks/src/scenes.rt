@@ -2,11 +2,11 @@
 
 ghost use Rattle.std.specs.Prelude.{◌≡◌};
 
-use tests_values::{MOMENT, RECEIVE};
 use intake::{Offer, Tracee};
 use std::alloc::Global;
 use std::process::Abort;
 use std::test::*;
+use tests_values::{MOMENT, RECEIVE};
 use trace_message::Event;
 use trace_port::TracePort;
 use trace_terms::{Atom, NoMemory, Pid, Term};

@@ -5,7 +5,6 @@ ghost use Rattle.tests_desks.specs.Beginnings.{Begins};
 use crate::ledgers::{Told, Work, over_a_file, over_a_wrap};
 use crate::scenes::{receipt_of_ok, tracee};
 use crate::settling_tests::told;
-use tests_values::MOMENT;
 use entry_codec::Entry;
 use recovery::{Recovered, recover};
 use std::alloc::Global;
@@ -15,6 +14,7 @@ use std::sync::{Mutex, Wait};
 use std::test::*;
 use std::thread::Threads;
 use stores::Pick;
+use tests_values::MOMENT;
 use trace_port::{PortFault, PortState, Status, TracePort};
 use trace_terms::NoMemory;
 use tracees::{

@@ -1,7 +1,6 @@
 ghost use Rattle.std.specs.Prelude.{◌≡◌};
 
 use crate::scenes::{GREATEST, attach, receipt_of_ok};
-use tests_values::MOMENT;
 use entry_codec::Entry;
 use intake::Offer;
 use recovery::recover;
@@ -9,6 +8,7 @@ use std::alloc::Global;
 use std::process::Abort;
 use std::test::*;
 use stores::MemStore;
+use tests_values::MOMENT;
 use trace_port::{FilePort, TracePort};
 use trace_terms::NoMemory;
 use tracees::{

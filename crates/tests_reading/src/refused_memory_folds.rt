@@ -1,12 +1,12 @@
 //! Folds over a window, while memory is refused.
 
 use crate::trace_client_tests::RECEIVE;
-use tests_values::{TRIES, is_refused_for_good};
 use entry_codec::Entry;
 use recovery::Recovered;
 use std::alloc::Global;
 use std::cell::Cell;
 use std::test::*;
+use tests_values::{TRIES, is_refused_for_good};
 use trace_client::{Item, fold_trace};
 
 /// An entry of these bytes, which are copied once more where that was refused memory.

@@ -4,11 +4,11 @@ ghost use Rattle.std.specs.Process.{exit_status};
 ghost use Rattle.trace_advice.specs.Complaints.{status_told};
 ghost use Rattle.trace_advice.specs.Statuses.{status_of_done};
 
+use crate::complaint::Complaint;
 use script_port::SimFault;
 use std::io;
 use std::io::ErrorKind;
 use std::process::ExitCode;
-use crate::complaint::Complaint;
 
 /// Tells what ended the command on standard error, where that can be had.
 fn fail(rt: &HostRuntime, complaint: &Complaint) -> ExitCode
