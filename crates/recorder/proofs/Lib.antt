@@ -1,3 +1,4 @@
+pub mod NotBlank
 pub mod Telling
 pub mod Naming
 pub mod Failing

@@ -165,7 +165,7 @@ Changes _ = Unit {0}
 abbrev pub Serves : TraceRequest → Files → Files → Outside → Observations → Option (List ℕ) → Option (List ℕ) → Result Unit Complaint → Type 0
 Serves (requests.List asked is_pretty) old new saw observed was now result = LooksOver old.store new.store (IsRead (ListsStore (style_of is_pretty)) (as_lines (style_of is_pretty)) (IsToldAt old.place new.store) (reads_of old.store) was now result)
 Serves (requests.Export asked) old new saw observed was now result = LooksOver old.store new.store (IsRead ExportsStore as_bytes (IsToldAt old.place new.store) (reads_of old.store) was now result)
-Serves (requests.Salvage asked form) old new saw observed was now result = LooksOver old.store new.store (IfErr result (IsSalvage (written_as form) (IsToldAt old.place new.store) (reads_of old.store) was now)) × IsErr result × IfErr result (λ complaint. status_told complaint ≡ 1)
+Serves (requests.Salvage asked form) old new saw observed was now result = LooksOver old.store new.store (IfErr result (IsSalvage (written_as form) (IsToldAt old.place new.store) (Rose (failures_of old.store) (failures_of new.store)) (reads_of old.store) was now)) × IsErr result × IfErr result (λ complaint. status_told complaint ≡ 1)
 Serves (requests.Info asked is_json) old new saw observed was now result = LooksOver old.store new.store (IsInfo (IsToldAt old.place new.store) (reads_of old.store) result) × IfErr result (λ complaint. status_told complaint ≡ 1)
 Serves (requests.Wipe asked is_forced) old new saw observed was now result = (honest_of new.store → Clears (clearing_of is_forced) old.place old.store new.store was now result)
     × (honest_of new.store → IsNotToWipe (clearing_of is_forced) (reads_of old.store) → OnlyLooks old.store new.store) × (honest_of new.store → LeavesOnly clock_of moments_of old.store new.store (IsClearing (images_of old.store)))
