@@ -1,10 +1,12 @@
 -- What each open file of a trace holds by itself, written whether or not the trace is refused.
-use Rattle.std.specs.Prelude.{◌≡◌, ℕ, List, Option}
+use Rattle.std.specs.Prelude.{◌≡◌, ℕ, ◌+◌, ◌*◌, length, List, Option}
 use Rattle.std.specs.Io.KnownBytes.{Appends, Keeps}
 use Rattle.trace_client.specs.Forms.{Form}
 use Rattle.trace_store.specs.Disk.{Image}
 use Rattle.trace_files.specs.Standing.{IsStanding}
 use Rattle.trace_files.specs.declared.standing.Standing.TheVariants as standings
+use Rattle.recovery.specs.CallCounts.{most_in}
+use Rattle.recorder.specs.Files.{most_to_tell}
 use Rattle.window_reader.specs.Salvage.{IsSalvaged, IsSalvageBegun, IsLeftOf}
 use Rattle.window_reader.specs.declared.salvaging.Salvaged.{Salvaged}
 use Rattle.trace_reader.specs.declared.fault.ReadFault.{ReadFault}
@@ -15,6 +17,10 @@ use Rattle.trace_advice.specs.declared.complaint.Complaint.TheVariants as compla
 use Rattle.script_port.specs.declared.fault.SimFault.TheVariants as faults
 use Rattle.script_port.specs.declared.fault.SimFault.{SimFault}
 use Rattle.recorder.specs.Telling.{IsOfMemory, IsOfWriter}
+
+-- the most device calls of one: to read each open file, to see whether a file has a byte, and to tell of a fault
+abbrev pub most_to_salvage : Image → ℕ
+most_to_salvage image = 5 * length image + most_in image + most_to_tell image
 
 -- what a salvage came to, as it is told
 pub record IsSum (s : Salvaged) (told : Salvage) : Type 0 where

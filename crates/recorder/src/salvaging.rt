@@ -4,7 +4,7 @@ ghost use Rattle.trace_store.specs.Moments.{Rose};
 ghost use Rattle.stores.specs.FolderStore.{reads_of, failures_of};
 ghost use Rattle.trace_advice.specs.Complaints.{status_told};
 ghost use Rattle.trace_reader.specs.WritesOut.{form_of};
-ghost use Rattle.recorder.specs.{Files.LooksOver, Commands.written_as, Naming.IsToldAt, Salvaging.TellsSum, Salvaging.IsSalvage, Telling.IsOfMemory};
+ghost use Rattle.recorder.specs.{Files.LooksOver, Commands.written_as, Naming.IsToldAt, Salvaging.most_to_salvage, Salvaging.TellsSum, Salvaging.IsSalvage, Telling.IsOfMemory};
 
 use crate::commands::{style, written_out};
 use crate::doing::Doing;
@@ -81,7 +81,8 @@ pub fn salvage<W: Write, H: Host>(
     form: Form,
     watched: &mut Watched<'_, W, H>,
 ) -> Result<(), Complaint>
-    ensures salvage { LooksOver files.old.store files.new.store (IfErr result
+    ensures salvage { LooksOver files.old.store files.new.store (most_to_salvage (reads_of files.old.store))
+        (IfErr result
         (IsSalvage (written_as form) (IsToldAt files.old.place files.new.store)
         (Rose (failures_of files.old.store) (failures_of files.new.store)) (reads_of files.old.store)
         (W.contents watched.old.writer.now) (W.contents watched.new.writer.now))) }
