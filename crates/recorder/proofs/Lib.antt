@@ -1,3 +1,5 @@
+pub mod NotBlank
+pub mod Bounds
 pub mod Telling
 pub mod Naming
 pub mod Failing

@@ -19,9 +19,9 @@ use Rattle.trace_advice.specs.declared.kept.Kept.{Kept}
 use Rattle.trace_advice.specs.declared.complaint.Advice.{Advice}
 use Rattle.trace_advice.specs.declared.complaint.Complaint.{Complaint}
 use Rattle.trace_advice.specs.declared.complaint.Complaint.TheVariants as complaints
-use Rattle.recorder.specs.Telling.{Tells, TellsRefusal, IsToldOf, IsOfMemory}
+use Rattle.recorder.specs.Telling.{IsToldOf}
 use Rattle.std.specs.String.{string_bytes}
-use Rattle.recorder.specs.Naming.{NamesCall, NamesCrowded, Names, TellsCall, TellsAt, IsToldAt, in_use, of_file}
+use Rattle.recorder.specs.Naming.{NamesCall, NamesCrowded, Names, TellsCall, IsToldAt}
 use Rattle.recorder.proofs.Telling.{tells_kept}
 
 -- what is told at a place is told of the fault

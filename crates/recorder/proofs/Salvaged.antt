@@ -1,9 +1,15 @@
 -- What a salvage wrote, written out.
-use Rattle.std.proofs.Common.{◌≡◌, ◌⊎◌, Option, List, ℕ, inl, inr, subst}
+use Rattle.std.proofs.Common.{◌≡◌, ◌⊎◌, Option, List, ℕ, inl, inr, sym, subst}
 use Rattle.std.specs.Io.KnownBytes.{Appends, Keeps}
 use Rattle.trace_store.specs.Disk.{Image}
 use Rattle.trace_client.specs.Forms.{Form}
 use Rattle.trace_reader.specs.declared.fault.ReadFault.{ReadFault}
+use Rattle.trace_store.specs.Moments.{Rose}
+use Rattle.stores.specs.FolderStore.{honest_of, reads_of, failures_of}
+use Rattle.stores.specs.declared.folder_store.FolderStore.{FolderStore}
+use Rattle.trace_files.specs.Standing.{IsStanding}
+use Rattle.trace_files.specs.declared.standing.Standing.TheVariants as standings
+use Rattle.recorder.specs.Files.{OnlyLooks}
 use Rattle.trace_reader.specs.Salvage.{IsSalvaged, IsSalvageBegun, IsLeftOf}
 use Rattle.trace_reader.specs.declared.salvaging.Salvaged.{Salvaged}
 use Rattle.trace_advice.specs.Faults.{read_fault}
@@ -13,16 +19,26 @@ use Rattle.recorder.specs.Telling.{IsOfMemory}
 use Rattle.recorder.specs.Salvaging.{TellsSum, IsSummary, sums, not_told, IsSalvage, whole, stopped}
 
 -- all of it
-pub salvaged_whole : (own form : Form) (Told : SimFault → Complaint → Type 0) (image : Image) (s : Salvaged) (was mid now : Option (List ℕ)) (complaint : Complaint) → own ≡ form → ((text : List ℕ) × IsSalvaged own image s text × Appends was mid text) → Keeps mid now → IsSummary Told s complaint → IsSalvage form Told image was now complaint
-salvaged_whole own form Told image s was mid now complaint is wrote keeps told = subst (λ (f : Form). IsSalvage f Told image was now complaint) is (whole s wrote.0 mid wrote.1 wrote.2 keeps told)
+pub salvaged_whole : (own form : Form) (Told : SimFault → Complaint → Type 0) (Failed : Type 0) (image : Image) (s : Salvaged) (was mid now : Option (List ℕ)) (complaint : Complaint) → own ≡ form → ((text : List ℕ) × IsSalvaged own image s text × Appends was mid text) → Keeps mid now → IsSummary Told Failed image s complaint → IsSalvage form Told Failed image was now complaint
+salvaged_whole own form Told Failed image s was mid now complaint is wrote keeps told = subst (λ (f : Form). IsSalvage f Told Failed image was now complaint) is (whole s wrote.0 mid wrote.1 wrote.2 keeps told)
 
 -- what a fault leaves
-pub salvaged_until : (own form : Form) (Told : SimFault → Complaint → Type 0) (image : Image) (fault : ReadFault) (was mid now : Option (List ℕ)) (complaint : Complaint) → own ≡ form → IsLeftOf (IsSalvageBegun own image) fault was mid → Keeps mid now → Told (read_fault fault) complaint → IsSalvage form Told image was now complaint
-salvaged_until own form Told image fault was mid now complaint is left keeps told = subst (λ (f : Form). IsSalvage f Told image was now complaint) is (stopped fault mid left keeps told)
+pub salvaged_until : (own form : Form) (Told : SimFault → Complaint → Type 0) (Failed : Type 0) (image : Image) (fault : ReadFault) (was mid now : Option (List ℕ)) (complaint : Complaint) → own ≡ form → IsLeftOf (IsSalvageBegun own image) fault was mid → Keeps mid now → Told (read_fault fault) complaint → IsSalvage form Told Failed image was now complaint
+salvaged_until own form Told Failed image fault was mid now complaint is left keeps told = subst (λ (f : Form). IsSalvage f Told Failed image was now complaint) is (stopped fault mid left keeps told)
 
 -- what it came to is told, or there is no memory for that
-pub sums_up : (Told : SimFault → Complaint → Type 0) (s : Salvaged) (complaint : Complaint) → TellsSum s complaint ⊎ IsOfMemory complaint → IsSummary Told s complaint
-sums_up Told s complaint told = elim told [
-  | inl own ↦ sums complaint own
+pub sums_up : (Told : SimFault → Complaint → Type 0) (Failed : Type 0) (image : Image) (s : Salvaged) (complaint : Complaint) → (s.files ≡ 0 → IsStanding standings.Absent image → Failed) → TellsSum s complaint ⊎ IsOfMemory complaint → IsSummary Told Failed image s complaint
+sums_up Told Failed image s complaint there told = elim told [
+  | inl own ↦ sums complaint own there
   | inr other ↦ not_told complaint other
 ]
+
+-- no file has a byte, as the files were before they were looked at
+pub absent_before : (old mid : FolderStore) → OnlyLooks old mid → honest_of mid → IsStanding standings.Absent (reads_of mid) → IsStanding standings.Absent (reads_of old)
+absent_before old mid looks h none = subst (λ (i : Image). IsStanding standings.Absent i) (looks.same_reads h) none
+
+-- where that isn't said, a device call failed
+pub failed_since : (old mid : FolderStore) (now : ℕ) (files : ℕ) → OnlyLooks old mid → honest_of mid → failures_of mid ≡ failures_of old → (files ≡ 0 → IsStanding standings.Absent (reads_of mid) → Rose (failures_of mid) now)
+    → files ≡ 0 → IsStanding standings.Absent (reads_of old) → Rose (failures_of old) now
+failed_since old mid now files looks h same failed zero none =
+    subst (λ (n : ℕ). Rose n now) same (failed zero (subst (λ (i : Image). IsStanding standings.Absent i) (sym (looks.same_reads h)) none))

@@ -1,5 +1,5 @@
 -- What a command does with the files of a trace.
-use Rattle.std.specs.Prelude.{◌≡◌, ℕ, Bool, true, false, Option, None, List, [], Result, Ok, Err, IsErr, IfSome, IfErr}
+use Rattle.std.specs.Prelude.{◌≡◌, ◌≢◌, ◌*◌, ℕ, Bool, true, false, Option, None, List, [], Result, Ok, Err, IsErr, IfSome, IfErr}
 use Rattle.std.specs.Io.KnownBytes.{Appends, Keeps}
 use Rattle.trace_store.specs.Disk.{Image}
 use Rattle.trace_store.specs.Moments.{Rose, LeavesOnly}
@@ -26,6 +26,7 @@ use Rattle.trace_reader.specs.Streamed.{StopsBy}
 use Rattle.trace_reader.specs.Wiping.{HasForeign, IsWhyNotWiped, IsNotToWipe}
 use Rattle.trace_reader.specs.declared.fault.ReadFault.{ReadFault}
 use Rattle.trace_reader.specs.declared.fault.WipeFault.{WipeFault}
+use Rattle.trace_reader.specs.declared.fault.WipeFault.TheVariants as wiping
 use Rattle.trace_reader.specs.declared.wiping.Clearing.{Clearing}
 use Rattle.trace_reader.specs.declared.wiping.Clearing.TheVariants.{Own, Any}
 use Rattle.command_line.specs.declared.request.Rules.{Rules}
@@ -39,9 +40,10 @@ use Rattle.script_port.specs.Faults.{run_fault, IsFaultOfDevice}
 use Rattle.trace_advice.specs.Faults.{read_fault, wipe_fault}
 use Rattle.recorder.specs.Telling.{IsOfMemory, IsOfWriter}
 use Rattle.recorder.specs.Naming.{IsToldAt}
-use Rattle.recorder.specs.Informing.{IsInfo}
-use Rattle.recorder.specs.Salvaging.{IsSalvage}
-use Rattle.recorder.specs.Files.{OnlyLooks, LooksWell, LooksBehind, LooksOver, MayFail, WasRecorded, WasFed, IsKeptOf}
+use Rattle.recorder.specs.Informing.{most_to_sum, IsInfo}
+use Rattle.recorder.specs.Salvaging.{most_to_salvage, IsSalvage}
+use Rattle.recorder.specs.Live.{most_to_read}
+use Rattle.recorder.specs.Files.{most_with, CallsToClear, CallsToLook, CallsToEnd, OnlyLooks, LooksWell, LooksBehind, LooksOver, MayFail, WasRecorded, WasFed, IsKeptOf}
 use Rattle.trace_recording.specs.Incoming.{Outside, outside}
 use Rattle.trace_recording.specs.Beginning.{Begins, EndsWithin, IsUnread}
 use Rattle.trace_recording.specs.declared.incoming.Incoming.{Incoming}
@@ -82,12 +84,13 @@ pub record IsCleared (clearing : Clearing) (old new : FolderStore) : Type 0 wher
   pub files : AreCleared (reads_of old) (reads_of new)
   pub closed : (c : Image) → images_of new c → IsBlank (readings c)
   pub none_foreign : (c : Image) → images_of new c → HasNoForeign c
+  pub at_most : CallsToClear old new
 
 -- how a clearing ended: it is said to be done where it is; or it is done, and that couldn't be told whole or the mark of a failed sync stays; or it isn't done
 pub data Clears (clearing : Clearing) (place : Place) (old new : FolderStore) (was now : Option (List ℕ)) : Result Unit Complaint → Type 0 where
   done : IsCleared clearing old new → Appends was now (line_of Done) → Clears clearing place old new was now (Ok tt)
   not_told : (complaint : Complaint) → IsCleared clearing old new → AppendsPrefix was now (line_of Done) → status_told complaint ≡ 1 → Clears clearing place old new was now (Err complaint)
-  refused : (fault : WipeFault) (complaint : Complaint) → IsWhyNotWiped clearing fault (reads_of old) → Appends was now [] → IsToldAt place new (wipe_fault fault) complaint → Clears clearing place old new was now (Err complaint)
+  refused : (fault : WipeFault) (complaint : Complaint) → IsWhyNotWiped clearing fault (reads_of old) → (fault ≢ wiping.Device → CallsToLook old new) → Appends was now [] → IsToldAt place new (wipe_fault fault) complaint → Clears clearing place old new was now (Err complaint)
 
 -- a port was opened for a trace of this kind, of a store that was honest where it is, and no device call failed
 pub record IsOpened (spec : Spec) (old new : FolderStore) (opened : AnyOpening) (origin : Origin) : Type 0 where
@@ -118,7 +121,7 @@ pub data Feeds (place : Place) (spec : Spec) (rules : Rules) (old new : FolderSt
   -- a byte came; then a trace was opened, and the stream put into its port
   feeds : {first mid last : FolderStore} {opened : AnyOpening} {origin : Origin} {result : Result Unit Complaint} {then : Outside} {incoming : Incoming} (begins : Begins rules.skip saw then incoming)
       (remaining : Option (List ℕ)) (reads : ℕ) (come : List ℕ) (left : Incoming) (done : Result Unit SimFault) → LooksWell old first → IsOpened spec first mid opened origin
-      → WasFed opened origin rules mid last begins.mid (outside remaining reads observed) come left done (λ text. Appends was now text) → OnlyLooks last new → MayFail (failures_of last) (failures_of new) → IsExplained (IsToldAt place last) rules.skip done result
+      → WasFed opened origin rules mid last begins.mid (outside remaining reads observed) come left done (λ text. Appends was now text) → OnlyLooks last new → MayFail (failures_of last) (failures_of new) → CallsToEnd last new → IsExplained (IsToldAt place last) rules.skip done result
       -- where it is told how much of the stream is kept, so much is
       → (honest_of new → IfErr result (λ complaint. IfSome (kept_told complaint) (IsKeptOf (first_told opened (device mid)) rules.skip come (reads_of new)))) → Feeds place spec rules old new saw observed was now result
   -- a byte came; then the trace wasn't opened
@@ -163,10 +166,10 @@ Changes _ = Unit {0}
 
 -- what is done with a trace for what the command line asks, by what is seen of the stream that comes in, what is observed until the end, and the bytes that are written
 abbrev pub Serves : TraceRequest → Files → Files → Outside → Observations → Option (List ℕ) → Option (List ℕ) → Result Unit Complaint → Type 0
-Serves (requests.List asked is_pretty) old new saw observed was now result = LooksOver old.store new.store (IsRead (ListsStore (style_of is_pretty)) (as_lines (style_of is_pretty)) (IsToldAt old.place new.store) (reads_of old.store) was now result)
-Serves (requests.Export asked) old new saw observed was now result = LooksOver old.store new.store (IsRead ExportsStore as_bytes (IsToldAt old.place new.store) (reads_of old.store) was now result)
-Serves (requests.Salvage asked form) old new saw observed was now result = LooksOver old.store new.store (IfErr result (IsSalvage (written_as form) (IsToldAt old.place new.store) (reads_of old.store) was now)) × IsErr result × IfErr result (λ complaint. status_told complaint ≡ 1)
-Serves (requests.Info asked is_json) old new saw observed was now result = LooksOver old.store new.store (IsInfo (IsToldAt old.place new.store) (reads_of old.store) result) × IfErr result (λ complaint. status_told complaint ≡ 1)
+Serves (requests.List asked is_pretty) old new saw observed was now result = LooksOver old.store new.store (most_with result (most_to_read (reads_of old.store)) (reads_of old.store)) (IsRead (ListsStore (style_of is_pretty)) (as_lines (style_of is_pretty)) (IsToldAt old.place new.store) (reads_of old.store) was now result)
+Serves (requests.Export asked) old new saw observed was now result = LooksOver old.store new.store (most_with result (most_to_read (reads_of old.store)) (reads_of old.store)) (IsRead ExportsStore as_bytes (IsToldAt old.place new.store) (reads_of old.store) was now result)
+Serves (requests.Salvage asked form) old new saw observed was now result = LooksOver old.store new.store (most_to_salvage (reads_of old.store)) (IfErr result (IsSalvage (written_as form) (IsToldAt old.place new.store) (Rose (failures_of old.store) (failures_of new.store)) (reads_of old.store) was now)) × IsErr result × IfErr result (λ complaint. status_told complaint ≡ 1)
+Serves (requests.Info asked is_json) old new saw observed was now result = LooksOver old.store new.store (most_with result (5 * most_to_sum (reads_of old.store)) (reads_of old.store)) (IsInfo (IsToldAt old.place new.store) (reads_of old.store) result) × IfErr result (λ complaint. status_told complaint ≡ 1)
 Serves (requests.Wipe asked is_forced) old new saw observed was now result = (honest_of new.store → Clears (clearing_of is_forced) old.place old.store new.store was now result)
     × (honest_of new.store → IsNotToWipe (clearing_of is_forced) (reads_of old.store) → OnlyLooks old.store new.store) × (honest_of new.store → LeavesOnly clock_of moments_of old.store new.store (IsClearing (images_of old.store)))
 Serves (requests.Record asked) old new saw observed was now result = Records old.place (wanted old.place.kind (turn_of asked)) old.store new.store saw.remaining was now result

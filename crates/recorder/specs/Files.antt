@@ -1,7 +1,9 @@
 -- What is done with the real files of a trace.
-use Rattle.std.specs.Prelude.{◌≡◌, ℕ, ◌+◌, true, Option, Some, None, List, [], Result, Ok, Err}
+use Rattle.std.specs.Prelude.{◌≡◌, ℕ, ◌+◌, ◌*◌, ◌-◌, ◌^◌, ◌≤◌, min, length, true, Option, Some, None, List, [], Result, Ok, Err}
 use Rattle.std.specs.Io.KnownBytes.{Appends}
 use Rattle.segment.specs.DeviceCalls.{DeviceReads}
+use Rattle.segment.specs.Pieces.{pieces_to}
+use Rattle.recovery.specs.Wiping.{wiping_calls}
 use Rattle.trace_store.specs.Device.{OnlyReads, device_of}
 use Rattle.trace_store.specs.Moments.{Rose}
 use Rattle.stores.specs.FolderStore.{honest_of, reads_of, images_of, moments_of, clock_of, failures_of}
@@ -27,6 +29,7 @@ use Rattle.trace_store.specs.Disk.{Image}
 use Rattle.recovery.specs.Views.{View}
 use Rattle.trace_port.specs.Port.{Told, Fits}
 use Rattle.trace_advice.specs.declared.kept.Kept.{Kept}
+use Rattle.trace_advice.specs.declared.complaint.Complaint.{Complaint}
 use Rattle.script_port.specs.declared.answer.Answer.TheVariants.{Done}
 use Rattle.script_port.specs.declared.fault.SimFault.{SimFault}
 use Rattle.script_port.specs.declared.fault.SimFault.TheVariants as faults
@@ -50,15 +53,48 @@ pub data MayFail (before : ℕ) : ℕ → Type 0 where
   none : MayFail before before
   more : {mid now : ℕ} → MayFail before mid → Rose mid now → MayFail before now
 
+-- the most device calls to see which files disagree
+abbrev pub most_to_tell : Image → ℕ
+most_to_tell image = (4 + pieces_to 1099511627780) * length image
+
+-- so many, and where a fault ends it those to tell of that
+abbrev pub most_with : Result Unit Complaint → ℕ → Image → ℕ
+most_with (Ok done) most image = most
+most_with (Err complaint) most image = most + most_to_tell image
+
+-- and to see how much of an input is kept
+abbrev pub most_to_end : Image → ℕ
+most_to_end image = most_to_tell image + (2 + pieces_to 1099511627780) * length image
+
+-- so many device calls at most: to see which files disagree, to tell how an import ended, to look at the front of each file
+abbrev pub CallsToTell : FolderStore → FolderStore → Type 0
+CallsToTell old new = clock_of new ≤ clock_of old + most_to_tell (reads_of old)
+
+abbrev pub CallsToEnd : FolderStore → FolderStore → Type 0
+CallsToEnd old new = clock_of new ≤ clock_of old + most_to_end (reads_of old)
+
+abbrev pub CallsToLook : FolderStore → FolderStore → Type 0
+CallsToLook old new = clock_of new ≤ clock_of old + 2 * length (reads_of old)
+
+-- to see how much of an input is kept
+abbrev pub CallsToKeep : FolderStore → FolderStore → Type 0
+CallsToKeep old new = clock_of new ≤ clock_of old + (2 + pieces_to 1099511627780) * length (reads_of old)
+
+-- to clear the files, after a look; the clock stays at its last value
+abbrev pub CallsToClear : FolderStore → FolderStore → Type 0
+CallsToClear old new = min (clock_of new) (2 ^ 64 - 1) ≤ clock_of old + 2 * length (reads_of old) + wiping_calls (reads_of old) + 6 * length (reads_of old)
+
 -- the files were read at most, to tell of a fault; where that is of the device, no call was made behind the one that it tells of
 pub record LooksBehind (fault : SimFault) (old new : FolderStore) : Type 0 where
   pub only_reads : OnlyLooks old new
   pub failures : MayFail (failures_of old) (failures_of new)
   pub of_device : IsFaultOfDevice fault → new ≡ old
+  pub at_most : CallsToTell old new
 
--- the files were read at most, and this was told of them, where they are honest
-pub record LooksOver (old new : FolderStore) (Told : Type 0) : Type 0 where
+-- the files were read at most, by at most so many device calls, and this was told of them, where they are honest
+pub record LooksOver (old new : FolderStore) (most : ℕ) (Told : Type 0) : Type 0 where
   pub only_reads : OnlyLooks old new
+  pub at_most : honest_of new → clock_of new ≤ clock_of old + most
   pub told : honest_of new → Told
 
 -- the same of a call that answers this, with the failures that its fault tells of and at most so many device calls

@@ -1,6 +1,7 @@
 -- A trace told in numbers.
-use Rattle.std.specs.Prelude.{◌⊎◌, Result, Ok, Err}
+use Rattle.std.specs.Prelude.{ℕ, ◌+◌, ◌*◌, length, ◌⊎◌, Result, Ok, Err}
 use Rattle.trace_store.specs.Disk.{Image}
+use Rattle.recovery.specs.CallCounts.{most_in}
 use Rattle.recovery.specs.Outlined.{Outlines}
 use Rattle.recovery.specs.Stores.{readings}
 use Rattle.recovery.specs.declared.outlined.Outlined.{Outlined}
@@ -19,6 +20,10 @@ use Rattle.recorder.specs.Telling.{IsOfMemory, IsOfWriter}
 abbrev pub IsGathered : Image → Result Info ReadFault → Type 0
 IsGathered image (Ok info) = IsStanding standings.Ours image × IsJudged image info.outlined
 IsGathered image (Err fault) = IsWhyNotRead fault image
+
+-- the most device calls to read each file once
+abbrev pub most_to_sum : Image → ℕ
+most_to_sum image = 3 * length image + most_in image
 
 -- how it ended: its files are one whole trace, and that was told; or why they aren't; or it couldn't be told
 pub data IsInfo (Told : SimFault → Complaint → Type 0) (image : Image) : Result Unit Complaint → Type 0 where

@@ -11,7 +11,7 @@ use Rattle.recorder.specs.Commands.{Serves, Changes, IsUntouched, style_of, Ends
 use Rattle.trace_advice.specs.Complaints.{status_told}
 use Rattle.recorder.specs.Following.{Follows}
 use Rattle.trace_recording.specs.Incoming.{Outside, outside}
-use Rattle.recorder.specs.Sites.{asked_in, IsAtPlace}
+use Rattle.recorder.specs.Sites.{asked_in, IsAtPlace, AgreesOn, NamesTrace}
 use Rattle.trace_advice.specs.declared.complaint.Complaint.{Complaint}
 use Rattle.recorder.specs.declared.files.Files.{Files}
 use Rattle.shown_listings.specs.Listings.{Listing, Shows}
@@ -32,12 +32,14 @@ abbrev pub Does : Task → Files → Outside → Files → Listing
 Does (tasks.Asked request) files saw left = ServesTrace request files saw left
 Does (tasks.Followed is_pretty) files saw left = KeepsOn is_pretty files left
 
--- the files that are made for what is asked, of which nothing was read yet; they are locked exactly where they are to be changed
+-- the files that are made for what is asked, of which nothing was read yet; they are locked exactly where they are to be changed, and
+-- a count that is asked for is their own where they aren't to be written
 pub record AreMade (world : World) (request : TraceRequest) (files : Files) : Type 0 where
   pub past : IsUntouched world files
   pub locked : Changes request → files.store.is_locked ≡ true
   pub free : (Changes request → ⊥) → files.store.is_locked ≡ false
   pub place : IsAtPlace (asked_in request) files
+  pub agrees : NamesTrace request → AgreesOn (asked_in request) files.found
 
 -- files were made for what is asked, it was done with them and shown so, and they are left; or none could be had, and nothing is
 -- written

@@ -1,6 +1,7 @@
 //! The recorder: the commands over the files of a trace, and how what they tell is shown.
 #![tactic(auto)]
 
+mod absence;
 mod awaiting;
 mod commands;
 mod doing;

@@ -1,9 +1,10 @@
 //! What each open file of a trace holds by itself, whether or not the trace is refused.
-ghost use Rattle.std.specs.Prelude.{◌≡◌, ◌⊎◌, true, IsErr, IfErr, IfOk};
-ghost use Rattle.stores.specs.FolderStore.{reads_of};
+ghost use Rattle.std.specs.Prelude.{◌≡◌, ◌⊎◌, IsErr, IfErr, IfOk};
+ghost use Rattle.trace_store.specs.Moments.{Rose};
+ghost use Rattle.stores.specs.FolderStore.{reads_of, failures_of};
 ghost use Rattle.trace_advice.specs.Complaints.{status_told};
 ghost use Rattle.trace_reader.specs.WritesOut.{form_of};
-ghost use Rattle.recorder.specs.{Files.LooksOver, Commands.written_as, Naming.IsToldAt, Salvaging.TellsSum, Salvaging.IsSalvage, Telling.IsOfMemory};
+ghost use Rattle.recorder.specs.{Files.LooksOver, Commands.written_as, Naming.IsToldAt, Salvaging.most_to_salvage, Salvaging.TellsSum, Salvaging.IsSalvage, Telling.IsOfMemory};
 
 use crate::commands::{style, written_out};
 use crate::doing::Doing;
@@ -14,7 +15,6 @@ use command_line::Form;
 use std::alloc::AllocError;
 use std::io::Write;
 use trace_advice::{Complaint, Salvage};
-use trace_places::has_bytes;
 use trace_reader::{Host, Manner, ReadFault, Watched};
 use trace_reader::Salvaged;
 
@@ -43,23 +43,6 @@ fn passed_over(rt: &HostRuntime, files: &Files<'_>) -> Result<Vec<String>, Alloc
         }
     }
     Ok(passed)
-}
-
-/// Whether no file has a byte.
-fn are_empty(rt: &HostRuntime, files: &Files<'_>) -> Result<bool, AllocError> {
-    for file in 0..files.count() {
-        if has_bytes(rt, files.name(file)?.as_str()) {
-            return Ok(false);
-        }
-    }
-    Ok(true)
-}
-
-/// Whether nothing was salvaged, since there is no trace.
-fn is_absent(rt: &HostRuntime, files: &Files<'_>, salvaged: &Salvaged) -> bool
-    ensures { result ≡ true → salvaged.now.files ≡ 0 }
-{
-    salvaged.files == 0 && are_empty(rt, files).unwrap_or(false)
 }
 
 /// What a salvage came to.
@@ -98,8 +81,10 @@ pub fn salvage<W: Write, H: Host>(
     form: Form,
     watched: &mut Watched<'_, W, H>,
 ) -> Result<(), Complaint>
-    ensures salvage { LooksOver files.old.store files.new.store (IfErr result
-        (IsSalvage (written_as form) (IsToldAt files.old.place files.new.store) (reads_of files.old.store)
+    ensures salvage { LooksOver files.old.store files.new.store (most_to_salvage (reads_of files.old.store))
+        (IfErr result
+        (IsSalvage (written_as form) (IsToldAt files.old.place files.new.store)
+        (Rose (failures_of files.old.store) (failures_of files.new.store)) (reads_of files.old.store)
         (W.contents watched.old.writer.now) (W.contents watched.new.writer.now))) }
     ensures never { IsErr result }
     ensures status { IfErr result (λ complaint. status_told complaint ≡ 1) }
@@ -110,7 +95,7 @@ pub fn salvage<W: Write, H: Host>(
     match done {
         Ok(salvaged) => match written_out(flushed) {
             Ok(()) => {
-                if is_absent(rt, files, &salvaged) {
+                if files.is_absent(salvaged.files) {
                     Err(told(files, ReadFault::Absent, Doing::Other))
                 } else {
                     Err(summary_at_least(rt, files, &salvaged))

@@ -1,9 +1,9 @@
 //! The files of the trace that a command line asks for.
-ghost use Rattle.std.specs.Prelude.{◌≡◌, true, false, IfOk, IfErr};
+ghost use Rattle.std.specs.Prelude.{◌≡◌, true, false, IfOk, OnOk, IfErr};
 ghost use Rattle.stores.specs.Events.{World};
 ghost use Rattle.trace_places.specs.Finding.{IsFound};
 ghost use Rattle.trace_advice.specs.Complaints.{status_told};
-ghost use Rattle.recorder.specs.{Commands.Changes, Commands.IsUntouched, Commands.IsFree, Commands.IsLocked, Sites.asked_in, Sites.IsAtPlace, Sites.HasFiles};
+ghost use Rattle.recorder.specs.{Commands.Changes, Commands.IsUntouched, Commands.IsFree, Commands.IsLocked, Sites.asked_in, Sites.IsAtPlace, Sites.AgreesOn, Sites.IsOfCounts, Sites.IsWhyNotFound, Sites.NamesTrace, Sites.HasFiles};
 
 use crate::files::Files;
 use command_line::{Asked, TraceRequest, Wanted};
@@ -18,6 +18,8 @@ pub fn files_for<'a>(rt: &HostRuntime, request: &TraceRequest<'a>) -> Result<Fil
     ensures locked { Changes request.now → IfOk result (λ files. files.store.is_locked ≡ true) }
     ensures free { (Changes request.now → ⊥) → IfOk result (λ files. files.store.is_locked ≡ false) }
     ensures place { IfOk result (IsAtPlace (asked_in request.now)) }
+    ensures agrees { NamesTrace request.now
+        → IfOk result (λ files. AgreesOn (asked_in request.now) files.found) }
     ensures refused { IfErr result (λ complaint. status_told complaint ≡ 1) }
 {
     match request {
@@ -53,22 +55,31 @@ fn check_room(rt: &HostRuntime, place: &Place<'_>) -> Result<(), Complaint>
     }
 }
 
+/// Refuses a count of the command line that isn't what the files say.
+fn check_count(rt: &HostRuntime, asked: &Asked<'_>, found: &Found) -> Result<(), Complaint>
+    ensures agrees { OnOk result (AgreesOn asked.now found.now) }
+    ensures differs { IfErr result (IsOfCounts asked.now found.now) }
+{
+    match (found.count(), asked.count) {
+        (Some(own), Some(given)) if own != given => Err(Complaint::Differs {
+            name: String::from_str(rt.alloc(), asked.base)?,
+            given,
+            own,
+        }),
+        _ => Ok(()),
+    }
+}
+
 /// What was found of a trace that the command line names. What the files say of themselves counts, and what the command
 /// line says has to agree.
 fn found_to_read(rt: &HostRuntime, asked: Asked<'_>) -> Result<Found, Complaint>
     ensures found { IfOk result (IsFound asked.entry.shape) }
+    ensures agrees { IfOk result (AgreesOn asked.entry) }
+    ensures why_not { IfErr result (IsWhyNotFound asked.entry) }
     ensures refused { IfErr result (λ complaint. status_told complaint ≡ 1) }
 {
     let found = find(*rt, asked)?;
-    if let (Some(own), Some(given)) = (found.count(), asked.count)
-        && own != given
-    {
-        return Err(Complaint::Differs {
-            name: String::from_str(rt.alloc(), asked.base)?,
-            given,
-            own,
-        });
-    }
+    check_count(rt, &asked, &found)?;
     if matches!(found, Found::File) {
         tell_idle_on_file(rt, &asked);
     }
@@ -79,6 +90,7 @@ fn found_to_read(rt: &HostRuntime, asked: Asked<'_>) -> Result<Found, Complaint>
 fn files_to_read<'a>(rt: &HostRuntime, asked: Asked<'a>) -> Result<Files<'a>, Complaint>
     ghost world: { World }
     ensures files { HasFiles (IsFree world) asked.entry result }
+    ensures agrees { IfOk result (λ files. AgreesOn asked.entry files.found) }
 {
     let found = found_to_read(rt, asked)?;
     let files = Files::at(*rt, asked, found)?;
@@ -92,6 +104,7 @@ fn files_to_read<'a>(rt: &HostRuntime, asked: Asked<'a>) -> Result<Files<'a>, Co
 fn files_to_wipe<'a>(rt: &HostRuntime, asked: Asked<'a>) -> Result<Files<'a>, Complaint>
     ghost world: { World }
     ensures files { HasFiles (IsLocked world) asked.entry result }
+    ensures agrees { IfOk result (λ files. AgreesOn asked.entry files.found) }
 {
     let found = found_to_read(rt, asked)?;
     check_room(rt, &Place::of(&asked, &found))?;

@@ -1,4 +1,6 @@
-use Rattle.std.proofs.Common.{◌≡◌, ◌⊎◌, ◌≤◌, ◌-◌}
+use Rattle.std.proofs.Common.{◌≡◌, ◌⊎◌, ◌≤◌, ◌+◌, ◌*◌, ◌-◌}
+use Rattle.stores.specs.FolderStore.{honest_of, reads_of, clock_of}
+use Rattle.recorder.specs.Informing.{most_to_sum}
 use Rattle.recorder.specs.Files.{OnlyLooks}
 use Rattle.recorder.proofs.informing.look_over.Given as goal
 
@@ -7,6 +9,7 @@ abbrev pub invariant-readings : goal.invariant-readings
 invariant-readings l = record {
   few : l.made ≤ 4;
   place : l.files.place ≡ l.fn.files.place;
+  calls : honest_of l.files.store → clock_of l.files.store ≤ clock_of l.fn.files.store + l.made * most_to_sum (reads_of l.fn.files.store);
   only_reads : (l.files.store ≡ l.fn.files.store) ⊎ OnlyLooks l.fn.files.store l.files.store;
 }
 

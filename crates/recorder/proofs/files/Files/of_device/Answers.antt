@@ -1,9 +1,8 @@
-use Rattle.std.proofs.Common.{rules, ◌≡◌, refl}
+use Rattle.std.proofs.Common.{rules}
 use Rattle.stores.specs.FolderStore.{fault_of}
-use Rattle.stores.specs.Held.{IsHeld}
 use Rattle.script_port.specs.Faults.{IsOfDevice}
 use Rattle.recorder.specs.Naming.{in_use, of_file}
-use Rattle.recorder.proofs.Naming.{names_call, names_refusal}
+use Rattle.recorder.proofs.Naming.{names_call}
 use Rattle.recorder.proofs.files.Files.of_device.Goals as goal
 use Rattle.recorder.proofs.files.Files.of_device.Goals.{then-is_held, else-is_held+in_ok-clone}
 
