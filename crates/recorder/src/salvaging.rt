@@ -15,8 +15,7 @@ use command_line::Form;
 use std::alloc::AllocError;
 use std::io::Write;
 use trace_advice::{Complaint, Salvage};
-use trace_reader::{Host, Manner, ReadFault, Watched};
-use trace_reader::Salvaged;
+use trace_reader::{Host, Manner, ReadFault, Salvaged, Watched};
 
 /// How entries are written.
 fn manner(form: Form) -> Manner
