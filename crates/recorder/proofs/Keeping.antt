@@ -1,5 +1,5 @@
 -- How much of an input is told as kept.
-use Rattle.std.proofs.Common.{◌≡◌, ℕ, ◌+◌, Option, Some, None, List, Result, Ok, Err, IfSome, IfErr, MatchOption, sym, subst, arith}
+use Rattle.std.proofs.Common.{◌≡◌, ℕ, ◌+◌, Option, Some, None, List, Result, Ok, Err, IfSome, IfErr, MatchOption, refl, sym, subst, arith}
 use Rattle.trace_store.specs.Disk.{Image}
 use Rattle.stores.specs.FolderStore.{honest_of, reads_of}
 use Rattle.stores.specs.declared.folder_store.FolderStore.{FolderStore}
@@ -22,7 +22,7 @@ use Rattle.trace_advice.specs.declared.complaint.Complaint.TheVariants as compla
 use Rattle.trace_recording.specs.Incoming.{Outside}
 use Rattle.trace_recording.specs.Marks.{HasTotal, whole, blank, KeepsFirst}
 use Rattle.trace_recording.specs.declared.incoming.Incoming.{Incoming}
-use Rattle.recorder.specs.Files.{OnlyLooks, WasFed, IsCounted, IsKeptOf}
+use Rattle.recorder.specs.Files.{OnlyLooks, WasFed, IsCounted, CountsSo, IsCount, not_counted, IsKeptOf}
 use Rattle.recorder.specs.Commands.{device}
 
 -- what is told is what was found, or nothing
@@ -41,6 +41,11 @@ total_read image r n reads is = by_spec r.spec reads
     by_spec : (spec : Option StoreSpec) → MatchOption spec (IsBlank (readings image) × HasNothing r) (λ s. (c : Chain) × IsStore (spec_seen s) c (readings image) × IsOutlineOf (spec_seen s) c r) → HasTotal image n
     by_spec None none = blank (is_blank none.0) (omega (arith, is, none.1.total))
     by_spec (Some spec) there = whole (spec_seen spec) (view_of (spec_seen spec) there.0) there.0.newest.sealed (holds (spec_seen spec) there.0 there.1) (omega (arith, is, there.2.numbers.total))
+
+-- it is counted, or it isn't known
+pub is_count : (image : Image) (r : Outlined) (skip before : ℕ) (incoming : Incoming) (Failed : Type 0) (kept : Option Kept) → Outlines (readings image) r → CountsSo skip before incoming r.total kept → IsCount skip before incoming image Failed kept
+is_count image r skip before incoming Failed None reads none = not_counted r.total (total_read image r r.total reads refl) none
+is_count image r skip before incoming Failed (Some kept) reads counted = record { bytes = counted.0; after = counted.1; mark = counted.2; total = total_read image r (before + kept.entries) reads counted.3 }
 
 -- what is found after an import is what it kept
 pub keeps_found : (opened : AnyOpening) (origin : Origin) (rules : Rules) (mid last new : FolderStore) (was is : Outside) (come : List ℕ) (incoming : Incoming) (done : Result Unit SimFault) (Writes : List ℕ → Type 0) (skip before : ℕ) (kept : Kept)

@@ -1,5 +1,5 @@
 -- What is done with the real files of a trace.
-use Rattle.std.specs.Prelude.{◌≡◌, ℕ, ◌+◌, ◌*◌, ◌-◌, ◌^◌, ◌≤◌, min, length, true, Option, Some, None, List, [], Result, Ok, Err}
+use Rattle.std.specs.Prelude.{◌≡◌, ◌≢◌, ◌<◌, ℕ, ◌+◌, ◌*◌, ◌-◌, ◌^◌, ◌≤◌, min, length, true, Option, Some, None, List, [], Result, Ok, Err}
 use Rattle.std.specs.Io.KnownBytes.{Appends}
 use Rattle.segment.specs.DeviceCalls.{DeviceReads}
 use Rattle.segment.specs.Pieces.{pieces_to}
@@ -27,6 +27,9 @@ use Rattle.trace_recording.specs.Marks.{HasMark, HasTotal, KeepsFirst}
 use Rattle.trace_recording.specs.declared.incoming.Incoming.{Incoming}
 use Rattle.trace_store.specs.Disk.{Image}
 use Rattle.recovery.specs.Views.{View}
+use Rattle.recovery.specs.Recovery.{Refuses}
+use Rattle.recovery.specs.declared.fault.RecoverFault.{RecoverFault}
+use Rattle.recovery.specs.declared.fault.RecoverFault.TheVariants as causes
 use Rattle.trace_port.specs.Port.{Told, Fits}
 use Rattle.trace_advice.specs.declared.kept.Kept.{Kept}
 use Rattle.trace_advice.specs.declared.complaint.Complaint.{Complaint}
@@ -136,6 +139,27 @@ pub record IsCounted (skip before : ℕ) (incoming : Incoming) (image : Image) (
   pub after : kept.bytes ≡ bytes + skip
   pub mark : HasMark incoming kept.entries bytes
   pub total : HasTotal image (before + kept.entries)
+
+-- why it isn't known: fewer entries than before are there, or where so many end isn't known or no u64 holds it
+pub data NotCounted (skip before : ℕ) (incoming : Incoming) (total : ℕ) : Type 0 where
+  fewer : total < before → NotCounted skip before incoming total
+  no_mark : (entries : ℕ) → before + entries ≡ total → ((bytes : ℕ) → HasMark incoming entries bytes → ⊥) → NotCounted skip before incoming total
+  too_far : (entries bytes : ℕ) → before + entries ≡ total → HasMark incoming entries bytes → 2 ^ 64 ≤ bytes + skip → NotCounted skip before incoming total
+
+-- or the files aren't read
+pub data IsUnknown (skip before : ℕ) (incoming : Incoming) (image : Image) (Failed : Type 0) : Type 0 where
+  not_counted : (total : ℕ) → HasTotal image total → NotCounted skip before incoming total → IsUnknown skip before incoming image Failed
+  refused : (fault : RecoverFault) → fault ≢ causes.NoMemory → (fault ≡ causes.Device → Failed) → Refuses image fault → IsUnknown skip before incoming image Failed
+
+-- how much is counted, or why that isn't known
+abbrev pub IsCount : ℕ → ℕ → Incoming → Image → Type 0 → Option Kept → Type 0
+IsCount skip before incoming image Failed None = IsUnknown skip before incoming image Failed
+IsCount skip before incoming image Failed (Some kept) = IsCounted skip before incoming image kept
+
+-- the same by how many entries there are
+abbrev pub CountsSo : ℕ → ℕ → Incoming → ℕ → Option Kept → Type 0
+CountsSo skip before incoming total None = NotCounted skip before incoming total
+CountsSo skip before incoming total (Some kept) = (bytes : ℕ) × (kept.bytes ≡ bytes + skip) × HasMark incoming kept.entries bytes × (before + kept.entries ≡ total)
 
 -- so much is kept of an input, of which so many bytes were passed over and these came then: after what a port over an opening found there, a store has exactly so many entries, those of the bytes up to there
 pub record IsKeptOf (opened : Told) (skip : ℕ) (come : List ℕ) (image : Image) (kept : Kept) : Type 0 where

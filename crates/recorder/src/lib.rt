@@ -4,6 +4,7 @@
 mod absence;
 mod awaiting;
 mod commands;
+mod counting;
 mod doing;
 mod files;
 mod following;
