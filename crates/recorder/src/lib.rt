@@ -5,6 +5,7 @@ mod absence;
 mod awaiting;
 mod commands;
 mod counting;
+mod crowded;
 mod doing;
 mod files;
 mod following;

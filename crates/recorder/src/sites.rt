@@ -5,10 +5,11 @@ ghost use Rattle.trace_places.specs.Finding.{IsFound};
 ghost use Rattle.trace_advice.specs.Complaints.{status_told};
 ghost use Rattle.recorder.specs.{Commands.Changes, Commands.IsUntouched, Commands.IsFree, Commands.IsLocked, Sites.asked_in, Sites.IsAtPlace, Sites.AgreesOn, Sites.IsOfCounts, Sites.IsWhyNotFound, Sites.NamesTrace, Sites.HasFiles};
 
+use crate::crowded::check_room;
 use crate::files::Files;
 use command_line::{Asked, TraceRequest, Wanted};
 use trace_advice::{Complaint, FAILED_DISK, tell_idle, tell_idle_on_file};
-use trace_places::{Crowded, Found, Place, find, is_crowded};
+use trace_places::{Found, Place, find};
 
 /// The files of the trace that is asked for: locked, where they are to be changed. Standard error says what is worth
 /// knowing of it.
@@ -37,21 +38,6 @@ pub fn files_for<'a>(rt: &HostRuntime, request: &TraceRequest<'a>) -> Result<Fil
             asked,
             is_forced: _,
         } => files_to_wipe(rt, *asked),
-    }
-}
-
-/// Refuses a trace of more files than may be open at once, before one is changed.
-fn check_room(rt: &HostRuntime, place: &Place<'_>) -> Result<(), Complaint>
-    ensures { IfErr result (λ complaint. status_told complaint ≡ 1) }
-{
-    let files = place.files();
-    match is_crowded(rt, files)? {
-        None => Ok(()),
-        Some(Crowded { file, reason }) => Err(Complaint::TooManyOpen {
-            name: place.name(rt.alloc(), file)?,
-            files,
-            reason,
-        }),
     }
 }
 
