@@ -8,7 +8,6 @@ ghost use Rattle.dbgrec.specs.Serving.{IsServed};
 ghost use Rattle.dbgrec.specs.Statuses.{EndsSo, Answers, Ends};
 
 use command_line::{Misuse, Request, asked_for};
-use trace_advice::{Reasons, code_of, correct, no_memory};
 use recorder::{StreamListing, follow_files, serve_files};
 use shown_listings::{Inlet, Outlet, Output, show};
 use simulator::serve_sim;
@@ -17,7 +16,7 @@ use std::io::{ErrorKind, Read};
 use std::process::ExitCode;
 use std::sync::Wait;
 use std::{env, io};
-use trace_advice::Complaint;
+use trace_advice::{Complaint, Reasons, code_of, correct, no_memory};
 
 /// Does what is asked for.
 fn serve<R: Wait, I: Read + Drop, W: Output>(

@@ -7,9 +7,8 @@ ghost use Rattle.shown_listings.specs.Listings.{Listing, LineByLine, IsToldBy, S
 
 use crate::counted::Counted;
 use crate::outlet::{Output, taken};
-use chosen_lines::{LineRule, LineWriter};
+use chosen_lines::{LineRule, LineWriter, Objects};
 use command_line::Shown;
-use chosen_lines::Objects;
 use script_port::SimFault;
 use std::alloc::Global;
 use std::io::{IsTerminal, Read, Write};
