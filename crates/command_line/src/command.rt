@@ -339,20 +339,30 @@ fn is_among<S: AsStr>(words: &[S], name: &str) -> bool {
     false
 }
 
-/// The program's commands. One whose name isn't among the words has no options: nothing that is said shows them.
+/// Whether the word after the program's name is a command.
+fn names_command<S: AsStr>(words: &[S]) -> bool {
+    match words {
+        [_, word, ..] => COMMANDS.iter().any(|(name, _)| *name == word.as_str()),
+        _ => false,
+    }
+}
+
+/// The program's commands, of which those among the words have options. Where the words begin with a command no other is
+/// there: nothing that is said then shows another.
 fn dbgrec<'a, S: AsStr>(alloc: Global, words: &[S]) -> Result<Command<'a>, AllocError> {
     let mut all = Command::new(alloc, "dbgrec")
         .version("0.1.0")
         .about("Records traces as dbg of Erlang does, and lists what a crash has left of them")
         .subcommand_required(true)
         .arg_required_else_help(true);
+    let is_named = names_command(words);
     for (name, about) in COMMANDS {
-        let command = Command::new(alloc, name).about(about);
-        all = if is_among(words, name) {
-            all.subcommand(with_options(alloc, name, command)?)?
-        } else {
-            all.subcommand(command)?
-        };
+        if is_among(words, name) {
+            let command = Command::new(alloc, name).about(about);
+            all = all.subcommand(with_options(alloc, name, command)?)?;
+        } else if !is_named {
+            all = all.subcommand(Command::new(alloc, name).about(about))?;
+        }
     }
     Ok(all)
 }

@@ -43,7 +43,7 @@ use Rattle.recorder.specs.Naming.{IsToldAt}
 use Rattle.recorder.specs.Informing.{most_to_sum, IsInfo}
 use Rattle.recorder.specs.Salvaging.{most_to_salvage, IsSalvage}
 use Rattle.recorder.specs.Live.{most_to_read}
-use Rattle.recorder.specs.Files.{most_with, CallsToClear, CallsToLook, CallsToEnd, OnlyLooks, LooksWell, LooksBehind, LooksOver, MayFail, WasRecorded, WasFed, IsKeptOf}
+use Rattle.recorder.specs.Files.{most_with, CallsToClear, CallsToTryClearing, CallsToLook, CallsToEnd, OnlyLooks, LooksWell, LooksBehind, LooksOver, MayFail, WasRecorded, WasFed, IsKeptOf}
 use Rattle.trace_recording.specs.Incoming.{Outside, outside}
 use Rattle.trace_recording.specs.Beginning.{Begins, EndsWithin, IsUnread}
 use Rattle.trace_recording.specs.declared.incoming.Incoming.{Incoming}
@@ -90,7 +90,7 @@ pub record IsCleared (clearing : Clearing) (old new : FolderStore) : Type 0 wher
 pub data Clears (clearing : Clearing) (place : Place) (old new : FolderStore) (was now : Option (List ℕ)) : Result Unit Complaint → Type 0 where
   done : IsCleared clearing old new → Appends was now (line_of Done) → Clears clearing place old new was now (Ok tt)
   not_told : (complaint : Complaint) → IsCleared clearing old new → AppendsPrefix was now (line_of Done) → status_told complaint ≡ 1 → Clears clearing place old new was now (Err complaint)
-  refused : (fault : WipeFault) (complaint : Complaint) → IsWhyNotWiped clearing fault (reads_of old) → (fault ≢ wiping.Device → CallsToLook old new) → Appends was now [] → IsToldAt place new (wipe_fault fault) complaint → Clears clearing place old new was now (Err complaint)
+  refused : (fault : WipeFault) (complaint : Complaint) → IsWhyNotWiped clearing fault (reads_of old) → (fault ≢ wiping.Device → CallsToLook old new) → CallsToTryClearing old new → Appends was now [] → IsToldAt place new (wipe_fault fault) complaint → Clears clearing place old new was now (Err complaint)
 
 -- a port was opened for a trace of this kind, of a store that was honest where it is, and no device call failed
 pub record IsOpened (spec : Spec) (old new : FolderStore) (opened : AnyOpening) (origin : Origin) : Type 0 where

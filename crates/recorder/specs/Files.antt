@@ -87,6 +87,10 @@ CallsToKeep old new = clock_of new ≤ clock_of old + (2 + pieces_to 10995116277
 abbrev pub CallsToClear : FolderStore → FolderStore → Type 0
 CallsToClear old new = min (clock_of new) (2 ^ 64 - 1) ≤ clock_of old + 2 * length (reads_of old) + wiping_calls (reads_of old) + 6 * length (reads_of old)
 
+-- to clear them, or to try that where a call fails
+abbrev pub CallsToTryClearing : FolderStore → FolderStore → Type 0
+CallsToTryClearing old new = clock_of new ≤ clock_of old + 15 * length (reads_of old)
+
 -- the files were read at most, to tell of a fault; where that is of the device, no call was made behind the one that it tells of
 pub record LooksBehind (fault : SimFault) (old new : FolderStore) : Type 0 where
   pub only_reads : OnlyLooks old new

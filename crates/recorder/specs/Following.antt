@@ -1,5 +1,5 @@
 -- A trace that is followed, look by look.
-use Rattle.std.specs.Prelude.{◌≡◌, ◌⊎◌, ℕ, ◌+◌, ◌≤◌, Bool, Option, None, List, Result, Ok, Err}
+use Rattle.std.specs.Prelude.{◌≡◌, ◌⊎◌, ℕ, ◌+◌, ◌≤◌, Bool, Option, None, List, Result, Ok, Err, IfSome}
 use Rattle.std.specs.Io.KnownBytes.{Appends, Keeps}
 use Rattle.trace_store.specs.Disk.{Image}
 use Rattle.stores.specs.CallRecords.{bytes_of}
@@ -11,14 +11,16 @@ use Rattle.trace_text.specs.declared.style.Style.{Style}
 use Rattle.trace_client.specs.Output.{AppendsPrefix}
 use Rattle.trace_reader.specs.declared.fault.ReadFault.{ReadFault}
 use Rattle.trace_reader.specs.declared.fault.ReadFault.TheVariants as faults
-use Rattle.trace_reader.specs.Looks.{HasLooked, IsWhyGone}
+use Rattle.trace_reader.specs.Looks.{HasLooked, IsWhyGone, IsWhyStopped}
 use Rattle.trace_reader.specs.Sections.{HasTold, IsLookStopped}
 use Rattle.trace_reader.specs.declared.follower.Follower.{Follower}
 use Rattle.trace_reader.specs.declared.place.Look.{Look}
 use Rattle.trace_reader.specs.declared.place.Look.TheVariants as looks
 use Rattle.trace_advice.specs.Faults.{read_fault}
 use Rattle.recorder.specs.Commands.{style_of}
-use Rattle.recorder.specs.Telling.{IsToldOf, IsOfWriter}
+use Rattle.recorder.specs.Naming.{IsToldAt}
+use Rattle.recorder.specs.Telling.{IsOfWriter}
+use Rattle.trace_places.specs.declared.place.Place.{Place}
 use Rattle.recorder.specs.Files.{OnlyLooks}
 use Rattle.recorder.specs.Live.{MayHaveChanged}
 use Rattle.trace_advice.specs.declared.complaint.Complaint.{Complaint}
@@ -32,11 +34,11 @@ style_in follower = follower.lister.apart.style
 abbrev pub number_in : Follower → ℕ
 number_in follower = follower.lister.number
 
--- how the end of a listing is told: as done where it is; else by a fault, or that it couldn't be written out
-abbrev pub IsToldSo : Result Unit ReadFault → Result Unit Complaint → Type 0
-IsToldSo done (Ok out) = done ≡ Ok tt
-IsToldSo (Ok done) (Err complaint) = IsOfWriter complaint
-IsToldSo (Err fault) (Err complaint) = IsToldOf (read_fault fault) complaint
+-- how the end of a listing is told: as done where it is; else by a fault of the files at this place, or that it couldn't be written out
+abbrev pub IsToldSo : Place → FolderStore → Result Unit ReadFault → Result Unit Complaint → Type 0
+IsToldSo place store done (Ok out) = done ≡ Ok tt
+IsToldSo place store (Ok done) (Err complaint) = IsOfWriter complaint
+IsToldSo place store (Err fault) (Err complaint) = IsToldAt place store (read_fault fault) complaint
 
 -- a follower that has told nothing yet
 pub record IsNew (style : Style) (follower : Follower) : Type 0 where
@@ -62,11 +64,16 @@ pub record IsLook (files looked : FolderStore) (old new : Follower) (was now : O
   pub told : HasTold (style_in old) (number_in old) (number_in new) was now
   pub same_style : style_in new ≡ style_in old
 
+-- a look that was to go on where the last one ended failed by what stands there, as far as the files are honest
+abbrev pub IsWhyNotGoneOn : FolderStore → FolderStore → Follower → Follower → ReadFault → Type 0
+IsWhyNotGoneOn files looked old new fault = honest_of looked → IfSome old.place (λ from. IsWhyStopped (found_anew files) from (number_in new) fault)
+
 -- a look that was refused by a fault that may come of files that changed: it told nothing, and the next goes on where it began
 pub record IsMadeAgain (files looked : FolderStore) (old new : Follower) (was now : Option (List ℕ)) : Type 0 where
   pub anew : LooksAnew files looked
   pub fault : ReadFault
   pub changed : MayHaveChanged fault
+  pub why_not : IsWhyNotGoneOn files looked old new fault
   pub number : number_in new ≡ number_in old
   pub place : new.place ≡ old.place
   pub same_style : style_in new ≡ style_in old
@@ -117,7 +124,7 @@ pub data Ends (mid : Stand) (files : FolderStore) (now : Option (List ℕ)) : Re
   no_end : (follower : Follower) (told : Option (List ℕ)) (fault : ReadFault)
       → IsLook mid.files files mid.follower follower mid.holds told looks.Sealed → AppendsPrefix told now end_text → Ends mid files now (Err fault)
   not_written_out : mid.files ≡ files → mid.holds ≡ now → Ends mid files now (Err faults.Write)
-  failed : (follower : Follower) (fault : ReadFault) → LooksAnew mid.files files → IsGone mid files fault
+  failed : (follower : Follower) (fault : ReadFault) → LooksAnew mid.files files → IsGone mid files fault → IsWhyNotGoneOn mid.files files mid.follower follower fault
       → IsLookStopped (style_in mid.follower) (number_in mid.follower) (number_in follower) mid.holds now fault → Ends mid files now (Err fault)
 
 -- looks from a stand on, and how they ended
@@ -128,7 +135,7 @@ pub record HasFollowed (first : Stand) (files : FolderStore) (now : Option (List
   pub ends : Ends last files now result
 
 -- a trace was followed from its first entry on, and what was told is written out; then its files were read at most
-pub record FollowsTrace (style : Style) (old new : FolderStore) (was now : Option (List ℕ)) (result : Result Unit Complaint) : Type 0 where
+pub record FollowsTrace (place : Place) (style : Style) (old new : FolderStore) (was now : Option (List ℕ)) (result : Result Unit Complaint) : Type 0 where
   pub first : Follower
   pub is_new : IsNew style first
   pub done : Result Unit ReadFault
@@ -136,9 +143,9 @@ pub record FollowsTrace (style : Style) (old new : FolderStore) (was now : Optio
   pub left : FolderStore
   pub followed : HasFollowed (record { files = old; follower = first; holds = was }) left mid done
   pub out : Keeps mid now
-  pub told : IsToldSo done result
+  pub told : IsToldSo place new done result
   pub only_looks : (new ≡ left) ⊎ OnlyLooks left new
 
 -- the trace of these files was followed, in the style that was asked for
 abbrev pub Follows : Bool → Files → Files → Option (List ℕ) → Option (List ℕ) → Result Unit Complaint → Type 0
-Follows is_pretty old new was now result = FollowsTrace (style_of is_pretty) old.store new.store was now result
+Follows is_pretty old new was now result = FollowsTrace old.place (style_of is_pretty) old.store new.store was now result

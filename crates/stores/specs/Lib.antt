@@ -6,7 +6,7 @@ pub mod CallLaws
 pub mod Events
 pub mod EventLaws
 pub mod NamedFiles
-pub mod NotedFiles
+pub mod Noted
 pub mod Held
 pub mod LockFault
 pub mod FolderStore

@@ -14,7 +14,6 @@ mod mem_disk;
 mod mem_store;
 mod named_file;
 mod named_files;
-mod noted_files;
 mod pick;
 mod record;
 mod tally;

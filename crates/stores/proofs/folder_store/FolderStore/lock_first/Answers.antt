@@ -1,9 +1,9 @@
 use Rattle.std.proofs.Common.{arith}
 use Rattle.stores.specs.EventLaws.{length-reads}
-use Rattle.stores.specs.NotedFiles.{past}
+use Rattle.stores.specs.Noted.{past}
 use Rattle.stores.proofs.folder_store.FolderStore.lock_first.Goals as goal
 
 pub lock_first-taken-requires : goal.lock_first-taken-requires
 lock_first-taken-requires c =
-    let p = past c.args.self.now.files in
+    let p = past c.args.self.now.files c.args.self.now.calls in
     omega (arith, c.requires, length-reads p.world p.count p.events)

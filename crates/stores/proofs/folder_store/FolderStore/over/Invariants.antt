@@ -2,5 +2,5 @@ use Rattle.std.specs.Prelude.{map}
 use Rattle.std.specs.String.{string_bytes}
 use Rattle.stores.proofs.folder_store.FolderStore.over.Given as goal
 
-abbrev pub ghost-new : goal.ghost-new
-ghost-new g a = (g.world', map string_bytes a.names.items)
+abbrev pub ghost-begin : goal.ghost-begin
+ghost-begin g a = (g.world', map string_bytes a.names.items)

@@ -1,0 +1,4 @@
+use Rattle.stores.proofs.folder_store.FolderStore.begin.Given as goal
+
+abbrev pub ghost-new : goal.ghost-new
+ghost-new g a = g.begun
