@@ -1,7 +1,7 @@
 //! A function, as a command line names it.
 
 /// A module, and a name and a number of arguments where they are told.
-#[derive(Clone, Copy, Debug, PartialEq, Eq)]
+#[derive(Clone, Copy)]
 pub struct Function<'a> {
     pub module: &'a str,
     pub name: Option<&'a str>,

@@ -1,7 +1,7 @@
 //! What was done when a fault came.
 
 /// What was done when a fault came, as far as it says what to do next.
-#[derive(Clone, Copy, Debug, PartialEq, Eq)]
+#[derive(Clone, Copy, PartialEq, Eq)]
 pub enum Doing {
     /// So many entries are listed.
     Listing(u64),

@@ -3,7 +3,7 @@ ghost use Rattle.std.specs.Prelude.{◌≡◌, ◌∷◌, ℕ, List};
 ghost use Rattle.trace_script.specs.{Keywords.text_of, Keywords.all_keywords, Keywords.keyword_among, Spellings.IsFoundAs, Spellings.texts};
 
 /// What a line or an event begins with, and what kind it is of.
-#[derive(Clone, Copy, Debug, PartialEq, Eq)]
+#[derive(Clone, Copy)]
 pub enum Keyword {
     Store,
     Bytes,
