@@ -1,0 +1,64 @@
+-- Steps of reading: what one that succeeded gave, and how one fails.
+use Rattle.std.proofs.Common.{◌≡◌, Result, Ok, Err, refl, sym, ap}
+use Rattle.ext_format.specs.declared.fault.DecodeFault.{DecodeFault}
+use Rattle.ext_format.specs.declared.fault.DecodeFault.TheVariants.{NoMemory}
+use Rattle.ext_format.specs.Reading.{◌>>=◌, Fails}
+use Rattle.ext_format.proofs.FieldLaws.{ok_is}
+
+-- ---- what was read
+
+abbrev one : {Y R : Type 0} → Y → R → Result (Y × R) DecodeFault
+one y rest = Ok (y, rest)
+
+abbrev two : {Y Z R : Type 0} → Y → Z → R → Result (Y × (Z × R)) DecodeFault
+two y z rest = Ok (y, (z, rest))
+
+-- what was made of what was read
+pub record Made {X Y R : Type 0} (read : Result (X × R) DecodeFault) (f : X → Y) (made : Y) (rest : R) : Type 0 where
+  pub of : X
+  pub is : read ≡ Ok (of, rest)
+  pub by : made ≡ f of
+
+pub made_is : {X Y R : Type 0} (read : Result (X × R) DecodeFault) (f : X → Y) (made : Y) (rest : R) → (read >>= λ x. one (f x.0) x.1) ≡ one made rest → Made read f made rest
+made_is (Ok x) f made rest e =
+    let same : (f x.0, x.1) ≡ (made, rest) = ok_is (f x.0, x.1) (made, rest) e in
+    record { of = x.0; is = ap (λ r. Ok (x.0, r)) (ap (λ p. p.1) same); by = sym (ap (λ p. p.0) same) }
+made_is (Err d) f made rest e = absurd cc
+
+-- two things that were made of what was read
+pub record Both {X Y Z R : Type 0} (read : Result (X × R) DecodeFault) (f : X → Y) (g : X → Z) (first : Y) (second : Z) (rest : R) : Type 0 where
+  pub of : X
+  pub is : read ≡ Ok (of, rest)
+  pub first_is : first ≡ f of
+  pub second_is : second ≡ g of
+
+pub both_are : {X Y Z R : Type 0} (read : Result (X × R) DecodeFault) (f : X → Y) (g : X → Z) (first : Y) (second : Z) (rest : R) → (read >>= λ x. two (f x.0) (g x.0) x.1) ≡ two first second rest
+    → Both read f g first second rest
+both_are (Ok x) f g first second rest e =
+    let same : (f x.0, (g x.0, x.1)) ≡ (first, (second, rest)) = ok_is (f x.0, (g x.0, x.1)) (first, (second, rest)) e in
+    record { of = x.0; is = ap (λ r. Ok (x.0, r)) (ap (λ p. p.1.1) same); first_is = sym (ap (λ p. p.0) same); second_is = sym (ap (λ p. p.1.0) same) }
+both_are (Err d) f g first second rest e = absurd cc
+
+-- ---- faults
+
+-- one reading fails as another does
+pub fails_as : {X Y : Type 0} (d : DecodeFault) (r : Result X DecodeFault) (s : Result Y DecodeFault) → (r ≡ Err d → s ≡ Err d) → Fails d r → Fails d s
+fails_as NoMemory r s f h = tt
+fails_as d r s f h = f h
+
+-- a step after one that failed
+pub fails_then : {X Y : Type 0} (d : DecodeFault) (r : Result X DecodeFault) (f : X → Result Y DecodeFault) → Fails d r → Fails d (r >>= f)
+fails_then d r f h = fails_as d r (r >>= f) (λ e. ap (λ x. x >>= f) e) h
+
+pub mapped_err : {X Y : Type 0} (d : DecodeFault) (r : Result X DecodeFault) (f : X → Y) → (r >>= λ x. Ok (f x)) ≡ Err d → r ≡ Err d
+mapped_err d (Ok x) f e = absurd cc
+mapped_err d (Err g) f e = cc
+
+-- what only changes the value fails as the reading does
+pub fails_mapped : {X Y : Type 0} (d : DecodeFault) (r : Result X DecodeFault) (f : X → Y) → Fails d (r >>= λ x. Ok (f x)) → Fails d r
+fails_mapped d r f h = fails_as d (r >>= λ x. Ok (f x)) r (mapped_err d r f) h
+
+-- a fault that isn't for want of memory is that of reading
+pub fault_is : {X : Type 0} (d : DecodeFault) (r : Result X DecodeFault) → (d ≡ NoMemory → ⊥) → Fails d r → r ≡ Err d
+fault_is NoMemory r not h = absurd (not refl)
+fault_is d r not h = h
