@@ -1,9 +1,10 @@
 -- Steps of reading: what one that succeeded gave, and how one fails.
-use Rattle.std.proofs.Common.{◌≡◌, Result, Ok, Err, refl, sym, ap}
+use Rattle.std.proofs.Common.{◌≡◌, ℕ, ◌<◌, List, Result, Ok, Err, refl, sym, ap, subst}
+use Rattle.std.specs.Int.{Width, to_be_bytes}
 use Rattle.ext_format.specs.declared.fault.DecodeFault.{DecodeFault}
 use Rattle.ext_format.specs.declared.fault.DecodeFault.TheVariants.{NoMemory}
-use Rattle.ext_format.specs.Reading.{◌>>=◌, Fails}
-use Rattle.ext_format.proofs.FieldLaws.{ok_is}
+use Rattle.ext_format.specs.Reading.{◌>>=◌, Fails, Read, number_at}
+use Rattle.ext_format.proofs.FieldLaws.{IsBytes, ok_is, Takes, IsWide, number_takes}
 
 -- ---- what was read
 
@@ -62,3 +63,41 @@ fails_mapped d r f h = fails_as d (r >>= λ x. Ok (f x)) r (mapped_err d r f) h
 pub fault_is : {X : Type 0} (d : DecodeFault) (r : Result X DecodeFault) → (d ≡ NoMemory → ⊥) → Fails d r → r ≡ Err d
 fault_is NoMemory r not h = absurd (not refl)
 fault_is d r not h = h
+
+-- ---- whatever is read
+
+-- what holds of whatever is read
+abbrev pub Each : {X : Type 0} → (X → Type 0) → Result X DecodeFault → Type 0
+Each {X} P read = (x : X) → read ≡ Ok x → P x
+
+pub just : {X : Type 0} (P : X → Type 0) (x : X) → P x → Each P (Ok x)
+just P x p y e = subst P (ok_is x y e) p
+
+-- a step after another
+pub after : {X Y : Type 0} (P : Y → Type 0) (read : Result X DecodeFault) (f : X → Result Y DecodeFault) → ((x : X) → read ≡ Ok x → Each P (f x)) → Each P (read >>= f)
+after P (Ok x) f h = h x refl
+after P (Err d) f h = λ y e. absurd cc
+
+-- the bytes of what was read, and what they spell
+pub record Taken {X : Type 0} (Form : X → List ℕ → Type 0) (bytes : List ℕ) (x : X) (rest : List ℕ) : Type 0 where
+  pub fields : List ℕ
+  pub is_form : Form x fields
+  pub taken : Takes bytes fields rest
+
+-- whatever is read is spelled by the bytes that it takes
+abbrev pub Spelt : {X : Type 0} → (X → List ℕ → Type 0) → List ℕ → Read X → Type 0
+Spelt {X} Form bytes read = Each (λ (x : X × List ℕ). Taken Form bytes x.0 x.1) read
+
+module _ {X : Type 0} (Form : X → List ℕ → Type 0) (bytes : List ℕ) where
+  pub next : {Y : Type 0} (read : Result Y DecodeFault) (f : Y → Read X) → ((y : Y) → read ≡ Ok y → Spelt Form bytes (f y)) → Spelt Form bytes (read >>= f)
+  next read f h = after (λ (x : X × List ℕ). Taken Form bytes x.0 x.1) read f h
+
+  pub spelt : (x : X) (rest fields : List ℕ) → Form x fields → Takes bytes fields rest → Spelt Form bytes (Ok (x, rest))
+  spelt x rest fields is taken = just (λ (x : X × List ℕ). Taken Form bytes x.0 x.1) (x, rest) (record { fields = fields; is_form = is; taken = taken })
+
+  -- what was made of what was read
+  pub made : {Y : Type 0} (f : Y → X) (read : Read Y) → Spelt (λ y. Form (f y)) bytes read → Spelt Form bytes (read >>= λ y. Ok (f y.0, y.1))
+  made f read is = next read (λ y. Ok (f y.0, y.1)) (λ y e. let t = is y e in spelt (f y.0) y.1 t.fields t.is_form t.taken)
+
+pub number_spelt : (Form : ℕ → List ℕ → Type 0) (w : Width) (limit : ℕ) (wide : IsWide w limit) (bytes : List ℕ) → IsBytes bytes → ((n : ℕ) → n < limit → Form n (to_be_bytes w n)) → Spelt Form bytes (number_at w bytes)
+number_spelt Form w limit wide bytes fits form x e = let t = number_takes w limit wide bytes x.0 x.1 fits e in record { fields = to_be_bytes w x.0; is_form = form x.0 t.1; taken = t.0 }
