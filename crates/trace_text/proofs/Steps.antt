@@ -1,5 +1,6 @@
 -- Steps of reading: what one that succeeded gave, and how one fails.
-use Rattle.std.proofs.Common.{◌≡◌, ℕ, ◌<◌, List, Result, Ok, Err, refl, sym, ap, subst}
+use Rattle.std.proofs.Common.{◌≡◌, ℕ, ◌<◌, List, [], ◌++◌, length, take, drop, take_all, Result, Ok, Err, refl, sym, ap, subst, ◌∙◌, append_assoc, append-nil, arith}
+use Rattle.std.proofs.Math.Seq.{take-append_seam, drop-append_seam}
 use Rattle.std.specs.Int.{Width, to_be_bytes}
 use Rattle.ext_format.specs.declared.fault.DecodeFault.{DecodeFault}
 use Rattle.ext_format.specs.declared.fault.DecodeFault.TheVariants.{NoMemory}
@@ -101,3 +102,38 @@ module _ {X : Type 0} (Form : X → List ℕ → Type 0) (bytes : List ℕ) wher
 
 pub number_spelt : (Form : ℕ → List ℕ → Type 0) (w : Width) (limit : ℕ) (wide : IsWide w limit) (bytes : List ℕ) → IsBytes bytes → ((n : ℕ) → n < limit → Form n (to_be_bytes w n)) → Spelt Form bytes (number_at w bytes)
 number_spelt Form w limit wide bytes fits form x e = let t = number_takes w limit wide bytes x.0 x.1 fits e in record { fields = to_be_bytes w x.0; is_form = form x.0 t.1; taken = t.0 }
+
+-- ---- what is put
+
+-- three texts, one after the other
+pub bracketed : (line opening text close one two three : List ℕ) → one ≡ line ++ opening → two ≡ one ++ text → three ≡ two ++ close → three ≡ line ++ (opening ++ text ++ close)
+bracketed line opening text close one two three is_one is_two is_three =
+    is_three ∙ ap (λ (l : List ℕ). l ++ close) is_two ∙ ap (λ (l : List ℕ). (l ++ text) ++ close) is_one
+    ∙ append_assoc (line ++ opening) text close ∙ append_assoc line opening (text ++ close) ∙ ap (λ (l : List ℕ). line ++ l) (sym (append_assoc opening text close))
+
+-- what was seen before the members, and of them
+pub seen_before : {S : Type 0} (seen gs several : List S) (before : ℕ) → before ≡ length seen → gs ≡ seen ++ several → take before gs ≡ seen
+seen_before seen gs several before counted is = rw (counted, is) (take-append_seam seen several)
+
+pub seen_of : {S : Type 0} (seen gs several : List S) (before : ℕ) → before ≡ length seen → gs ≡ seen ++ several → drop before gs ≡ several
+seen_of seen gs several before counted is = rw (counted, is) (drop-append_seam seen several)
+
+-- ---- the whole
+
+-- what spells a term is read as that term, whatever stands after it
+module _ {T : Type 0} (Spells : T → List ℕ → Type 0) (whole : List ℕ → Result (T × ℕ) DecodeFault) (again : (t : T) (bytes rest : List ℕ) → Spells t bytes → whole (bytes ++ rest) ≡ Ok (t, length bytes)) where
+  whole_is : (t : T) (bytes : List ℕ) → Spells t bytes → whole bytes ≡ Ok (t, length bytes)
+  whole_is t bytes is = subst (λ (read : List ℕ). whole read ≡ Ok (t, length bytes)) (append-nil bytes) (again t bytes [] is)
+
+  -- what is read from a part of the bytes leaves no spelling that takes them all
+  pub other_size : (bytes : List ℕ) (t : T) (n : ℕ) → whole bytes ≡ Ok (t, n) → (n ≡ length bytes → ⊥) → (u : T) → Spells u bytes → ⊥
+  other_size bytes t n read differs u is =
+      let e : (t, n) ≡ (u, length bytes) = ok_is (t, n) (u, length bytes) (sym read ∙ whole_is u bytes is) in
+      differs (ap (λ (x : T × ℕ). x.1) e)
+
+  pub not_read : (bytes : List ℕ) (e : DecodeFault) → whole bytes ≡ Err e → (u : T) → Spells u bytes → ⊥
+  not_read bytes e read u is = let same = whole_is u bytes is in absurd (cc)
+
+-- what is read of all the bytes is spelled by them
+pub spells_whole : {T : Type 0} (Spells : T → List ℕ → Type 0) (bytes : List ℕ) (t : T) (n : ℕ) → Spells t (take n bytes) → n ≡ length bytes → Spells t bytes
+spells_whole Spells bytes t n is all = subst (Spells t) (ap (λ (n : ℕ). take n bytes) all ∙ take_all (length bytes) bytes (omega arith)) is
