@@ -1,3 +1,4 @@
+pub mod Steps
 pub mod Digits
 pub mod Characters
 pub mod SpelledLemmas

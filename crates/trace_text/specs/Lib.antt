@@ -18,4 +18,3 @@ pub mod PrettyKinds
 pub mod PrettyLines
 pub mod Subset
 pub mod Shows
-pub mod Tells
