@@ -13,7 +13,7 @@ use Rattle.trace_port.specs.Port.{Told, Fits, AreSealed, gate_behind, has_sealed
 use Rattle.trace_port.specs.PortCalls.{Finishes}
 use Rattle.trace_port.proofs.Leaving.{stays_idle, idle_twice}
 use Rattle.trace_port.proofs.Lending.{ends_after}
-use Rattle.trace_port.specs.Effects.{Effect, items_in, covered_by, Calls}
+use Rattle.trace_port.specs.Effects.{Effect, items_in, covered_by, Calls, IsSoundSince}
 use Rattle.trace_port.specs.Opened.{IsAsOpened}
 use Rattle.trace_port.proofs.Composed.{IsStill, items_in-append, calls_both, no_call}
 use Rattle.trace_port.proofs.Runs.{sound_since, sound_inside}
@@ -25,7 +25,7 @@ use Rattle.script_port.specs.Texts.{line_of}
 use Rattle.script_port.specs.Sides.{Held, Alone, AtDesk, port_of}
 use Rattle.script_port.specs.Asked.{IsAsked}
 use Rattle.script_port.specs.Read.{Stretch}
-use Rattle.script_port.specs.Held.{Exchange, AreAsked, ends, leaves, asks, left_by, effects, accepted, IsSoundSince, IsSoundThroughout, IsLetGo, Ran, IsHeld, WasHeld}
+use Rattle.script_port.specs.Held.{Exchange, AreAsked, ends, leaves, asks, left_by, effects, accepted, IsSoundThroughout, IsLetGo, Ran, IsHeld, WasHeld}
 use Rattle.script_port.proofs.Asking.{asked_calls}
 
 -- the calls of a run

@@ -1,6 +1,5 @@
 //! What a port is made of.
 ghost use Rattle.std.specs.Prelude.{◌≡◌};
-ghost use Rattle.trace_store.specs.Device.{Device};
 
 use trace_port::{Opening, Pending};
 use wrap_port::WrapOpening;
@@ -13,11 +12,11 @@ pub enum AnyOpening {
 }
 
 impl AnyOpening {
-    ghost use Rattle.script_port.specs.PortOpenings.{first_told};
+    ghost use Rattle.script_port.specs.PortOpenings.{entries_found};
 
     /// How many entries the trace has.
     pub fn total(&self) -> u64
-        ensures { (device : Device) → result ≡ (first_told self.now device).total }
+        ensures { result ≡ entries_found self.now }
     {
         match self {
             AnyOpening::File(opening) => opening.total(),
