@@ -22,7 +22,8 @@ use Rattle.trace_advice.specs.declared.complaint.Complaint.TheVariants as compla
 use Rattle.trace_recording.specs.Incoming.{Outside}
 use Rattle.trace_recording.specs.Marks.{HasTotal, whole, blank, KeepsFirst}
 use Rattle.trace_recording.specs.declared.incoming.Incoming.{Incoming}
-use Rattle.recorder.specs.Files.{OnlyLooks, WasFed, IsCounted, CountsSo, IsCount, not_counted, IsKeptOf}
+use Rattle.recorder.specs.Importing.{WasFed}
+use Rattle.recorder.specs.Files.{OnlyLooks, IsCounted, CountsSo, IsCount, not_counted, IsKeptOf}
 use Rattle.recorder.specs.Commands.{device}
 
 -- what is told is what was found, or nothing
@@ -55,14 +56,14 @@ keeps_found (openings.File opening) origin rules mid last new was is come incomi
   after = found.after;
   keeps = λ v0 c f.
       subst (λ (image : Image). KeepsFirst (first_told (openings.File opening) (device mid)).spec v0 come kept.entries found.bytes image) (sym (looks.same_reads h))
-      (fed.first (looks.was_honest h) v0 c f kept.entries found.bytes found.mark (subst (λ (n : ℕ). HasTotal (reads_of last) (n + kept.entries)) same found.total));
+      (fed.put.first (looks.was_honest h) v0 c f kept.entries found.bytes found.mark (subst (λ (n : ℕ). HasTotal (reads_of last) (n + kept.entries)) same found.total));
 }
 keeps_found (openings.Wrap opening) origin rules mid last new was is come incoming done Writes skip before kept fed looks h same found = record {
   bytes = found.bytes;
   after = found.after;
   keeps = λ v0 c f.
       subst (λ (image : Image). KeepsFirst (first_told (openings.Wrap opening) (device mid)).spec v0 come kept.entries found.bytes image) (sym (looks.same_reads h))
-      (fed.first (looks.was_honest h) v0 c f kept.entries found.bytes found.mark (subst (λ (n : ℕ). HasTotal (reads_of last) (n + kept.entries)) same found.total));
+      (fed.put.first (looks.was_honest h) v0 c f kept.entries found.bytes found.mark (subst (λ (n : ℕ). HasTotal (reads_of last) (n + kept.entries)) same found.total));
 }
 
 -- and what is told is that

@@ -10,3 +10,6 @@ pub mod Keeping
 pub mod Salvaged
 pub mod Informed
 pub mod Made
+pub mod Looking
+pub mod Starting
+pub mod Fed

@@ -43,13 +43,15 @@ use Rattle.recorder.specs.Naming.{IsToldAt}
 use Rattle.recorder.specs.Informing.{most_to_sum, IsInfo}
 use Rattle.recorder.specs.Salvaging.{most_to_salvage, IsSalvage}
 use Rattle.recorder.specs.Live.{most_to_read}
-use Rattle.recorder.specs.Files.{most_with, CallsToClear, CallsToTryClearing, CallsToLook, CallsToEnd, OnlyLooks, LooksWell, LooksBehind, LooksOver, MayFail, WasRecorded, WasFed, IsKeptOf}
+use Rattle.recorder.specs.Files.{most_with, CallsToClear, CallsToTryClearing, CallsToLook, CallsToEnd, OnlyLooks, LooksWell, LooksBehind, LooksOver, MayFail, WasRecorded, IsKeptOf}
+use Rattle.recorder.specs.Importing.{import_fault, WasFed}
 use Rattle.trace_recording.specs.Incoming.{Outside, outside}
 use Rattle.trace_recording.specs.Beginning.{Begins, EndsWithin, IsUnread}
 use Rattle.trace_recording.specs.declared.incoming.Incoming.{Incoming}
+use Rattle.trace_recording.specs.declared.fault.ImportFault.{ImportFault}
 use Rattle.trace_port.specs.Limits.{greatest_limit}
 use Rattle.script_port.specs.PortOpenings.{first_told, FitsStore, GoesOnOrBegins}
-use Rattle.trace_recording.specs.Openings.{wanted, TellsFault, KeepsTrace, IsWhyNotOpened}
+use Rattle.recorder.specs.Openings.{wanted, TellsFault, KeepsTrace, IsWhyNotOpened}
 use Rattle.trace_places.specs.Places.{file_count, turn_of}
 use Rattle.trace_places.specs.declared.place.Place.{Place}
 use Rattle.script_port.specs.Texts.{line_of}
@@ -130,7 +132,7 @@ pub data Feeds (place : Place) (spec : Spec) (rules : Rules) (old new : FolderSt
   -- no byte came
   nothing_came : {then : Outside} → EndsWithin rules.skip saw then → OnlyLooks old new → (honest_of new → HasNoForeign (reads_of old)) → observed ≡ then.observed → Keeps was now → Feeds place spec rules old new saw observed was now (Ok tt)
   -- the first byte couldn't be had
-  unread : {then : Outside} (fault : SimFault) (complaint : Complaint) → IsUnread rules.skip saw then fault → OnlyLooks old new → (honest_of new → HasNoForeign (reads_of old)) → observed ≡ then.observed → Keeps was now → IsToldAt place new fault complaint
+  unread : {then : Outside} (fault : ImportFault) (complaint : Complaint) → IsUnread rules.skip saw then fault → OnlyLooks old new → (honest_of new → HasNoForeign (reads_of old)) → observed ≡ then.observed → Keeps was now → IsToldAt place new (import_fault fault) complaint
       → Feeds place spec rules old new saw observed was now (Err complaint)
   -- its files aren't a trace's, or that can't be known, and nothing was read
   refused : {first : FolderStore} (fault : SimFault) (complaint : Complaint) → (honest_of new → IsWhyNotOpened spec fault (reads_of old)) → OnlyLooks old first → TellsFault (failures_of old) (failures_of first) fault → LooksBehind fault first new → observed ≡ saw.observed → Keeps was now → IsToldAt place new fault complaint

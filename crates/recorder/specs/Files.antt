@@ -14,15 +14,12 @@ use Rattle.trace_port.specs.FilePort.{file_told}
 use Rattle.trace_port.specs.contracts.pending.PendingRoom.TheImpl as pending
 use Rattle.wrap_port.specs.WrapOpened.{wrap_opened_told}
 use Rattle.wrap_port.specs.WrapPort.{wrap_told}
-use Rattle.command_line.specs.declared.request.Rules.{Rules}
 use Rattle.script_port.specs.Answers.{opened_answer}
 use Rattle.script_port.specs.Faults.{IsFaultOfDevice}
 use Rattle.script_port.specs.Sides.{in_desk}
 use Rattle.script_port.specs.Texts.{line_of}
 use Rattle.script_port.specs.Read.{Stretch, first_lines}
 use Rattle.script_port.specs.Held.{WasHeld}
-use Rattle.trace_recording.specs.Incoming.{Outside}
-use Rattle.trace_recording.specs.Importing.{WasImported}
 use Rattle.trace_recording.specs.Marks.{HasMark, HasTotal, KeepsFirst}
 use Rattle.trace_recording.specs.declared.incoming.Incoming.{Incoming}
 use Rattle.trace_store.specs.Disk.{Image}
@@ -129,13 +126,6 @@ pub record WasRecorded (opened : AnyOpening) (origin : Origin) (old new : Folder
   pub mid : Option (List ℕ)
   pub ran : RanAtDesk opened origin old new (first_lines true count had has) left (λ text. Appends was mid text)
   pub answered : IsAnswered left result mid now
-
--- an entry stream was put into a port over this opening, which then was closed and dropped
-abbrev pub WasFed : AnyOpening → Origin → Rules → FolderStore → FolderStore → Outside → Outside → List ℕ → Incoming → Result Unit SimFault → (List ℕ → Type 0) → Type 0
-WasFed (openings.File opening) origin rules old new was is come incoming result Writes =
-    WasImported (file_told folder.ghosts pending.ghosts) (opened_told pending.ghosts opening (device_of folder.ghosts old)) (opened_answer origin) rules.flushing rules.ending was is come incoming result (device_of folder.ghosts new) Writes
-WasFed (openings.Wrap opening) origin rules old new was is come incoming result Writes =
-    WasImported (wrap_told folder.ghosts pending.ghosts) (wrap_opened_told pending.ghosts opening (device_of folder.ghosts old)) (opened_answer origin) rules.flushing rules.ending was is come incoming result (device_of folder.ghosts new) Writes
 
 -- so much was counted: the entries that a store has more than before, where their end is known, after the bytes that were passed over
 pub record IsCounted (skip before : ℕ) (incoming : Incoming) (image : Image) (kept : Kept) : Type 0 where

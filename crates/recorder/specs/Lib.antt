@@ -8,3 +8,5 @@ pub mod Following
 pub mod Sites
 pub mod Serving
 pub mod Salvaging
+pub mod Openings
+pub mod Importing

@@ -10,9 +10,9 @@ use Rattle.intake.specs.declared.fault.EmitFault.{EmitFault}
 use Rattle.intake.specs.declared.offer.Offer.{Offer}
 use Rattle.intake.specs.declared.tracee.Tracee.{Tracee}
 use Rattle.tracees.specs.Books.{no_totals}
-use Rattle.tracees.specs.Effects.{Effect, no_effect, Calls}
+use Rattle.trace_port.specs.Effects.{Effect, no_effect, Calls}
 use Rattle.tracees.specs.Emits.{Emits}
-use Rattle.tracees.proofs.Composed.{IsStill, no_effect_call, accept_calls, flush_calls, seal_calls, tick_calls, abandon_calls}
+use Rattle.trace_port.proofs.Composed.{IsStill, no_effect_call, accept_calls, flush_calls, seal_calls, tick_calls, abandon_calls}
 use Rattle.tracees.proofs.Answered.{hands_calls, flushes_for_calls}
 use Rattle.trace_script.specs.declared.line.Line.{Line}
 use Rattle.script_port.specs.declared.answer.Answer.{Answer}

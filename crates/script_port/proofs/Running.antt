@@ -1,7 +1,7 @@
 -- What a run of lines on what is held keeps.
 use Rattle.std.proofs.Common.{◌≡◌, ◌⊎◌, inl, inr, ⊎_elim, ℕ, ◌≤◌, Option, None, List, [], ◌∷◌, ◌++◌, Result, refl, sym, ◌∙◌, ap, subst, arith}
 use Rattle.std.proofs.lemmas.List.{append-nil}
-use Rattle.trace_store.specs.Disk.{Image, SameImages}
+use Rattle.trace_store.specs.Disk.{Image}
 use Rattle.segment.specs.Specification.{Spec}
 use Rattle.recovery.specs.Items.{Item}
 use Rattle.recovery.specs.Views.{View, extend}
@@ -11,11 +11,12 @@ use Rattle.trace_port.specs.Clocks.{clock_sealed}
 use Rattle.trace_port.specs.Sound.{Sound}
 use Rattle.trace_port.specs.Port.{Told, Fits, AreSealed, gate_behind, has_sealed, Ends}
 use Rattle.trace_port.specs.PortCalls.{Finishes}
-use Rattle.trace_port.proofs.Leaving.{both, stays_idle}
+use Rattle.trace_port.proofs.Leaving.{stays_idle, idle_twice}
 use Rattle.trace_port.proofs.Lending.{ends_after}
-use Rattle.tracees.specs.Effects.{Effect, items_in, covered_by, Calls}
-use Rattle.tracees.specs.Lent.{IsAsOpened}
-use Rattle.tracees.proofs.Composed.{IsStill, items_in-append, covered_more, behind, calls_both, no_call}
+use Rattle.trace_port.specs.Effects.{Effect, items_in, covered_by, Calls, IsSoundSince}
+use Rattle.trace_port.specs.Opened.{IsAsOpened}
+use Rattle.trace_port.proofs.Composed.{IsStill, items_in-append, calls_both, no_call}
+use Rattle.trace_port.proofs.Runs.{sound_since, sound_inside}
 use Rattle.script_port.specs.declared.answer.Answer.{Answer}
 use Rattle.script_port.specs.declared.reply.Leave.{Leave}
 use Rattle.script_port.specs.declared.reply.Reply.TheVariants.{Told as Answered, Left}
@@ -24,7 +25,7 @@ use Rattle.script_port.specs.Texts.{line_of}
 use Rattle.script_port.specs.Sides.{Held, Alone, AtDesk, port_of}
 use Rattle.script_port.specs.Asked.{IsAsked}
 use Rattle.script_port.specs.Read.{Stretch}
-use Rattle.script_port.specs.Held.{Exchange, AreAsked, ends, leaves, asks, left_by, effects, accepted, IsSoundSince, IsSoundThroughout, IsLetGo, Ran, IsHeld, WasHeld}
+use Rattle.script_port.specs.Held.{Exchange, AreAsked, ends, leaves, asks, left_by, effects, accepted, IsSoundThroughout, IsLetGo, Ran, IsHeld, WasHeld}
 use Rattle.script_port.proofs.Asking.{asked_calls}
 
 -- the calls of a run
@@ -43,61 +44,25 @@ effects-append (one ∷ before) after = ap (λ (l : List Effect). one.effect ∷
 pub accepted-append : (before after : List Exchange) → accepted (before ++ after) ≡ accepted before ++ accepted after
 accepted-append before after = ap items_in (effects-append before after) ∙ items_in-append (effects before) (effects after)
 
--- the rest of a run and the end of its port: sound for all, by what was covered before
-rest_kept : (now end : Told) (last : Device) (v0 : View) (ys : List Item) (more : List Effect) (c : ℕ) → Calls now end more → Ends end last → last.honest → Fits now v0 ys c → Leaves now.device last (Sound now.spec v0 (ys ++ items_in more) c)
-rest_kept now end last v0 ys more c calls over h f =
-    let rest = calls.each (over.was_honest h) v0 ys c f in
-    let c' = covered_by v0 ys c more in
-    both now.device end.device last (Sound now.spec v0 (ys ++ items_in more) c) rest.moments
-    (behind now end last v0 (ys ++ items_in more) c c' calls.spec (covered_more v0 ys c more f.up_to) (over.moments h v0 (ys ++ items_in more) c' rest.fits))
-
 module _ {P : Type 0} (told : P → Told) (still : (p : P) → IsStill (told p)) (first end : Held P) (last : Device) (run : List Exchange) (leave : Option Leave) (over : Ends (told (port_of end)) last) (h : last.honest) (v0 : View) (c : ℕ) (f : Fits (told (port_of first)) v0 [] c) where
   pub is_sound_since : (before after : List Exchange) (now : Held P) → run ≡ before ++ after → AreAsked told first before None now → AreAsked told now after leave end
       → IsSoundSince (told (port_of now)) last v0 (accepted before) (accepted run) (covered_by v0 [] c (effects before))
   is_sound_since before after now parts one two =
-      let first_part = run_calls told still first now before None one in
-      let second_part = run_calls told still now end after leave two in
-      let fits = (first_part.each (second_part.was_honest (over.was_honest h)) v0 [] c f).fits in
-      record {
-        fits = fits;
-        since = subst (λ (l : List Item). Leaves (told (port_of now)).device last (Sound (told (port_of now)).spec v0 l (covered_by v0 [] c (effects before)))) (sym (ap accepted parts ∙ accepted-append before after))
-            (rest_kept (told (port_of now)) (told (port_of end)) last v0 (accepted before) (effects after) (covered_by v0 [] c (effects before)) second_part over h fits);
-      }
+      subst (λ (l : List Item). IsSoundSince (told (port_of now)) last v0 (accepted before) l (covered_by v0 [] c (effects before))) (sym (ap accepted parts ∙ accepted-append before after))
+      (sound_since (told (port_of first)) (told (port_of now)) (told (port_of end)) last (effects before) (effects after) (run_calls told still first now before None one) (run_calls told still now end after leave two) over h v0 c f)
 
   pub is_inside : (before after : List Exchange) (one : Exchange) (now next : Held P) → run ≡ before ++ one ∷ after → AreAsked told first before None now → IsAsked told now next one.line one.reply one.effect → AreAsked told next after leave end
       → (image : Image) → last.moments (told (port_of now)).device.clock image
       → last.moments (told (port_of next)).device.clock image ⊎ Sound (told (port_of now)).spec v0 (accepted (before ++ one ∷ [])) (covered_by v0 [] c (effects before)) image
   is_inside before after one now next parts first_run step rest image left =
-      let first_part = run_calls told still first now before None first_run in
-      let line = asked_calls told still now next one.line one.reply one.effect step in
-      let third = run_calls told still next end after leave rest in
-      let next_honest = third.was_honest (over.was_honest h) in
-      let c_now : ℕ = covered_by v0 [] c (effects before) in
-      let now_fits = (first_part.each (line.was_honest next_honest) v0 [] c f).fits in
-      let goes = line.each next_honest v0 (accepted before) c_now now_fits in
-      let ys : List Item = accepted before ++ items_in (one.effect ∷ []) in
-      let since = rest_kept (told (port_of next)) (told (port_of end)) last v0 ys (effects after) (covered_by v0 (accepted before) c_now (one.effect ∷ [])) third over h goes.fits in
-      ⊎_elim
-      (λ was. inr (subst (λ (l : List Item). Sound (told (port_of now)).spec v0 l c_now image) (sym (accepted-append before (one ∷ []))) (goes.moments.each image was)))
-      (λ (arose : (u : ℕ) → u ≤ (told (port_of next)).device.clock → last.moments u image). inl (arose (told (port_of next)).device.clock (omega arith)))
-      (since.passes.splits (told (port_of now)).device.clock image goes.moments.passes.later left)
+      subst (λ (l : List Item). last.moments (told (port_of next)).device.clock image ⊎ Sound (told (port_of now)).spec v0 l (covered_by v0 [] c (effects before)) image) (sym (accepted-append before (one ∷ [])))
+      (sound_inside (told (port_of first)) (told (port_of now)) (told (port_of next)) (told (port_of end)) last (effects before) (effects after) one.effect
+      (run_calls told still first now before None first_run) (asked_calls told still now next one.line one.reply one.effect step) (run_calls told still next end after leave rest) over h v0 c f image left)
 
   pub is_sound_throughout : IsSoundThroughout told first run leave end last v0 c
   is_sound_throughout = record { each = is_sound_since; inside = is_inside }
 
 -- ---- the end of a desk and the drop of its port
-
-same_twice : (old mid new : Image → Type 0) → SameImages old mid → SameImages mid new → SameImages old new
-same_twice old mid new one two = record { no_more = λ image left. one.no_more image (two.no_more image left); no_fewer = λ image left. two.no_fewer image (one.no_fewer image left) }
-
-pub idle_twice : (old mid new : Device) → IsIdle old mid → IsIdle mid new → IsIdle old new
-idle_twice old mid new one two = record {
-  reads = two.reads ∙ one.reads;
-  images = same_twice old.images mid.images new.images one.images two.images;
-  clock = two.clock ∙ one.clock;
-  moments = λ t. same_twice (old.moments t) (mid.moments t) (new.moments t) (one.moments t) (two.moments t);
-  failures = two.failures ∙ one.failures;
-}
 
 rose_still : (before mid now : ℕ) → now ≡ mid → Rose before mid → Rose before now
 rose_still before mid now same rose = subst (λ (n : ℕ). Rose before n) (sym same) rose

@@ -9,7 +9,7 @@ use Rattle.trace_port.specs.Port.{Told}
 use Rattle.trace_port.specs.PortCalls.{Finishes}
 use Rattle.trace_message.specs.declared.event.Stamp.{Stamp}
 use Rattle.tracees.specs.Desks.{DeskState, Seat}
-use Rattle.tracees.specs.Effects.{Effect}
+use Rattle.trace_port.specs.Effects.{Effect}
 use Rattle.trace_script.specs.Lines.{IsOfFiles}
 use Rattle.trace_script.specs.Reading.{Progress, HasNext, HasEnded, HasStopped, Breaks, AreTaken, AreGiven, TellsNext, IsSilent}
 use Rattle.trace_script.specs.declared.line.Line.{Line}

@@ -8,7 +8,7 @@ use Rattle.trace_port.specs.Ticks.{due, ticked}
 use Rattle.trace_port.specs.Calls.{taken, went}
 use Rattle.trace_port.specs.PortCalls.{Accepts, Flushes, Seals, Ticks, Abandons}
 use Rattle.trace_port.specs.declared.fault.PortFault.{PortFault}
-use Rattle.tracees.specs.Effects.{Effect, effect, no_effect}
+use Rattle.trace_port.specs.Effects.{Effect, effect, no_effect}
 use Rattle.trace_script.specs.declared.line.Line.{Line}
 use Rattle.trace_script.specs.declared.line.Line.TheVariants as lines
 use Rattle.trace_script.specs.declared.desk_line.DeskLine.{DeskLine}

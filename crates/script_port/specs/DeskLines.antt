@@ -12,7 +12,7 @@ use Rattle.intake.specs.declared.offer.Offer.{Offer}
 use Rattle.intake.specs.declared.tracee.Tracee.{Tracee}
 use Rattle.tracees.specs.Books.{no_totals}
 use Rattle.tracees.specs.Desks.{DeskState, Seat}
-use Rattle.tracees.specs.Effects.{Effect, effect, no_effect}
+use Rattle.trace_port.specs.Effects.{Effect, effect, no_effect}
 use Rattle.tracees.specs.Emits.{Emits}
 use Rattle.tracees.specs.Hands.{HandsOver, FlushesFor, items_moved, has_gone}
 use Rattle.tracees.specs.declared.receipt.HandFault.{HandFault}

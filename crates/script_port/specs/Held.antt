@@ -8,8 +8,8 @@ use Rattle.trace_port.specs.Sound.{Sound}
 use Rattle.trace_port.specs.Port.{Told, Fits, Ends}
 use Rattle.trace_port.specs.PortCalls.{Finishes}
 use Rattle.tracees.specs.Desks.{DeskState}
-use Rattle.tracees.specs.Effects.{Effect, items_in, covered_by}
-use Rattle.tracees.specs.Lent.{IsAsOpened}
+use Rattle.trace_port.specs.Effects.{Effect, items_in, covered_by, IsSoundSince}
+use Rattle.trace_port.specs.Opened.{IsAsOpened}
 use Rattle.trace_script.specs.declared.line.Line.{Line}
 use Rattle.script_port.specs.declared.answer.Answer.{Answer}
 use Rattle.script_port.specs.declared.reply.Leave.{Leave}
@@ -82,11 +82,6 @@ pub record LacksOfLast (text last begun : List ℕ) : Type 0 where
 pub data Tells (Writes : List ℕ → Type 0) (greeting : List ℕ) (done : List Exchange) : Result (Option Leave) SimFault → Type 0 where
   all : {left : Result (Option Leave) SimFault} → Writes (greeting ++ written done) → Tells Writes greeting done left
   not_all : (begun : List ℕ) → LacksOfLast (greeting ++ written done) (last_text greeting done) begun → Writes begun → Tells Writes greeting done (Err faults.Write)
-
--- a port that has accepted ys: a crash at any moment since left an image that is sound for zs, all that was accepted in the end, by what was covered then
-pub record IsSoundSince (now : Told) (last : Device) (v0 : View) (ys zs : List Item) (c : ℕ) : Type 0 where
-  pub fits : Fits now v0 ys c
-  pub since : Leaves now.device last (Sound now.spec v0 zs c)
 
 -- the moments of what is asked these lines, and of its end
 pub record IsSoundThroughout {P : Type 0} (told : P → Told) (first : Held P) (asked : List Exchange) (leave : Option Leave) (end : Held P) (last : Device) (v0 : View) (c : ℕ) : Type 0 where

@@ -1,7 +1,7 @@
 //! What a run does while a port is held in a desk.
 ghost use Rattle.std.specs.Prelude.{◌≡◌, ◌≤◌, []};
 ghost use Rattle.std.specs.Io.KnownBytes.{Appends};
-ghost use Rattle.tracees.specs.Effects.{Effect, no_effect};
+ghost use Rattle.trace_port.specs.Effects.{Effect, no_effect};
 ghost use Rattle.trace_script.specs.Lines.{IsWithinLimits, IsNumbered};
 ghost use Rattle.script_port.specs.Sides.{AtDesk, first_side, desk_seen, seat_seen, side_seen, KeepsDesk};
 ghost use Rattle.script_port.specs.{DeskLines.IsAskedFor, DeskLines.IsAskedAtDesk, Asked.IsAsked, LinesRun.RunsLines, Held.Ran, Held.IsAtDesk};

@@ -9,6 +9,7 @@ mod fault;
 mod opening;
 mod port_lines;
 mod reading;
+mod record;
 mod refusal;
 mod reply;
 
@@ -19,5 +20,6 @@ pub use fault::SimFault;
 pub use opening::AnyOpening;
 pub use port_lines::{hold_file, hold_wrap};
 pub use reading::next_line;
+pub use record::{record_file, record_wrap};
 pub use refusal::{HandRefusal, Refusal};
 pub use reply::{Leave, Origin, Stop};

@@ -1,4 +1,5 @@
 //! What a port is made of.
+ghost use Rattle.std.specs.Prelude.{◌≡◌};
 
 use trace_port::{Opening, Pending};
 use wrap_port::WrapOpening;
@@ -8,4 +9,18 @@ use wrap_port::WrapOpening;
 pub enum AnyOpening {
     File(Opening<Pending>),
     Wrap(WrapOpening<Pending>),
+}
+
+impl AnyOpening {
+    ghost use Rattle.script_port.specs.PortOpenings.{entries_found};
+
+    /// How many entries the trace has.
+    pub fn total(&self) -> u64
+        ensures { result ≡ entries_found self.now }
+    {
+        match self {
+            AnyOpening::File(opening) => opening.total(),
+            AnyOpening::Wrap(opening) => opening.total(),
+        }
+    }
 }

@@ -14,13 +14,13 @@ use Rattle.trace_port.specs.PortCalls.{Flushes}
 use Rattle.trace_port.specs.declared.fault.PortFault.{PortFault}
 use Rattle.trace_port.specs.declared.fault.PortFault.TheVariants as faults
 use Rattle.tracees.specs.Desks.{DeskState, Seat}
-use Rattle.tracees.specs.Effects.{effect, Calls}
+use Rattle.trace_port.specs.Effects.{effect, Calls}
 use Rattle.tracees.specs.Hands.{TakesInOrder, Moves, HandsOver, FlushesFor, items_moved, has_gone, receipt_of, moves, is_refused, no_memory, is_stranger, covers, flush_fails}
 use Rattle.tracees.specs.Moving.{HasNoRoom}
 use Rattle.tracees.specs.declared.receipt.Receipt.{Receipt}
 use Rattle.tracees.specs.declared.receipt.HandFault.{HandFault}
 use Rattle.tracees.specs.declared.receipt.HandFault.TheVariants as hands
-use Rattle.tracees.proofs.Composed.{IsStill, calls_both, flush_calls, grows_of, joins_next, no_effect_call_of}
+use Rattle.trace_port.proofs.Composed.{IsStill, calls_both, flush_calls, grows_of, joins_next, no_effect_call_of}
 use Rattle.tracees.proofs.Counted.{takes_calls}
 
 -- ---- what it did, told in another way

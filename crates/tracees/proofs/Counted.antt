@@ -11,8 +11,8 @@ use Rattle.trace_port.specs.Calls.{taken, IsRefused}
 use Rattle.trace_port.specs.declared.fault.PortFault.{PortFault}
 use Rattle.trace_port.specs.declared.fault.PortFault.TheVariants as faults
 use Rattle.tracees.specs.Hands.{TakesInOrder, none_left, takes_one, fails_at, stops_at}
-use Rattle.tracees.specs.Effects.{effect, Calls}
-use Rattle.tracees.proofs.Composed.{IsStill, accept_calls, calls_both, joins_next, no_effect_call}
+use Rattle.trace_port.specs.Effects.{effect, Calls}
+use Rattle.trace_port.proofs.Composed.{IsStill, accept_calls, calls_both, joins_next, no_effect_call}
 
 -- a refusal takes nothing
 pub none_taken : (e : Entry) (fault : PortFault) → IsRefused {T = ℕ} (Err fault) → taken e (Err fault) ≡ []

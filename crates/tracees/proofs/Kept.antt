@@ -18,14 +18,15 @@ use Rattle.tracees.specs.Agreement.{IsAgreed}
 use Rattle.tracees.specs.Desks.{DeskState, Seat}
 use Rattle.tracees.specs.Hands.{Names, HandsOver, FlushesFor, moves, is_refused, no_memory, is_stranger, covers, flush_fails}
 use Rattle.tracees.specs.Steps.{State, ActsOn, IsStep, emits, hands_over, flushes_for, flushes, seals, ticks, emit_unknown, hand_unknown, flush_for_unknown, flush_unknown, seal_unknown, tick_unknown, offer_reply, hand_reply, flush_reply, seal_reply, tick_reply, Run, ends, goes_on}
-use Rattle.tracees.specs.Effects.{Effect, effect, no_effect, items_in, covered_by, Calls, received, receipt_in, is_receipt, effect_at, effects_at}
+use Rattle.trace_port.specs.Effects.{Effect, effect, no_effect, items_in, covered_by, Calls}
+use Rattle.tracees.specs.Effects.{received, receipt_in, is_receipt, effect_at, effects_at}
 use Rattle.tracees.specs.Moments.{Parts, AreReceiptsKept}
 use Rattle.tracees.specs.declared.receipt.Receipt.{Receipt}
 use Rattle.tracees.specs.declared.receipt.HandFault.{HandFault}
 use Rattle.tracees.specs.declared.step.Step.{Step}
 use Rattle.tracees.specs.declared.step.Reply.{Reply}
 use Rattle.tracees.proofs.Agreements.{covered_grows, receipt_agrees}
-use Rattle.tracees.proofs.Composed.{IsStill, covered_more}
+use Rattle.trace_port.proofs.Composed.{IsStill, covered_more}
 use Rattle.tracees.proofs.Places.{written}
 use Rattle.tracees.proofs.Runs.{run_calls, step_calls}
 

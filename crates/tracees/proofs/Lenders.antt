@@ -19,13 +19,13 @@ use Rattle.intake.specs.Tracees.{waiting_of}
 use Rattle.intake.specs.declared.tracee.Tracee.{Tracee}
 use Rattle.tracees.specs.Books.{no_totals}
 use Rattle.tracees.specs.Desks.{DeskState, Seat}
-use Rattle.tracees.specs.Effects.{effect, Calls}
+use Rattle.trace_port.specs.Effects.{effect, Calls}
 use Rattle.tracees.specs.Hands.{TakesInOrder, none_left, takes_one, fails_at, stops_at, HandsOver, moved_by, items_moved, moves, is_refused, no_memory, is_stranger}
 use Rattle.tracees.specs.Lent.{first_seat, HandsOne}
 use Rattle.tracees.specs.declared.book.Totals.{Totals}
 use Rattle.tracees.specs.declared.receipt.Receipt.{Receipt}
 use Rattle.tracees.specs.declared.receipt.HandFault.{HandFault}
-use Rattle.tracees.proofs.Composed.{IsStill, calls_both, finish_calls, grows_of, joins_next}
+use Rattle.trace_port.proofs.Composed.{IsStill, calls_both, finish_calls, grows_of, joins_next}
 use Rattle.tracees.proofs.Answered.{hands_calls}
 
 -- a hand-over at a desk with its end

@@ -3,7 +3,6 @@ pub mod Agreements
 pub mod Answered
 pub mod Audits
 pub mod Carried
-pub mod Composed
 pub mod Counted
 pub mod Eithers
 pub mod Kept

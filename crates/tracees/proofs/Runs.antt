@@ -18,14 +18,16 @@ use Rattle.trace_port.specs.declared.fault.PortFault.TheVariants as faults
 use Rattle.tracees.specs.Desks.{DeskState, Seat}
 use Rattle.tracees.specs.Hands.{HandsOver, FlushesFor, moves, is_refused, no_memory, is_stranger, covers, flush_fails, items_moved, has_gone}
 use Rattle.tracees.specs.Steps.{State, ActsOn, IsStep, emits, hands_over, flushes_for, flushes, seals, ticks, emit_unknown, hand_unknown, flush_for_unknown, flush_unknown, seal_unknown, tick_unknown, hand_reply, flush_reply, seal_reply, tick_reply, Run, ends, goes_on}
-use Rattle.tracees.specs.Effects.{Effect, effect, no_effect, items_in, covered_by, Calls, received, receipt_in, is_receipt, is_acknowledged, has_cut, effect_at, effects_at}
+use Rattle.trace_port.specs.Effects.{Effect, effect, no_effect, items_in, covered_by, Calls}
+use Rattle.tracees.specs.Effects.{received, receipt_in, is_receipt, is_acknowledged, has_cut, effect_at, effects_at}
 use Rattle.tracees.specs.Moments.{AreGrown, AroundStep, AreSound, Parts, EachMoment}
 use Rattle.tracees.specs.declared.receipt.Receipt.{Receipt}
 use Rattle.tracees.specs.declared.receipt.HandFault.{HandFault}
 use Rattle.tracees.specs.declared.receipt.HandFault.TheVariants as hands
 use Rattle.tracees.specs.declared.step.Step.{Step}
 use Rattle.tracees.specs.declared.step.Reply.{Reply}
-use Rattle.tracees.proofs.Composed.{IsStill, items_in-append, calls_both, no_call, no_effect_call, flush_calls, seal_calls, tick_calls}
+use Rattle.trace_port.proofs.Runs.{failed_was_due}
+use Rattle.trace_port.proofs.Composed.{IsStill, items_in-append, calls_both, no_call, no_effect_call, flush_calls, seal_calls, tick_calls}
 use Rattle.tracees.proofs.Answered.{hands_calls, flushes_for_calls}
 use Rattle.tracees.proofs.Places.{written, not_written}
 
@@ -104,11 +106,6 @@ cut_items cut = if cut then Cut ∷ [] else []
 same_cut : (cut : Bool) → cut_if cut ≡ cut_items cut
 same_cut true = refl
 same_cut false = refl
-
--- a tick that the device failed was due
-failed_was_due : (old new : Told) (now : ℕ) (b : Bool) → due old now ≡ b → Ticks old new now (Err faults.Device) → b ≡ true
-failed_was_due old new now true is t = refl
-failed_was_due old new now false is t = (let bad : Err faults.Device ≡ Ok false = t.not_due (t.failed refl).was is in absurd (cc))
 
 tick_items : (old new : Told) (now : ℕ) (result : Result Bool PortFault) → Ticks old new now result → ticked (due old now) result ≡ cut_items (has_cut (tick_reply result))
 tick_items old new now (Ok cut) t = ap cut_if (sym t.answer) ∙ same_cut cut

@@ -1,13 +1,11 @@
 -- What the replies of a run tell of one desk, and of one tracee.
-use Rattle.std.specs.Prelude.{◌≡◌, ◌≢◌, ℕ, Bool, true, false, nat_eq, if◌then◌else◌, List, [], ◌∷◌, ◌++◌, length, map, Option, Some, None, Ok, Err}
+use Rattle.std.specs.Prelude.{ℕ, Bool, true, false, nat_eq, if◌then◌else◌, List, [], ◌∷◌, ◌++◌, length, map, Option, Some, None, Ok, Err}
 use Rattle.ext_format.specs.Canonical.{canonical}
 use Rattle.entry_codec.specs.Entries.{Entry}
 use Rattle.entry_codec.specs.Seen.{views}
-use Rattle.recovery.specs.Items.{Item, Kept, Cut}
-use Rattle.recovery.specs.Views.{View}
+use Rattle.recovery.specs.Items.{Kept, Cut}
 use Rattle.trace_terms.specs.Data.{Data}
-use Rattle.trace_port.specs.Port.{Told, Fits, Goes, covered_to}
-use Rattle.trace_port.specs.declared.status.PortState.TheVariants.{Live}
+use Rattle.trace_port.specs.Effects.{Effect, effect, no_effect}
 use Rattle.trace_port.specs.declared.fault.PortFault.TheVariants as faults
 use Rattle.intake.specs.Emitting.{message_for}
 use Rattle.intake.specs.Histories.{History, Offered, Took}
@@ -19,37 +17,6 @@ use Rattle.tracees.specs.declared.step.Step.{Step}
 use Rattle.tracees.specs.declared.step.Step.TheVariants as steps
 use Rattle.tracees.specs.declared.step.Reply.{Reply}
 use Rattle.tracees.specs.declared.step.Reply.TheVariants as replies
-
--- what a call of a port did: the items that the port accepted, and whether all was then covered
-pub record Effect : Type 0 where
-  pub items : List Item
-  pub covers : Bool
-
-abbrev pub effect : List Item → Bool → Effect
-effect items covers = record { items = items; covers = covers }
-
--- nothing
-abbrev pub no_effect : Effect
-no_effect = effect [] false
-
--- all items of a list of effects
-abbrev pub items_in : List Effect → List Item
-items_in [] = []
-items_in (one ∷ more) = one.items ++ items_in more
-
--- how much is covered after them: all that was accepted up to the last that covered, else c; ys was accepted before them
-abbrev pub covered_by : View → List Item → ℕ → List Effect → ℕ
-covered_by v0 ys c [] = c
-covered_by v0 ys c (one ∷ more) = covered_by v0 (ys ++ one.items) (covered_to v0 (ys ++ one.items) c one.covers) more
-
--- any run of a port's calls: for each triple that the port fitted before it, it fits that triple, grown by these effects, after it; and
--- a port that isn't live accepts nothing and isn't live again
-pub record Calls (old new : Told) (effects : List Effect) : Type 0 where
-  pub was_honest : new.device.honest → old.device.honest
-  pub spec : new.spec ≡ old.spec
-  pub limit : new.limit ≡ old.limit
-  pub each : new.device.honest → (v0 : View) (ys : List Item) (c : ℕ) → Fits old v0 ys c → Goes old new v0 (ys ++ items_in effects) c (covered_by v0 ys c effects)
-  pub over : old.state ≢ Live → (items_in effects ≡ []) × (new.state ≢ Live)
 
 -- the receipt of a reply, also that inside a refusal
 abbrev pub receipt_in : Reply → Option Receipt

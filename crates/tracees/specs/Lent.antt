@@ -1,8 +1,8 @@
 -- What a lender knows of a port that went through a desk.
-use Rattle.std.specs.Prelude.{◌≡◌, ℕ, [], Result}
-use Rattle.segment.specs.Specification.{File}
+use Rattle.std.specs.Prelude.{◌≡◌, ℕ, Result}
 use Rattle.trace_store.specs.Device.{Device, IsIdle}
 use Rattle.trace_port.specs.Port.{Told, Ends}
+use Rattle.trace_port.specs.Opened.{IsAsOpened}
 use Rattle.trace_port.specs.PortCalls.{Finishes}
 use Rattle.intake.specs.declared.tracee.Tracee.{Tracee}
 use Rattle.tracees.specs.Books.{no_totals}
@@ -26,18 +26,6 @@ pub record HandsOne {P : Type 0} (told : P → Told) (number : ℕ) (old new : P
   pub hands : HandsOver told first between limit (first_seat number was) seat result
   pub tracee : is ≡ seat.tracee
   pub finishes : Finishes (told between.port) (told new)
-
--- a port tells what its opening told, and nothing is pending
-pub record IsAsOpened (opening port : Told) : Type 0 where
-  pub state : port.state ≡ opening.state
-  pub spec : port.spec ≡ opening.spec
-  pub limit : opening.spec ≡ File → port.limit ≡ opening.limit
-  pub covered : port.covered ≡ opening.covered
-  pub total : port.total ≡ opening.total
-  pub drops : port.drops ≡ opening.drops
-  pub gate : port.gate ≡ opening.gate
-  pub period_start : port.period_start ≡ opening.period_start
-  pub pending : port.pending ≡ []
 
 -- a port was made of an opening, the desk 0 over it handed over at most so many entries of a tracee, and then the port was dropped
 pub record RecordsOne {P : Type 0} (told : P → Told) (opening : Told) (last : Device) (limit : ℕ) (was is : Tracee) (result : Result Receipt HandFault) : Type 0 where

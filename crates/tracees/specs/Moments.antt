@@ -12,7 +12,8 @@ use Rattle.intake.specs.Passed.{HasPassed}
 use Rattle.tracees.specs.Agreement.{IsAgreed}
 use Rattle.tracees.specs.Desks.{DeskState, Seat}
 use Rattle.tracees.specs.Steps.{State, IsStep, Run}
-use Rattle.tracees.specs.Effects.{items_in, covered_by, Calls, receipt_in, effect_at, effects_at, history_after, carried}
+use Rattle.trace_port.specs.Effects.{items_in, covered_by, Calls}
+use Rattle.tracees.specs.Effects.{receipt_in, effect_at, effects_at, history_after, carried}
 use Rattle.tracees.specs.declared.receipt.Receipt.{Receipt}
 use Rattle.tracees.specs.declared.step.Step.{Step}
 use Rattle.tracees.specs.declared.step.Reply.{Reply}

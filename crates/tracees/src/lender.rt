@@ -6,7 +6,8 @@ ghost use Rattle.recovery.specs.Views.{View, total};
 ghost use Rattle.intake.specs.Tracees.{waiting_of};
 ghost use Rattle.trace_store.specs.Device.{device_of, Leaves};
 ghost use Rattle.trace_port.specs.{Places.HasGate, Sound.Sound, Port.Fits, Port.IsSaved, Opened.opened_told, FilePort.file_told};
-ghost use Rattle.tracees.specs.{Hands.moved_by, Hands.items_moved, Lent.HandsOne, Lent.RecordsOne, Loans.KeepsLoan, Meanings.MayStand};
+ghost use Rattle.tracees.specs.{Hands.moved_by, Hands.items_moved, Lent.HandsOne, Lent.RecordsOne, Meanings.MayStand};
+ghost use Rattle.trace_port.specs.Loans.{KeepsLoan};
 
 use crate::book::{Bookkeeping, PlainBook};
 use crate::desk::Desk;

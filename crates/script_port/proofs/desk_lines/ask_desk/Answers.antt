@@ -2,7 +2,7 @@ use Rattle.std.proofs.Common.{◌<◌, nat_eq, length, map, set, Some, w64, SFit
 use Rattle.std.proofs.lemmas.Int.{to_z-of_z}
 use Rattle.std.proofs.lemmas.List.{map-set}
 use Rattle.trace_message.specs.declared.event.Stamp.{Stamp}
-use Rattle.tracees.specs.Effects.{no_effect}
+use Rattle.trace_port.specs.Effects.{no_effect}
 use Rattle.script_port.specs.declared.answer.Answer.TheVariants as answers
 use Rattle.trace_script.specs.declared.desk_line.DeskLine.{DeskLine}
 use Rattle.trace_script.specs.declared.desk_line.DeskLine.TheVariants as desk_lines

@@ -1,6 +1,6 @@
 use Rattle.std.proofs.Common.{ap, false, refl}
 use Rattle.intake.specs.Tracees.{counts_of}
-use Rattle.tracees.specs.Effects.{effect, no_effect}
+use Rattle.trace_port.specs.Effects.{effect, no_effect}
 use Rattle.tracees.specs.Hands.{items_moved, has_gone}
 use Rattle.script_port.specs.declared.answer.Answer.TheVariants as answers
 use Rattle.trace_script.specs.declared.desk_line.TraceeLine.TheVariants as tracee_lines

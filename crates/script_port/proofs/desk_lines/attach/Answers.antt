@@ -1,6 +1,6 @@
 use Rattle.std.proofs.Common.{[], ◌∷◌, ◌++◌, map, ◌∙◌, ap, refl}
 use Rattle.std.proofs.lemmas.List.{map-append}
-use Rattle.tracees.specs.Effects.{no_effect}
+use Rattle.trace_port.specs.Effects.{no_effect}
 use Rattle.intake.specs.declared.fault.TraceeFault.TheVariants.{NoMemory}
 use Rattle.script_port.specs.declared.answer.Answer.TheVariants.{Refused}
 use Rattle.trace_script.specs.declared.desk_line.DeskLine.TheVariants.{Tracee}

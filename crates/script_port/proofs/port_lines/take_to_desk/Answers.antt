@@ -1,7 +1,7 @@
 use Rattle.std.proofs.Common.{rules, [], ◌≡◌, refl, sym, subst, ap, ◌∙◌}
 use Rattle.std.proofs.lemmas.Result.{err_from_is_err_and}
 use Rattle.tracees.specs.Books.{plain_totals}
-use Rattle.tracees.specs.Effects.{no_effect}
+use Rattle.trace_port.specs.Effects.{no_effect}
 use Rattle.trace_port.specs.PortCalls.{Finishes}
 use Rattle.script_port.specs.declared.answer.Answer.TheVariants.{Done}
 use Rattle.trace_script.specs.declared.line.Line.TheVariants as lines

@@ -3,7 +3,7 @@ use Rattle.std.proofs.lemmas.Grind.{common_steps}
 use Rattle.tracees.specs.Steps.{IsStep, Run}
 use Rattle.tracees.specs.declared.step.Step.{Step}
 use Rattle.tracees.specs.States.{state_of}
-use Rattle.tracees.proofs.Composed.{IsStill}
+use Rattle.trace_port.proofs.Composed.{IsStill}
 use Rattle.tracees.proofs.StepByStep.{runs_more, runs_all, step_numbered}
 use Rattle.tracees.proofs.Runs.{Stands, each_moment, are_grown}
 use Rattle.tracees.proofs.Carried.{are_carried}
