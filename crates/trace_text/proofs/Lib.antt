@@ -15,4 +15,11 @@ pub mod LeafSound
 pub mod AnySound
 pub mod PrettyTelling
 pub mod OnePretty
+pub mod Between
+pub mod Fronts
+pub mod Lengths
+pub mod Arities
+pub mod Suiting
+pub mod ChosenLines
+pub mod FrontFacts
 pub mod SubsetLemmas

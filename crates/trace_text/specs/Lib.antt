@@ -19,3 +19,6 @@ pub mod PrettyLines
 pub mod Subset
 pub mod Shows
 pub mod Tells
+pub mod Facts
+pub mod FrontReading
+pub mod Choosing

@@ -8,8 +8,13 @@ mod any_term;
 mod atom_text;
 mod big_text;
 mod char_text;
+mod choice;
+mod choice_laws;
+mod chosen;
 mod controls;
+mod facts;
 mod float_text;
+mod front;
 mod last_pid;
 mod line;
 mod manner;
@@ -26,6 +31,10 @@ pub use any_laws::{
     spelled_any_is_read, subset_is_spelled,
 };
 pub use atom_text::is_plain;
-pub use line::{Apart, put_before, put_end, put_line, put_missing, put_opaque_line, whole_term};
+pub use choice::Choice;
+pub use choice_laws::chosen_lines_are_kept;
+pub use line::{
+    Apart, put_before, put_chosen_line, put_end, put_line, put_missing, put_opaque_line, whole_term,
+};
 pub use pretty::PrettyTeller;
 pub use style::Style;
