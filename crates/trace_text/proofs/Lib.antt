@@ -6,6 +6,7 @@ pub mod Telling
 pub mod WholeDecimal
 pub mod FloatLemmas
 pub mod AnyLemmas
+pub mod ReadableLemmas
 pub mod LeafLemmas
 pub mod KindFinding
 pub mod OtherTags
@@ -17,3 +18,4 @@ pub mod AnySound
 pub mod PrettyTelling
 pub mod OnePretty
 pub mod SubsetLemmas
+pub mod PlainReading

@@ -10,6 +10,7 @@ pub mod Controls
 pub mod FloatText
 pub mod Pretty
 pub mod PrettyWords
+pub mod Seeing
 pub mod Sights
 pub mod Printed
 pub mod BigText
@@ -18,3 +19,4 @@ pub mod PrettyKinds
 pub mod PrettyLines
 pub mod Subset
 pub mod Shows
+pub mod Plain

@@ -15,9 +15,11 @@ mod line;
 mod manner;
 mod other_word;
 mod pretty;
+mod readable;
 mod sight;
 mod spelled;
 mod style;
+mod term_style;
 mod term_text;
 mod told;
 
