@@ -562,18 +562,11 @@ fn request_in<'a>(alloc: Global, matches: &ArgMatches<'a>) -> Result<Request<'a>
         });
     }
     Ok(match trace_request_in(name, matches)? {
-        Some(request) => Request::OfTrace {
+        Some(request) if name == "list" => Request::Listing {
             request,
-            shown: if name == "list" {
-                shown_in(alloc, matches)?
-            } else {
-                Shown {
-                    is_json: false,
-                    choice: None,
-                    is_plain: false,
-                }
-            },
+            shown: shown_in(alloc, matches)?,
         },
+        Some(request) => Request::OfTrace(request),
         None if name == "stream" => Request::Stream {
             is_pretty: is_pretty(matches),
             shown: shown_in(alloc, matches)?,

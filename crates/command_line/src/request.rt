@@ -92,7 +92,9 @@ pub enum Request<'a> {
         shown: Shown,
     },
     /// What is done with the files of a trace.
-    OfTrace {
+    OfTrace(TraceRequest<'a>),
+    /// What of them is listed, and how that is shown.
+    Listing {
         request: TraceRequest<'a>,
         shown: Shown,
     },

@@ -8,7 +8,7 @@ ghost use Rattle.dbgrec.specs.Serving.{IsServed};
 ghost use Rattle.dbgrec.specs.Statuses.{EndsSo, Answers, Ends};
 
 use command_line::{Misuse, Request, asked_for};
-use recorder::{StreamListing, follow_files, serve_files};
+use recorder::{StreamListing, follow_files, list_files, serve_files};
 use shown_listings::{Inlet, Outlet, Output, show};
 use simulator::serve_sim;
 use std::cell::Cell;
@@ -41,8 +41,9 @@ fn serve<R: Wait, I: Read + Drop, W: Output>(
             let listing = StreamListing { alloc, is_pretty };
             show(rt, waiter, listing, shown, input, output).0
         }
-        Request::OfTrace { request, shown } => {
-            serve_files(rt, waiter, request, shown, input, output).0
+        Request::OfTrace(request) => serve_files(rt, waiter, request, input, output).0,
+        Request::Listing { request, shown } => {
+            list_files(rt, waiter, request, shown, input, output).0
         }
     }
 }

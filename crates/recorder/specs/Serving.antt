@@ -41,12 +41,17 @@ pub record AreMade (world : World) (request : TraceRequest) (files : Files) : Ty
   pub place : IsAtPlace (asked_in request) files
   pub agrees : NamesTrace request → AgreesOn (asked_in request) files.found
 
--- files were made for what is asked, it was done with them and shown so, and they are left; or none could be had, and nothing is
--- written
-pub data ServesFiles (world : World) (request : TraceRequest) (shown : Shown) (had was now : Option (List ℕ)) : Result Unit Complaint → Option Files → Type 0 where
-  served : {result : Result Unit Complaint} (files left : Files) → AreMade world request files → Shows shown.is_json shown.choice (ServesTrace request files (outside had 0 []) left) result was now
-      → ServesFiles world request shown had was now result (Some left)
-  no_files : (complaint : Complaint) → status_told complaint ≡ 1 → Keeps was now → ServesFiles world request shown had was now (Err complaint) None
+-- files were made for what is asked, it was done with them, and they are left; or none could be had, and nothing is written
+pub data ServesFiles (world : World) (request : TraceRequest) (had was now : Option (List ℕ)) : Result Unit Complaint → Option Files → Type 0 where
+  served : {result : Result Unit Complaint} (files left : Files) → AreMade world request files → ServesTrace request files (outside had 0 []) left result was now
+      → ServesFiles world request had was now result (Some left)
+  no_files : (complaint : Complaint) → status_told complaint ≡ 1 → Keeps was now → ServesFiles world request had was now (Err complaint) None
+
+-- the same, and what is done with them is shown so
+pub data ListsFiles (world : World) (request : TraceRequest) (shown : Shown) (had was now : Option (List ℕ)) : Result Unit Complaint → Option Files → Type 0 where
+  listed : {result : Result Unit Complaint} (files left : Files) → AreMade world request files → Shows shown.is_json shown.choice (ServesTrace request files (outside had 0 []) left) result was now
+      → ListsFiles world request shown had was now result (Some left)
+  not_listed : (complaint : Complaint) → status_told complaint ≡ 1 → Keeps was now → ListsFiles world request shown had was now (Err complaint) None
 
 -- files were made for what is asked, and they were followed and shown so, and are left; or none could be had, and nothing is written
 pub data FollowsFiles (world : World) (asked : Asked) (is_pretty : Bool) (shown : Shown) (was now : Option (List ℕ)) : Result Unit Complaint → Option Files → Type 0 where

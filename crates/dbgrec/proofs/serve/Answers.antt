@@ -25,3 +25,9 @@ returns-in-OfTrace g c =
     let contents = g.W.Write.contents in
     let call = c.serve_files in
     subst (λ request. IsServed g.world' request (g.I.Read.remaining c.args.input) (contents c.args.output.now) (contents call.new.output) call.result.0) (sym c.in-OfTrace.is) (call.result.1, call.ensures)
+
+pub returns-in-Listing : goal.returns-in-Listing
+returns-in-Listing g c =
+    let contents = g.W.Write.contents in
+    let call = c.list_files in
+    subst (λ request. IsServed g.world' request (g.I.Read.remaining c.args.input) (contents c.args.output.now) (contents call.new.output) call.result.0) (sym c.in-Listing.is) (call.result.1, call.ensures)

@@ -1,7 +1,6 @@
 use Rattle.std.proofs.Common.{subst}
 use Rattle.std.proofs.KnownBytes.{Keeps-refl}
 use Rattle.trace_recording.specs.Incoming.{outside}
-use Rattle.shown_listings.specs.Listings.{Shows}
 use Rattle.recorder.specs.Serving.{ServesTrace, served, no_files}
 use Rattle.recorder.proofs.serving.serve_files.Goals as goal
 
@@ -14,6 +13,6 @@ returns g c =
     let had = g.I.Read.remaining c.args.input in
     let made = c.in-Ok.ensures in
     let files = c.in-Ok.files in
-    let shown = c.show-done.result in
-    served files shown.1 (record { past = made.past; locked = made.locked; free = made.free; place = made.place; agrees = made.agrees })
-    (subst (λ s. Shows c.args.shown.is_json c.args.shown.choice (ServesTrace c.args.request files (outside had 0 s) shown.1) shown.0 (contents c.args.output.now) (contents c.show-done.new.output)) c.console_for-console.ensures c.show-done.ensures)
+    let left = c.do_over-done.new.files in
+    served files left (record { past = made.past; locked = made.locked; free = made.free; place = made.place; agrees = made.agrees })
+    (subst (λ s. ServesTrace c.args.request files (outside had 0 s) left c.do_over-done.result (contents c.args.output.now) (contents c.do_over-done.new.output)) c.console_for-console.ensures c.do_over-done.ensures)
