@@ -303,6 +303,16 @@ def random_arguments_are_counted(program):
 
 
 @case
+def arguments_that_are_no_proper_list_have_no_number(program):
+    """`[1|2]`, `[1,2|3]`, and integers as a number of arguments, the greatest beyond 64 bits."""
+    tails = [b"\x6c\x00\x00\x00\x01\x61\x01\x61\x02", b"\x6c\x00\x00\x00\x02\x61\x01\x61\x02\x61\x03", b"\x61\x01", b"\x62\xff\xff\xff\xff", b"\x6e\x09\x00" + bytes(8) + b"\x01"]
+    head = b"\x83\x68\x04" + short_atom("trace") + b"\x58" + short_atom("n@h") + bytes(12) + short_atom("call") + b"\x68\x03" + short_atom("m") + short_atom("f")
+    listed = Listed(program, b"".join(message(head + tail) for tail in tails))
+    for count in range(4):
+        listed.shows(Asked(function=("m", "f", count)), "--mfa", f"m:f/{count}")
+
+
+@case
 def random_messages_are_chosen(program):
     dice = random.Random(73)
     writer = Writer(dice)

@@ -7,7 +7,7 @@ import struct
 
 from cases import group
 from choosing import ATOM_OF_EVENT, STYLES, Asked, Listed, call_with, chosen, stream_of, told_by
-from entries import atom_text, drop, kept, message, split
+from entries import drop, kept, message, split
 from program import same
 from segments import FILE_HEADER, segment, wrap_header
 from terms import AnyReader, Unread, Writer
@@ -29,13 +29,11 @@ def tells_process(entry):
 def told_of_message(kind, text, entry):
     """The members after number and kind of an entry that is told by its term."""
     found, told = {}, told_by(entry)
-    if not all(part in text for part in (told.process, *told.function[:2])):
-        told = told_by(entry, atom_text)
     if told.process and tells_process(entry):
         found["pid"] = told.process
     if told.function and kind in ATOM_OF_EVENT:
         module, name, arity = told.function
-        found["mfa"] = f"{module}:{name}/{arity}" if arity is not None and arity < 2**64 else f"{module}:{name}"
+        found["mfa"] = f"{module}:{name}/{arity}" if arity is not None and arity >= 0 else f"{module}:{name}"
     return found | {"text": text}
 
 

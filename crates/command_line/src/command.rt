@@ -8,10 +8,10 @@ use crate::request::{
     Asked, Ending, Flushing, Form, Misuse, Request, Rules, Shape, Shown, TraceRequest, Wanted,
 };
 use crate::size::bytes_in;
-use chosen_lines::{Choice, is_kind};
 use clap::{Arg, ArgAction, ArgMatches, Command, value_parser};
 use std::alloc::{AllocError, Global};
 use std::convert::AsStr;
+use trace_text::{Choice, is_kind};
 
 /// An option with a value.
 fn option<'a>(alloc: Global, name: &'a str, value: &'a str, about: &'a str) -> Arg<'a> {

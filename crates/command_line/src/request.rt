@@ -1,8 +1,10 @@
 //! What a command line asks for.
 
-use chosen_lines::Choice;
+ghost use Rattle.std.specs.Prelude.{◌≡◌, None, false};
+
 use clap::Error;
 use std::alloc::AllocError;
+use trace_text::Choice;
 
 /// How a trace is stored, as a command line says it.
 #[derive(Clone, Copy, Debug, PartialEq, Eq)]
@@ -65,12 +67,25 @@ pub struct Rules {
 /// How a listing is shown.
 #[derive(Debug, Drop)]
 pub struct Shown {
-    /// Each line as a JSON object.
+    /// A JSON object for each line.
     pub is_json: bool,
-    /// The lines that are shown, where not all are.
+    /// Which entries are listed, where not all are.
     pub choice: Option<Choice>,
     /// It isn't readable: it may have lines that are opaque for want of `--pretty`.
     pub is_plain: bool,
+}
+
+impl Shown {
+    /// Each line, as it is.
+    pub fn each_line() -> Shown
+        ensures { result ≡ record { is_json = false; choice = None; is_plain = false } }
+    {
+        Shown {
+            is_json: false,
+            choice: None,
+            is_plain: false,
+        }
+    }
 }
 
 /// What a command line asks for.

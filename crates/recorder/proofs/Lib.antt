@@ -13,3 +13,4 @@ pub mod Made
 pub mod Looking
 pub mod Starting
 pub mod Fed
+pub mod Streamed

@@ -19,12 +19,12 @@ use Rattle.recorder.specs.Telling.{IsOfMemory}
 use Rattle.recorder.specs.Salvaging.{TellsSum, IsSummary, sums, not_told, IsSalvage, whole, stopped}
 
 -- all of it
-pub salvaged_whole : (own form : Form) (Told : SimFault → Complaint → Type 0) (Failed : Type 0) (image : Image) (s : Salvaged) (was mid now : Option (List ℕ)) (complaint : Complaint) → own ≡ form → ((text : List ℕ) × IsSalvaged own image s text × Appends was mid text) → Keeps mid now → IsSummary Told Failed image s complaint → IsSalvage form Told Failed image was now complaint
-salvaged_whole own form Told Failed image s was mid now complaint is wrote keeps told = subst (λ (f : Form). IsSalvage f Told Failed image was now complaint) is (whole s wrote.0 mid wrote.1 wrote.2 keeps told)
+pub salvaged_whole : (form : Form) (Told : SimFault → Complaint → Type 0) (Failed : Type 0) (image : Image) (s : Salvaged) (was mid now : Option (List ℕ)) (complaint : Complaint) → ((text : List ℕ) × IsSalvaged form image s text × Appends was mid text) → Keeps mid now → IsSummary Told Failed image s complaint → IsSalvage form Told Failed image was now complaint
+salvaged_whole form Told Failed image s was mid now complaint wrote keeps told = whole s wrote.0 mid wrote.1 wrote.2 keeps told
 
 -- what a fault leaves
-pub salvaged_until : (own form : Form) (Told : SimFault → Complaint → Type 0) (Failed : Type 0) (image : Image) (fault : ReadFault) (was mid now : Option (List ℕ)) (complaint : Complaint) → own ≡ form → IsLeftOf (IsSalvageBegun own image) fault was mid → Keeps mid now → Told (read_fault fault) complaint → IsSalvage form Told Failed image was now complaint
-salvaged_until own form Told Failed image fault was mid now complaint is left keeps told = subst (λ (f : Form). IsSalvage f Told Failed image was now complaint) is (stopped fault mid left keeps told)
+pub salvaged_until : (form : Form) (Told : SimFault → Complaint → Type 0) (Failed : Type 0) (image : Image) (fault : ReadFault) (was mid now : Option (List ℕ)) (complaint : Complaint) → IsLeftOf (IsSalvageBegun form image) fault was mid → Keeps mid now → Told (read_fault fault) complaint → IsSalvage form Told Failed image was now complaint
+salvaged_until form Told Failed image fault was mid now complaint left keeps told = stopped fault mid left keeps told
 
 -- what it came to is told, or there is no memory for that
 pub sums_up : (Told : SimFault → Complaint → Type 0) (Failed : Type 0) (image : Image) (s : Salvaged) (complaint : Complaint) → (s.files ≡ 0 → IsStanding standings.Absent image → Failed) → TellsSum s complaint ⊎ IsOfMemory complaint → IsSummary Told Failed image s complaint

@@ -1,5 +1,6 @@
 -- What a command does with the files of a trace.
 use Rattle.std.specs.Prelude.{◌≡◌, ◌≢◌, ◌*◌, ℕ, Bool, true, false, Option, None, List, [], Result, Ok, Err, IsErr, IfSome, IfErr}
+use Rattle.std.specs.Option.{option_map}
 use Rattle.std.specs.Io.KnownBytes.{Appends, Keeps}
 use Rattle.trace_store.specs.Disk.{Image}
 use Rattle.trace_store.specs.Moments.{Rose, LeavesOnly}
@@ -14,7 +15,13 @@ use Rattle.trace_client.specs.Forms.{Form, as_lines, as_bytes}
 use Rattle.trace_client.specs.Output.{AppendsPrefix}
 use Rattle.trace_client.specs.declared.fault.StreamFault.{StreamFault}
 use Rattle.trace_text.specs.declared.style.Style.{Style}
-use Rattle.trace_text.specs.declared.style.Style.TheVariants.{Plain, Pretty}
+use Rattle.trace_text.specs.declared.style.Wording.{Wording}
+use Rattle.trace_text.specs.declared.style.Wording.TheVariants.{Plain, Pretty}
+use Rattle.trace_text.specs.declared.style.Notation.{Notation}
+use Rattle.trace_text.specs.declared.style.Notation.TheVariants.{Text, Json}
+use Rattle.command_line.specs.declared.request.Shown.{Shown}
+use Rattle.trace_text.specs.Choosing.{asks_of}
+use Rattle.trace_text.specs.Lines.{asks_in}
 use Rattle.trace_files.specs.Clearing.{AreCleared, IsClearing, HasNoForeign}
 use Rattle.trace_files.specs.Standing.{IsStanding}
 use Rattle.trace_files.specs.declared.standing.Standing.TheVariants as standings
@@ -144,14 +151,25 @@ clearing_of false = Own
 clearing_of true = Any
 
 -- how messages are told
-abbrev pub style_of : Bool → Style
-style_of false = Plain
-style_of true = Pretty
+abbrev pub wording_of : Bool → Wording
+wording_of false = Plain
+wording_of true = Pretty
+
+-- what stands for each entry
+abbrev pub notation_of : Bool → Notation
+notation_of false = Text
+notation_of true = Json
+
+-- a style in which messages are told so, and the entries are listed that are shown, by lines or by objects
+pub record IsStyleOf (is_pretty : Bool) (shown : Shown) (style : Style) : Type 0 where
+  pub wording : style.wording ≡ wording_of is_pretty
+  pub notation : style.notation ≡ notation_of shown.is_json
+  pub asks : asks_in style ≡ option_map asks_of shown.choice
 
 -- how entries are written
-abbrev pub written_as : Written → Form
-written_as (written.Lines is_pretty) = as_lines (style_of is_pretty)
-written_as written.Stream = as_bytes
+abbrev pub IsWrittenAs : Written → Shown → Form → Type 0
+IsWrittenAs (written.Lines is_pretty) shown form = (style : Style) × IsStyleOf is_pretty shown style × (form ≡ as_lines style)
+IsWrittenAs written.Stream shown form = form ≡ as_bytes
 
 -- why the listing of a stream came to no end, and what is written then: by a fault, which is told, and the lines before it; or there was no room to read it, and nothing is written
 pub data EndsStream (style : Style) (had old new : Option (List ℕ)) (complaint : Complaint) : Type 0 where
@@ -166,16 +184,18 @@ Changes (requests.Salvage asked form) = ⊥
 Changes (requests.Info asked is_json) = ⊥
 Changes _ = Unit {0}
 
--- what is done with a trace for what the command line asks, by what is seen of the stream that comes in, what is observed until the end, and the bytes that are written
-abbrev pub Serves : TraceRequest → Files → Files → Outside → Observations → Option (List ℕ) → Option (List ℕ) → Result Unit Complaint → Type 0
-Serves (requests.List asked is_pretty) old new saw observed was now result = LooksOver old.store new.store (most_with result (most_to_read (reads_of old.store)) (reads_of old.store)) (IsRead (ListsStore (style_of is_pretty)) (as_lines (style_of is_pretty)) (IsToldAt old.place new.store) (reads_of old.store) was now result)
-Serves (requests.Export asked) old new saw observed was now result = LooksOver old.store new.store (most_with result (most_to_read (reads_of old.store)) (reads_of old.store)) (IsRead ExportsStore as_bytes (IsToldAt old.place new.store) (reads_of old.store) was now result)
-Serves (requests.Salvage asked form) old new saw observed was now result = LooksOver old.store new.store (most_to_salvage (reads_of old.store)) (IfErr result (IsSalvage (written_as form) (IsToldAt old.place new.store) (Rose (failures_of old.store) (failures_of new.store)) (reads_of old.store) was now)) × IsErr result × IfErr result (λ complaint. status_told complaint ≡ 1)
-Serves (requests.Info asked is_json) old new saw observed was now result = LooksOver old.store new.store (most_with result (5 * most_to_sum (reads_of old.store)) (reads_of old.store)) (IsInfo (IsToldAt old.place new.store) (reads_of old.store) result) × IfErr result (λ complaint. status_told complaint ≡ 1)
-Serves (requests.Wipe asked is_forced) old new saw observed was now result = (honest_of new.store → Clears (clearing_of is_forced) old.place old.store new.store was now result)
+-- what is done with a trace for what the command line asks and how it is to be shown, by what is seen of the stream that comes in, what is observed until the end, and the bytes that are written
+abbrev pub Serves : TraceRequest → Shown → Files → Files → Outside → Observations → Option (List ℕ) → Option (List ℕ) → Result Unit Complaint → Type 0
+Serves (requests.List asked is_pretty) shown old new saw observed was now result = (style : Style) × IsStyleOf is_pretty shown style
+    × LooksOver old.store new.store (most_with result (most_to_read (reads_of old.store)) (reads_of old.store)) (IsRead (ListsStore style) (as_lines style) (IsToldAt old.place new.store) (reads_of old.store) was now result)
+Serves (requests.Export asked) shown old new saw observed was now result = LooksOver old.store new.store (most_with result (most_to_read (reads_of old.store)) (reads_of old.store)) (IsRead ExportsStore as_bytes (IsToldAt old.place new.store) (reads_of old.store) was now result)
+Serves (requests.Salvage asked form) shown old new saw observed was now result = (out : Form) × IsWrittenAs form shown out
+    × LooksOver old.store new.store (most_to_salvage (reads_of old.store)) (IfErr result (IsSalvage out (IsToldAt old.place new.store) (Rose (failures_of old.store) (failures_of new.store)) (reads_of old.store) was now)) × IsErr result × IfErr result (λ complaint. status_told complaint ≡ 1)
+Serves (requests.Info asked is_json) shown old new saw observed was now result = LooksOver old.store new.store (most_with result (5 * most_to_sum (reads_of old.store)) (reads_of old.store)) (IsInfo (IsToldAt old.place new.store) (reads_of old.store) result) × IfErr result (λ complaint. status_told complaint ≡ 1)
+Serves (requests.Wipe asked is_forced) shown old new saw observed was now result = (honest_of new.store → Clears (clearing_of is_forced) old.place old.store new.store was now result)
     × (honest_of new.store → IsNotToWipe (clearing_of is_forced) (reads_of old.store) → OnlyLooks old.store new.store) × (honest_of new.store → LeavesOnly clock_of moments_of old.store new.store (IsClearing (images_of old.store)))
-Serves (requests.Record asked) old new saw observed was now result = Records old.place (wanted old.place.kind (turn_of asked)) old.store new.store saw.remaining was now result
-Serves (requests.Import asked rules) old new saw observed was now result = Feeds old.place (wanted old.place.kind (turn_of asked)) rules old.store new.store saw observed was now result
+Serves (requests.Record asked) shown old new saw observed was now result = Records old.place (wanted old.place.kind (turn_of asked)) old.store new.store saw.remaining was now result
+Serves (requests.Import asked rules) shown old new saw observed was now result = Feeds old.place (wanted old.place.kind (turn_of asked)) rules old.store new.store saw observed was now result
 
 -- no device call was made yet on the files of a trace, whatever the world that they are part of
 abbrev pub IsUntouched : World → Files → Type 0

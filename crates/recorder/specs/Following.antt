@@ -17,7 +17,8 @@ use Rattle.trace_reader.specs.declared.follower.Follower.{Follower}
 use Rattle.trace_reader.specs.declared.place.Look.{Look}
 use Rattle.trace_reader.specs.declared.place.Look.TheVariants as looks
 use Rattle.trace_advice.specs.Faults.{read_fault}
-use Rattle.recorder.specs.Commands.{style_of}
+use Rattle.command_line.specs.declared.request.Shown.{Shown}
+use Rattle.recorder.specs.Commands.{IsStyleOf}
 use Rattle.recorder.specs.Naming.{IsToldAt}
 use Rattle.recorder.specs.Telling.{IsOfWriter}
 use Rattle.trace_places.specs.declared.place.Place.{Place}
@@ -120,9 +121,9 @@ IsGone mid files fault = honest_of files → IsWhyGone (found_anew mid.files) (n
 -- couldn't be written out
 pub data Ends (mid : Stand) (files : FolderStore) (now : Option (List ℕ)) : Result Unit ReadFault → Type 0 where
   sealed : (follower : Follower) (told : Option (List ℕ)) → IsLook mid.files files mid.follower follower mid.holds told looks.Sealed
-      → Appends told now end_text → Ends mid files now (Ok tt)
+      → Appends told now (end_text (style_in follower).notation) → Ends mid files now (Ok tt)
   no_end : (follower : Follower) (told : Option (List ℕ)) (fault : ReadFault)
-      → IsLook mid.files files mid.follower follower mid.holds told looks.Sealed → AppendsPrefix told now end_text → Ends mid files now (Err fault)
+      → IsLook mid.files files mid.follower follower mid.holds told looks.Sealed → AppendsPrefix told now (end_text (style_in follower).notation) → Ends mid files now (Err fault)
   not_written_out : mid.files ≡ files → mid.holds ≡ now → Ends mid files now (Err faults.Write)
   failed : (follower : Follower) (fault : ReadFault) → LooksAnew mid.files files → IsGone mid files fault → IsWhyNotGoneOn mid.files files mid.follower follower fault
       → IsLookStopped (style_in mid.follower) (number_in mid.follower) (number_in follower) mid.holds now fault → Ends mid files now (Err fault)
@@ -147,5 +148,5 @@ pub record FollowsTrace (place : Place) (style : Style) (old new : FolderStore) 
   pub only_looks : (new ≡ left) ⊎ OnlyLooks left new
 
 -- the trace of these files was followed, in the style that was asked for
-abbrev pub Follows : Bool → Files → Files → Option (List ℕ) → Option (List ℕ) → Result Unit Complaint → Type 0
-Follows is_pretty old new was now result = FollowsTrace old.place (style_of is_pretty) old.store new.store was now result
+abbrev pub Follows : Bool → Shown → Files → Files → Option (List ℕ) → Option (List ℕ) → Result Unit Complaint → Type 0
+Follows is_pretty shown old new was now result = (style : Style) × IsStyleOf is_pretty shown style × FollowsTrace old.place style old.store new.store was now result

@@ -26,7 +26,6 @@ most_to_salvage image = 5 * length image + most_in image + most_to_tell image
 pub record IsSum (s : Salvaged) (told : Salvage) : Type 0 where
   pub files : told.files ≡ s.files
   pub entries : told.entries ≡ s.entries
-  pub shown : told.shown ≡ s.entries
   pub missing : told.missing ≡ s.missing
 
 -- that is told

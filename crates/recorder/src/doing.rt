@@ -3,8 +3,8 @@
 /// What was done when a fault came, as far as it says what to do next.
 #[derive(Clone, Copy, PartialEq, Eq)]
 pub enum Doing {
-    /// So many entries are listed.
-    Listing(u64),
+    /// So many entries are read, and so many of them listed.
+    Listing { entries: u64, shown: u64 },
     /// So many entries are written.
     Exporting(u64),
     /// So many entries are counted.
@@ -23,7 +23,7 @@ impl Doing {
             Doing::Exporting(_) => "export",
             Doing::Counting(_) => "info",
             Doing::Opening | Doing::Importing => "import",
-            Doing::Listing(_) | Doing::ReadingAgain | Doing::Other => "list",
+            Doing::Listing { .. } | Doing::ReadingAgain | Doing::Other => "list",
         }
     }
 }

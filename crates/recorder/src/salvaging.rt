@@ -3,26 +3,27 @@ ghost use Rattle.std.specs.Prelude.{◌≡◌, ◌⊎◌, IsErr, IfErr, IfOk};
 ghost use Rattle.trace_store.specs.Moments.{Rose};
 ghost use Rattle.stores.specs.FolderStore.{reads_of, failures_of};
 ghost use Rattle.trace_advice.specs.Complaints.{status_told};
+ghost use Rattle.trace_client.specs.Forms.{Form as Written};
 ghost use Rattle.trace_reader.specs.WritesOut.{form_of};
-ghost use Rattle.recorder.specs.{Files.LooksOver, Commands.written_as, Naming.IsToldAt, Salvaging.most_to_salvage, Salvaging.TellsSum, Salvaging.IsSalvage, Telling.IsOfMemory};
+ghost use Rattle.recorder.specs.{Files.LooksOver, Commands.IsWrittenAs, Naming.IsToldAt, Salvaging.most_to_salvage, Salvaging.TellsSum, Salvaging.IsSalvage, Telling.IsOfMemory};
 
 use crate::commands::{style, written_out};
 use crate::doing::Doing;
 use crate::files::Files;
 use crate::informing::told;
 use crate::state::{Newest, is_closed};
-use command_line::Form;
+use command_line::{Form, Shown};
 use std::alloc::AllocError;
 use std::io::Write;
 use trace_advice::{Complaint, Salvage};
 use trace_reader::{Host, Manner, ReadFault, Salvaged, Watched};
 
 /// How entries are written.
-fn manner(form: Form) -> Manner
-    ensures { form_of result ≡ written_as form }
+fn manner(form: Form, shown: &Shown) -> Manner<'_>
+    ensures { IsWrittenAs form shown.now (form_of result) }
 {
     match form {
-        Form::Lines { is_pretty } => Manner::Lines(style(is_pretty)),
+        Form::Lines { is_pretty } => Manner::Lines(style(is_pretty, shown)),
         Form::Stream => Manner::Stream,
     }
 }
@@ -44,11 +45,12 @@ fn passed_over(rt: &HostRuntime, files: &Files<'_>) -> Result<Vec<String>, Alloc
     Ok(passed)
 }
 
-/// What a salvage came to.
+/// What a salvage came to, of which so many entries are shown.
 fn summary(
     rt: &HostRuntime,
     files: &Files<'_>,
     salvaged: &Salvaged,
+    shown: u64,
 ) -> Result<Complaint, AllocError>
     ensures told { IfOk result (TellsSum salvaged.now) }
     ensures status { IfOk result (λ complaint. status_told complaint ≡ 1) }
@@ -56,18 +58,23 @@ fn summary(
     Ok(Complaint::Salvaged(Salvage {
         files: salvaged.files,
         entries: salvaged.entries,
-        shown: salvaged.entries,
+        shown,
         missing: salvaged.missing,
         passed: passed_over(rt, files)?,
     }))
 }
 
 /// The same, also where there is no memory for it.
-fn summary_at_least(rt: &HostRuntime, files: &Files<'_>, salvaged: &Salvaged) -> Complaint
+fn summary_at_least(
+    rt: &HostRuntime,
+    files: &Files<'_>,
+    salvaged: &Salvaged,
+    shown: u64,
+) -> Complaint
     ensures told { TellsSum salvaged.now result ⊎ IsOfMemory result }
     ensures status { status_told result ≡ 1 }
 {
-    match summary(rt, files, salvaged) {
+    match summary(rt, files, salvaged, shown) {
         Ok(complaint) => complaint,
         Err(fault) => Complaint::from(fault),
     }
@@ -78,17 +85,18 @@ pub fn salvage<W: Write, H: Host>(
     rt: &HostRuntime,
     files: &mut Files<'_>,
     form: Form,
+    shown: &Shown,
     watched: &mut Watched<'_, W, H>,
 ) -> Result<(), Complaint>
-    ensures salvage { LooksOver files.old.store files.new.store (most_to_salvage (reads_of files.old.store))
+    ensures salvage { (out : Written) × IsWrittenAs form shown.now out × LooksOver files.old.store files.new.store (most_to_salvage (reads_of files.old.store))
         (IfErr result
-        (IsSalvage (written_as form) (IsToldAt files.old.place files.new.store)
+        (IsSalvage out (IsToldAt files.old.place files.new.store)
         (Rose (failures_of files.old.store) (failures_of files.new.store)) (reads_of files.old.store)
         (W.contents watched.old.writer.now) (W.contents watched.new.writer.now))) }
     ensures never { IsErr result }
     ensures status { IfErr result (λ complaint. status_told complaint ≡ 1) }
 {
-    let done = files.salvage(manner(form), watched);
+    let done = files.salvage(manner(form, shown), watched);
     let flushed = watched.flush();
     watched.host.clear();
     match done {
@@ -97,7 +105,7 @@ pub fn salvage<W: Write, H: Host>(
                 if files.is_absent(salvaged.files) {
                     Err(told(files, ReadFault::Absent, Doing::Other))
                 } else {
-                    Err(summary_at_least(rt, files, &salvaged))
+                    Err(summary_at_least(rt, files, &salvaged, watched.shown()))
                 }
             }
             Err(complaint) => Err(complaint),

@@ -2,7 +2,8 @@
 ghost use Rattle.std.specs.Prelude.{◌≡◌};
 ghost use Rattle.recorder.specs.Serving.{ListsStream};
 
-use crate::commands::serve_stream;
+use crate::commands::{serve_stream, style};
+use command_line::Shown;
 use shown_listings::{Listable, Output};
 use std::alloc::Global;
 use std::io::{Read, Write};
@@ -19,14 +20,16 @@ pub struct StreamListing {
 impl Listable for StreamListing {
     type Left = ();
 
-    ghost lists = { λ stream had left. ListsStream stream.is_pretty had };
+    ghost lists = { λ stream shown had left. ListsStream stream.is_pretty shown had };
 
     fn list<R: Wait, I: Read + Drop, W: Output>(
         self,
         _waiter: &R,
+        shown: &Shown,
         input: I,
         output: &mut W,
     ) -> (Result<(), Complaint>, ()) {
-        (serve_stream(self.alloc, self.is_pretty, input, output), ())
+        let style = style(self.is_pretty, shown);
+        (serve_stream(self.alloc, style, input, output), ())
     }
 }

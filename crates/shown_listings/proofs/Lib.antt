@@ -1,1 +1,5 @@
+pub mod EndHanded
+pub mod EndHolding
+pub mod Ending
+pub mod FilledLines
 pub mod Passing

@@ -3,36 +3,18 @@ ghost use Rattle.std.specs.Prelude.{◌≡◌};
 
 use crate::listing::Listable;
 use crate::outlet::{Output, taken};
-use chosen_lines::{Choice, cut_word, number_told};
+use command_line::Shown;
 use std::alloc::Global;
 use std::fmt;
 use std::io::{self, Read, Write};
 use std::sync::Wait;
 use trace_advice::Complaint;
 
-/// The longest number of an entry, and the word of its kind.
-const HEAD: usize = 32;
+/// The longest number of an entry with the word of its kind, in a line or an object.
+const HEAD: usize = 48;
 
-/// The numbers of the entries that are counted.
-#[derive(Clone, Copy, Debug)]
-struct Range {
-    first: u64,
-    last: u64,
-}
-
-impl Range {
-    /// Those that a choice asks for.
-    fn of(choice: &Option<Choice>) -> Range {
-        let (first, last) = match choice {
-            Some(choice) => (choice.from, choice.to),
-            None => (None, None),
-        };
-        Range {
-            first: first.unwrap_or(0),
-            last: last.unwrap_or(u64::MAX),
-        }
-    }
-}
+/// What an object of an entry begins with.
+const OBJECT: &[u8] = b"{\"n\":";
 
 /// How many entries are listed, and how many of them as opaque.
 #[derive(Clone, Copy, Debug)]
@@ -86,13 +68,22 @@ impl fmt::Display for Sight {
     }
 }
 
+/// What stands behind the number of an entry, in its line or its object; None where a line has no number.
+fn kind_in(head: &[u8]) -> Option<&[u8]> {
+    let numbered = head.strip_prefix(OBJECT).unwrap_or(head);
+    let end = numbered.iter().position(|byte| !byte.is_ascii_digit())?;
+    if end == 0 {
+        return None;
+    }
+    Some(&numbered[end..])
+}
+
 /// What is counted of the lines that pass.
 #[derive(Drop)]
 struct Tally {
     is_on: bool,
-    range: Range,
     sight: Sight,
-    /// The entry of the last number came, or a later one.
+    /// An empty line came, which ends the listing.
     is_over: bool,
     /// What the line began with that isn't at its end.
     head: [u8; HEAD],
@@ -100,10 +91,9 @@ struct Tally {
 }
 
 impl Tally {
-    fn new(is_on: bool, range: Range) -> Tally {
+    fn new(is_on: bool) -> Tally {
         Tally {
             is_on,
-            range,
             sight: Sight {
                 entries: 0,
                 opaque: 0,
@@ -116,16 +106,13 @@ impl Tally {
 
     /// Counts the entry of the line that ends, if it is one's.
     fn end_line(&mut self) {
-        let length = self.length.min(HEAD);
-        let (word, rest) = cut_word(&self.head[..length]);
-        if let Some(number) = number_told(word) {
-            self.is_over = self.is_over || self.range.last <= number;
-            if self.range.first <= number && number <= self.range.last {
-                let (kind, _) = cut_word(rest);
-                let is_opaque = kind == b"opaque".as_slice();
-                self.sight.entries = self.sight.entries.saturating_add(1);
-                self.sight.opaque = self.sight.opaque.saturating_add(u64::from(is_opaque));
-            }
+        let head = &self.head[..self.length.min(HEAD)];
+        self.is_over = self.is_over || head.is_empty();
+        if let Some(kind) = kind_in(head) {
+            let is_opaque = kind.starts_with(b" opaque ")
+                || kind.starts_with(b",\"kind\":\"opaque\"");
+            self.sight.entries = self.sight.entries.saturating_add(1);
+            self.sight.opaque = self.sight.opaque.saturating_add(u64::from(is_opaque));
         }
         self.length = 0;
     }
@@ -182,7 +169,7 @@ impl<W: Output> Output for Counting<W> {
     fn none(alloc: Global) -> Counting<W> {
         Counting {
             out: W::none(alloc),
-            tally: Tally::new(false, Range::of(&None)),
+            tally: Tally::new(false),
         }
     }
 }
@@ -199,19 +186,17 @@ pub struct Counted<S> {
     rt: HostRuntime,
     listing: S,
     is_on: bool,
-    range: Range,
 }
 
 impl<S: Listable> Counted<S> {
-    /// Those entries alone are counted that a choice may show by their numbers.
-    pub fn new(rt: &HostRuntime, listing: S, is_on: bool, choice: &Option<Choice>) -> Counted<S>
+    /// The entries that are chosen are counted.
+    pub fn new(rt: &HostRuntime, listing: S, is_on: bool) -> Counted<S>
         ensures { result.listing ≡ listing }
     {
         Counted {
             rt: *rt,
             listing,
             is_on,
-            range: Range::of(choice),
         }
     }
 }
@@ -219,25 +204,21 @@ impl<S: Listable> Counted<S> {
 impl<S: Listable> Listable for Counted<S> {
     type Left = S::Left;
 
-    ghost lists = { λ listed had left. S.lists listed.listing had left };
+    ghost lists = { λ listed shown had left. S.lists listed.listing shown had left };
 
     fn list<R: Wait, I: Read + Drop, W: Output>(
         self,
         waiter: &R,
+        shown: &Shown,
         input: I,
         output: &mut W,
     ) -> (Result<(), Complaint>, S::Left) {
-        let Counted {
-            rt,
-            listing,
-            is_on,
-            range,
-        } = self;
+        let Counted { rt, listing, is_on } = self;
         let mut counting = Counting {
             out: taken(rt.alloc(), output),
-            tally: Tally::new(is_on, range),
+            tally: Tally::new(is_on),
         };
-        let (done, left) = listing.list(waiter, input, &mut counting);
+        let (done, left) = listing.list(waiter, shown, input, &mut counting);
         let (out, tally) = ended(counting);
         *output = out;
         let sight = tally.sight;

@@ -1,6 +1,6 @@
 //! What is told of a fault on standard error: a line, and after it what to do next.
 ghost use Rattle.std.specs.Prelude.{◌≡◌, None, IsTrue};
-ghost use Rattle.trace_advice.specs.Complaints.{status_told, advice_shown, with_shown, IsToldAs};
+ghost use Rattle.trace_advice.specs.Complaints.{status_told, IsToldAs};
 ghost use Rattle.trace_advice.specs.declared.complaint.Complaint.TheVariants as complaints;
 ghost use Rattle.script_port.specs.declared.fault.SimFault.TheVariants as faults;
 
@@ -93,28 +93,6 @@ pub enum Advice {
     ThereIsFile {
         name: String,
     },
-}
-
-impl Advice {
-    /// The same, where of the entries before a damage so many are shown.
-    fn with_shown(self, shown: u64) -> Advice
-        ensures { result ≡ advice_shown shown self }
-    {
-        match self {
-            Advice::Damaged {
-                name,
-                entries,
-                done,
-                shown: _,
-            } => Advice::Damaged {
-                name,
-                entries,
-                done,
-                shown,
-            },
-            other => other,
-        }
-    }
 }
 
 impl fmt::Display for Advice {
@@ -366,23 +344,6 @@ impl Complaint {
                 advice: _
             }
         )
-    }
-
-    /// The same, where of the entries that are written so many are shown.
-    pub fn with_shown(self, shown: u64) -> Complaint
-        ensures { result ≡ with_shown shown self }
-    {
-        match self {
-            Complaint::Fault { fault, advice } => Complaint::Fault {
-                fault,
-                advice: match advice {
-                    Some(advice) => Some(advice.with_shown(shown)),
-                    None => None,
-                },
-            },
-            Complaint::Salvaged(salvage) => Complaint::Salvaged(Salvage { shown, ..salvage }),
-            other => other,
-        }
     }
 
     /// Whether the reader failed.

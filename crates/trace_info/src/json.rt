@@ -1,11 +1,11 @@
 //! A trace in numbers, as one JSON object.
 
 use crate::info::{Info, Part};
-use chosen_lines::KINDS;
 use segment::StoreSpec;
 use serde_json::{Map, Value};
 use std::alloc::{AllocError, Global};
 use trace_reader::End;
+use trace_text::{KIND_COUNT, kind_at};
 
 /// A number, or null.
 fn number(number: Option<u64>) -> Value {
@@ -135,9 +135,10 @@ impl Info {
     /// How many messages there are of each kind of which there are any.
     fn kinds_as_json(&self, alloc: Global) -> Result<Value, AllocError> {
         let mut kinds = Map::new(alloc);
-        for (place, word) in KINDS.iter().enumerate() {
+        for place in 0..KIND_COUNT {
             let count = self.count(place);
             if count > 0 {
+                let word = kind_at(place);
                 kinds.insert(String::from_str(alloc, word)?, Value::from(count))?;
             }
         }

@@ -1,11 +1,11 @@
 //! A trace in numbers, as text for a person.
 
 use crate::info::{Info, Part};
-use chosen_lines::KINDS;
 use segment::{SegHeader, StoreSpec};
 use std::fmt;
 use trace_places::Shown;
 use trace_reader::End;
+use trace_text::{KIND_COUNT, kind_at};
 
 impl fmt::Display for Info {
     fn fmt<W: fmt::Write>(&self, f: &mut fmt::Formatter<W>) -> fmt::Result {
@@ -89,9 +89,10 @@ fn tell_file<W: fmt::Write>(f: &mut fmt::Formatter<W>, part: &Part, is_kept: boo
 
 /// How many messages there are of each kind of which there are any.
 fn tell_words<W: fmt::Write>(f: &mut fmt::Formatter<W>, info: &Info) -> fmt::Result {
-    for (place, word) in KINDS.iter().enumerate() {
+    for place in 0..KIND_COUNT {
         let count = info.count(place);
         if count > 0 {
+            let word = kind_at(place);
             writeln!(f, "{word}: {count}")?;
         }
     }

@@ -15,6 +15,11 @@ pub mod Printed
 pub mod BigText
 pub mod Manners
 pub mod PrettyKinds
+pub mod KindWords
 pub mod PrettyLines
 pub mod Subset
 pub mod Shows
+pub mod Facts
+pub mod FrontReading
+pub mod Choosing
+pub mod Objects

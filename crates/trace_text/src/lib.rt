@@ -1,4 +1,6 @@
-//! The text of an entry: the line of a listing that tells it, and the text of the term that a message is, plain and readable.
+//! What a listing has of an entry: a line, with the text of the term that a message is, plain or readable, or a JSON object. Which
+//! entries are listed: a choice looks at the number of an entry and at its term (`chooses`), and its lines are those of the whole
+//! listing whose entries are chosen (`chosen_lines_are_kept`).
 #![tactic(auto)]
 
 mod any_laws;
@@ -8,11 +10,21 @@ mod any_term;
 mod atom_text;
 mod big_text;
 mod char_text;
+mod choice;
+mod choice_laws;
+mod chosen;
 mod controls;
+mod escapes;
+mod facts;
 mod float_text;
+mod front;
+mod kinds;
 mod last_pid;
 mod line;
 mod manner;
+mod members;
+mod object;
+mod object_laws;
 mod other_word;
 mod pretty;
 mod sight;
@@ -26,6 +38,10 @@ pub use any_laws::{
     spelled_any_is_read, subset_is_spelled,
 };
 pub use atom_text::is_plain;
-pub use line::{Apart, put_before, put_end, put_line, put_missing, put_opaque_line, whole_term};
+pub use choice::Choice;
+pub use choice_laws::chosen_lines_are_kept;
+pub use kinds::{KIND_COUNT, is_kind, kind_at};
+pub use line::{Apart, put_before, put_end, put_line, put_missing, put_unread_line, whole_term};
+pub use object_laws::objects_read_back;
 pub use pretty::PrettyTeller;
-pub use style::Style;
+pub use style::{Notation, Style, Wording};

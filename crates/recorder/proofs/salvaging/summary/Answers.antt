@@ -2,4 +2,4 @@ use Rattle.std.proofs.Common.{refl}
 use Rattle.recorder.proofs.salvaging.summary.Goals as goal
 
 pub returns-clause-told : goal.returns-clause-told
-returns-clause-told c = (_, record { files = refl; entries = refl; shown = refl; missing = refl }, refl)
+returns-clause-told c = (_, record { files = refl; entries = refl; missing = refl }, refl)

@@ -1,7 +1,7 @@
 use Rattle.std.proofs.Common.{subst}
 use Rattle.std.proofs.KnownBytes.{Keeps-refl}
 use Rattle.trace_recording.specs.Incoming.{outside}
-use Rattle.recorder.specs.Serving.{ServesTrace, served, no_files}
+use Rattle.recorder.specs.Serving.{ServesTrace, each_line, served, no_files}
 use Rattle.recorder.proofs.serving.serve_files.Goals as goal
 
 pub returns-in-Err : goal.returns-in-Err
@@ -15,4 +15,4 @@ returns g c =
     let files = c.in-Ok.files in
     let left = c.do_over-done.new.files in
     served files left (record { past = made.past; locked = made.locked; free = made.free; place = made.place; agrees = made.agrees })
-    (subst (λ s. ServesTrace c.args.request files (outside had 0 s) left c.do_over-done.result (contents c.args.output.now) (contents c.do_over-done.new.output)) c.console_for-console.ensures c.do_over-done.ensures)
+    (subst (λ s. ServesTrace c.args.request each_line files (outside had 0 s) left c.do_over-done.result (contents c.args.output.now) (contents c.do_over-done.new.output)) c.console_for-console.ensures (rw c.each_line-shown.ensures at c.do_over-done.ensures))

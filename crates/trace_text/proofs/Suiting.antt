@@ -1,0 +1,114 @@
+-- What a choice asks for, part by part.
+use Rattle.std.specs.Prelude.{not, is_some, is_none, IfOk}
+use Rattle.std.proofs.Common.{◌≡◌, ℕ, ◌<◌, ◌≤◌, Bool, true, false, ◌&&◌, ◌||◌, cond, leb, eqb, List, [], length, take, codes, Option, Some, None, Result, Ok, Err, refl, sym, ap, ◌∙◌, subst, arith}
+use Rattle.std.specs.Option.{option_map}
+use Rattle.std.proofs.lemmas.Bool.{le-leb, lt-leb, eq-eqb, eqb-true}
+use Rattle.std.proofs.lemmas.List.{append-nil, take_all}
+use Rattle.ext_format.specs.declared.fault.DecodeFault.{DecodeFault}
+use Rattle.ext_format.proofs.FieldLaws.{IsBytes}
+use Rattle.trace_text.specs.AnyTerm.{AnyTerm}
+use Rattle.trace_text.specs.AnyReading.{any_whole_at}
+use Rattle.trace_text.specs.Facts.{Function, function_of, tells_function, called}
+use Rattle.trace_text.specs.Choosing.{Asks, asks_no_text, is_of_kinds, is_of_pid, is_shown, is_of_arity, is_called, is_of_function, suits, suits_opaque, suits_if, if_all, term_in}
+use Rattle.trace_text.specs.Pretty.{leaf_text}
+use Rattle.trace_text.specs.PrettyLines.{kind_word, longest_message, IsOpaqueAny}
+use Rattle.trace_text.specs.Sights.{sight}
+use Rattle.trace_text.specs.SpellsAny.{SpellsAny}
+use Rattle.trace_text.specs.declared.sight.Kind.{Kind}
+use Rattle.trace_text.proofs.AnyAgain.{whole_again}
+use Rattle.trace_text.proofs.AnySound.{whole_takes}
+
+pub asks_some : {A B : Type 0} (f : A → B) (o : Option A) (b : Bool) → is_some o ≡ not b → b ≡ false → is_none (option_map f o) ≡ false
+asks_some f None b is no_none = let e : false ≡ true = is ∙ ap not no_none in absurd cc
+asks_some f (Some x) b is no_none = refl
+
+pub called_by : (asks : Asks) (t : AnyTerm) (f : Function) (first second : List ℕ) (a b : Bool) → function_of t ≡ Some f → first ≡ leaf_text f.of_module → second ≡ leaf_text f.of_name
+    → is_shown asks.of_module first ≡ a → is_shown asks.of_name second ≡ b → is_called asks (function_of t) ≡ (a && (b && is_of_arity asks.of_arity f.arguments))
+called_by asks t f first second a b is one two has named =
+    ap (is_called asks) is ∙ ap (λ (c : Bool). c && (is_shown asks.of_name (leaf_text f.of_name) && is_of_arity asks.of_arity f.arguments)) (ap (is_shown asks.of_module) (sym one) ∙ has)
+    ∙ ap (λ (c : Bool). a && (c && is_of_arity asks.of_arity f.arguments)) (ap (is_shown asks.of_name) (sym two) ∙ named)
+
+pub module_differs : (asks : Asks) (t : AnyTerm) (f : Function) (first second : List ℕ) → function_of t ≡ Some f → first ≡ leaf_text f.of_module → second ≡ leaf_text f.of_name
+    → is_shown asks.of_module first ≡ false → is_called asks (function_of t) ≡ false
+module_differs asks t f first second is one two differs = called_by asks t f first second false (is_shown asks.of_name second) is one two differs refl
+
+pub function_asked : (asks : Asks) (t : AnyTerm) (kind : Option Kind) → is_none asks.of_module ≡ false → kind ≡ (sight t).kind → tells_function kind ≡ true → is_of_function asks t ≡ is_called asks (function_of t)
+function_asked asks t kind some is tells =
+    ap (λ (b : Bool). b || is_called asks (cond (tells_function (sight t).kind) (function_of t) None)) some
+    ∙ ap (λ (b : Bool). is_called asks (cond b (function_of t) None)) (ap tells_function (sym is) ∙ tells)
+
+pub suits_by : (asks : Asks) (t : AnyTerm) (kind : Option Kind) (word : List ℕ) (a b : Bool) → word ≡ kind_word kind → kind ≡ (sight t).kind → is_of_kinds asks.kinds word ≡ a → is_of_pid asks.pid t ≡ b
+    → suits asks t ≡ (a && (b && is_of_function asks t))
+suits_by asks t kind word a b says is first second =
+    ap (λ (c : Bool). c && (is_of_pid asks.pid t && is_of_function asks t)) (ap (is_of_kinds asks.kinds) (sym (says ∙ ap kind_word is)) ∙ first)
+    ∙ ap (λ (c : Bool). a && (c && is_of_function asks t)) second
+
+-- ---- where nothing is asked of messages
+
+both_true : (a b : Bool) → a && b ≡ true → (a ≡ true) × (b ≡ true)
+both_true true b e = (refl, e)
+both_true false b e = absurd cc
+
+none_is : {A : Type 0} (o : Option A) → is_none o ≡ true → o ≡ None
+none_is None e = refl
+none_is (Some x) e = absurd cc
+
+suits_all : (asks : Asks) (t : AnyTerm) (kinds pid wanted : Option (List ℕ)) → asks.kinds ≡ kinds → asks.pid ≡ pid → asks.of_module ≡ wanted → kinds ≡ None → pid ≡ None → wanted ≡ None → suits asks t ≡ true
+suits_all asks t kinds pid wanted a b c x y z =
+    ap (λ (o : Option (List ℕ)). is_of_kinds o (kind_word (sight t).kind) && (is_of_pid asks.pid t && is_of_function asks t)) (a ∙ x)
+    ∙ ap (λ (o : Option (List ℕ)). is_of_pid o t && is_of_function asks t) (b ∙ y)
+    ∙ ap (λ (o : Option (List ℕ)). is_none o || is_called asks (called t)) (c ∙ z)
+
+opaque_all : (asks : Asks) → asks.kinds ≡ None → asks.pid ≡ None → asks.of_module ≡ None → suits_opaque asks ≡ true
+opaque_all asks x y z =
+    ap (λ (o : Option (List ℕ)). is_of_kinds o (codes "opaque") && (is_none asks.pid && is_none asks.of_module)) x
+    ∙ ap (λ (o : Option (List ℕ)). is_none o && is_none asks.of_module) y ∙ ap (λ (o : Option (List ℕ)). is_none o) z
+
+suits_each : (asks : Asks) (o : Option AnyTerm) → asks.kinds ≡ None → asks.pid ≡ None → asks.of_module ≡ None → suits_if asks o ≡ true
+suits_each asks None x y z = opaque_all asks x y z
+suits_each asks (Some t) x y z = suits_all asks t None None None x y z refl refl refl
+
+pub all_suit : (asks : Asks) (o : Option AnyTerm) → asks_no_text asks ≡ true → suits_if asks o ≡ true
+all_suit asks o e =
+    let a = both_true (is_none asks.kinds) (is_none asks.pid && (is_none asks.of_module && is_none asks.of_name)) e in
+    let b = both_true (is_none asks.pid) (is_none asks.of_module && is_none asks.of_name) a.1 in
+    let c = both_true (is_none asks.of_module) (is_none asks.of_name) b.1 in
+    suits_each asks o (none_is asks.kinds a.0) (none_is asks.pid b.0) (none_is asks.of_module c.0)
+
+-- ---- which term a message is
+
+term_by : (bytes : List ℕ) (b : Bool) → leb (length bytes) longest_message ≡ b → term_in bytes ≡ cond b (if_all (any_whole_at bytes) (length bytes)) None
+unfolding term_in
+term_by bytes b e = ap (λ (c : Bool). cond c (if_all (any_whole_at bytes) (length bytes)) None) e
+
+pub spelled_whole : (bytes : List ℕ) (t : AnyTerm) → SpellsAny t bytes → any_whole_at bytes ≡ Ok (t, length bytes)
+spelled_whole bytes t is = subst (λ (l : List ℕ). any_whole_at l ≡ Ok (t, length bytes)) (append-nil bytes) (whole_again t bytes [] is)
+
+pub term_spelled : (bytes : List ℕ) (t : AnyTerm) → length bytes ≤ longest_message → SpellsAny t bytes → term_in bytes ≡ Some t
+term_spelled bytes t le is =
+    term_by bytes true (le-leb (length bytes) longest_message le) ∙ ap (λ (r : Result (AnyTerm × ℕ) DecodeFault). if_all r (length bytes)) (spelled_whole bytes t is)
+    ∙ ap (λ (b : Bool). cond b (Some t) None) (eq-eqb (length bytes) (length bytes) refl)
+
+pub term_too_long : (bytes : List ℕ) → longest_message < length bytes → term_in bytes ≡ None
+term_too_long bytes lt = term_by bytes false (lt-leb (length bytes) longest_message lt)
+
+none_read : (bytes : List ℕ) (x : AnyTerm × ℕ) (b : Bool) → IsBytes bytes → IsOpaqueAny bytes → any_whole_at bytes ≡ Ok x → eqb x.1 (length bytes) ≡ b → cond b (Some x.0) None ≡ None
+none_read bytes x false fits opaque e is = refl
+none_read bytes x true fits opaque e is =
+    let n : x.1 ≡ length bytes = eqb-true x.1 (length bytes) is in
+    absurd (opaque x.0 (subst (λ (l : List ℕ). SpellsAny x.0 l) (ap (λ (k : ℕ). take k bytes) n ∙ take_all (length bytes) bytes (omega arith)) (whole_takes bytes x fits e).1))
+
+none_of : (bytes : List ℕ) (r : Result (AnyTerm × ℕ) DecodeFault) → IsBytes bytes → IsOpaqueAny bytes → any_whole_at bytes ≡ r → if_all r (length bytes) ≡ None
+none_of bytes (Ok x) fits opaque e = none_read bytes x (eqb x.1 (length bytes)) fits opaque e refl
+none_of bytes (Err fault) fits opaque e = refl
+
+none_there : (bytes : List ℕ) (b : Bool) → leb (length bytes) longest_message ≡ b → IsBytes bytes → IsOpaqueAny bytes → term_in bytes ≡ None
+none_there bytes true e fits opaque = term_by bytes true e ∙ none_of bytes (any_whole_at bytes) fits opaque refl
+none_there bytes false e fits opaque = term_by bytes false e
+
+pub term_opaque : (bytes : List ℕ) → IsBytes bytes → IsOpaqueAny bytes → term_in bytes ≡ None
+term_opaque bytes fits opaque = none_there bytes (leb (length bytes) longest_message) refl fits opaque
+
+pub if_ok_weaker : {X Y : Type 0} (r : Result X Y) (P Q : X → Type 0) → ((x : X) → P x → Q x) → IfOk r P → IfOk r Q
+if_ok_weaker (Ok x) P Q f h = f x h
+if_ok_weaker (Err e) P Q f h = h

@@ -1,0 +1,98 @@
+-- What the term of a trace message tells of the process that is traced, and of the function that is called or returned from.
+use Rattle.std.specs.Prelude.{ℕ, suc, pos, Bool, true, false, ◌||◌, Option, Some, None, List, if◌then◌else◌}
+use Rattle.std.specs.Fmt.{decimal}
+use Rattle.std.specs.Option.{option_map, option_and_then}
+use Rattle.trace_message.specs.declared.word.Word.TheVariants as words
+use Rattle.trace_message.specs.declared.seen.Seen.TheVariants as events
+use Rattle.trace_text.specs.declared.sight.Heading.TheVariants as headings
+use Rattle.trace_text.specs.declared.sight.Kind.{Kind}
+use Rattle.trace_text.specs.declared.sight.Kind.TheVariants as kinds
+use Rattle.trace_text.specs.declared.sight.Sort.{Sort}
+use Rattle.trace_text.specs.declared.sight.Sort.TheVariants as sorts
+use Rattle.trace_text.specs.AnyTerm.{Leaf, int, AnyTerm, leaf, tuple, nil, cons, AnyMembers, no_members, member}
+use Rattle.trace_text.specs.BigText.{whole_decimal}
+use Rattle.trace_text.specs.Sights.{is_pid, is_port, sort_of, sight}
+
+-- the atoms `trace` and `trace_ts`
+abbrev pub is_tag : Sort → Bool
+is_tag (sorts.Atom (Some (headings.Known words.Trace))) = true
+is_tag (sorts.Atom (Some (headings.Known words.TraceTs))) = true
+is_tag _ = false
+
+abbrev pub is_atom : Sort → Bool
+is_atom (sorts.Atom heading) = true
+is_atom _ = false
+
+abbrev pub is_number : Sort → Bool
+is_number sorts.Number = true
+is_number (sorts.Character c) = true
+is_number _ = false
+
+-- who is traced: a process or a port
+abbrev pub is_tracee : Sort → Bool
+is_tracee sort = is_pid sort || is_port sort
+
+-- a term that has no terms in it and is of such a sort
+abbrev pub leaf_if : (Sort → Bool) → AnyTerm → Option Leaf
+leaf_if test (leaf l) = if test (sort_of l) then Some l else None
+leaf_if test t = None
+
+-- what stands after the tag of a trace message
+abbrev pub behind_tag : AnyTerm → AnyMembers
+behind_tag (tuple (member (leaf l) ts)) = if is_tag (sort_of l) then ts else no_members
+behind_tag t = no_members
+
+-- who is traced, where more is told
+abbrev pub tracee_of : AnyMembers → Option Leaf
+tracee_of (member who (member word ts)) = leaf_if is_tracee who
+tracee_of ts = None
+
+-- the process or the port that a message tells of
+abbrev pub traced : AnyTerm → Option Leaf
+traced t = tracee_of (behind_tag t)
+
+-- how many members a list has; an improper one has no such number
+abbrev pub proper_length : AnyTerm → Option ℕ
+proper_length nil = Some 0
+proper_length (cons a b) = option_map suc (proper_length b)
+proper_length t = None
+
+-- how many arguments are told, in decimal: as many as the members of a list of them, or a number that isn't negative
+abbrev pub arity_told : AnyTerm → Option (List ℕ)
+arity_told (leaf (int (pos n))) = Some (whole_decimal n)
+arity_told t = option_map decimal (proper_length t)
+
+-- a function by the atoms of its module and its name, and what tells how many arguments it has
+pub record Function : Type 0 where
+  pub of_module : Leaf
+  pub of_name : Leaf
+  pub arguments : AnyTerm
+
+abbrev pub with_names : AnyTerm → Option Leaf → Option Leaf → Option Function
+with_names arguments (Some m) (Some f) = Some (record { of_module = m; of_name = f; arguments = arguments })
+with_names arguments m f = None
+
+-- {M,F,X}
+abbrev pub function_in : AnyTerm → Option Function
+function_in (tuple (member m (member f (member arguments no_members)))) = with_names arguments (leaf_if is_atom m) (leaf_if is_atom f)
+function_in t = None
+
+-- it stands after the process and an atom
+abbrev pub function_behind : AnyMembers → Option Function
+function_behind (member who (member word (member t ts))) = option_and_then (λ _. function_in t) (leaf_if is_atom word)
+function_behind ts = None
+
+-- the kinds that tell of a function
+abbrev pub tells_function : Option Kind → Bool
+tells_function (Some (kinds.Seen events.Call)) = true
+tells_function (Some (kinds.Seen events.Return)) = true
+tells_function (Some (kinds.Seen events.Exception)) = true
+tells_function kind = false
+
+-- the function that stands behind who is traced
+abbrev pub function_of : AnyTerm → Option Function
+function_of t = option_and_then (λ _. function_behind (behind_tag t)) (traced t)
+
+-- the function that a message tells to be called or returned from
+abbrev pub called : AnyTerm → Option Function
+called t = if tells_function (sight t).kind then function_of t else None

@@ -1,0 +1,125 @@
+//! Which entries are listed.
+ghost use Rattle.std.specs.Prelude.{◌≡◌, ◌&&◌, ◌∷◌, ◌++◌, [], Some};
+ghost use Rattle.std.specs.Option.{option_map};
+ghost use Rattle.std.specs.Prelude.{string_bytes};
+ghost use Rattle.std.specs.Str.{bytes_eq};
+ghost use Rattle.trace_text.specs.Choosing.{asks_of, asks_no_text, asks_nothing, is_from, is_to, ends, is_of_kinds, is_text, is_shown, suits_opaque};
+
+/// Which entries of a trace are to be listed: those that all of this holds of; None stands for what isn't asked for.
+#[derive(Debug, Default, Drop)]
+pub struct Choice {
+    /// The number of the first entry.
+    pub from: Option<u64>,
+    /// The number of the last entry, behind which a listing ends.
+    pub to: Option<u64>,
+    /// A listing goes on to its end all the same, and its other entries are passed over.
+    pub is_whole: bool,
+    /// Words for kinds, with commas between them.
+    pub kinds: Option<String>,
+    /// The traced process, as a listing shows it, with or without its angle brackets.
+    pub pid: Option<String>,
+    /// The module of a function that is called or returned from, with or without quotes.
+    pub module: Option<String>,
+    /// Its name, where the module is asked for.
+    pub name: Option<String>,
+    /// The number of its arguments, where the name is asked for.
+    pub arity: Option<u64>,
+}
+
+impl Choice {
+    /// Whether nothing is asked for, so that every entry is to be listed.
+    pub fn is_all(&self) -> bool
+        ensures { result ≡ asks_nothing (asks_of self.now) }
+    {
+        self.has_no_text() && self.from.is_none() && self.to.is_none() && self.arity.is_none()
+    }
+
+    /// Whether nothing is asked of a message but its number.
+    pub fn has_no_text(&self) -> bool
+        ensures { result ≡ asks_no_text (asks_of self.now) }
+    {
+        self.kinds.is_none() && self.pid.is_none() && self.module.is_none() && self.name.is_none()
+    }
+
+    /// Whether the number isn't below the first that is asked for.
+    pub fn is_not_before(&self, number: u64) -> bool
+        ensures { result ≡ is_from (asks_of self.now).from number }
+    {
+        self.from.is_none_or(|first| first <= number)
+    }
+
+    /// Whether it isn't above the last.
+    pub fn is_not_later(&self, number: u64) -> bool
+        ensures { result ≡ is_to (asks_of self.now).to number }
+    {
+        self.to.is_none_or(|last| number <= last)
+    }
+
+    /// Whether messages of this number are asked for.
+    pub fn has_number(&self, number: u64) -> bool
+        ensures { result ≡ (is_to (asks_of self.now).to number && is_from (asks_of self.now).from number) }
+    {
+        self.is_not_later(number) && self.is_not_before(number)
+    }
+
+    /// Whether no entry that comes after the one of this number is to be listed.
+    pub fn ends_with(&self, number: u64) -> bool
+        ensures { result ≡ ends (asks_of self.now) number }
+    {
+        !self.is_whole && self.to.is_some_and(|last| last <= number)
+    }
+
+    /// Whether messages of the kind of this word are asked for.
+    pub fn has_kind(&self, kind: &[u8]) -> bool
+        ensures { result ≡ is_of_kinds (asks_of self.now).kinds kind.now }
+    {
+        match &self.kinds {
+            Some(words) => is_among(kind, words.as_bytes()),
+            None => true,
+        }
+    }
+
+    /// Whether messages are asked for that aren't read.
+    pub fn suits_opaque(&self) -> bool
+        ensures { result ≡ suits_opaque (asks_of self.now) }
+    {
+        self.has_kind(b"opaque") && (self.pid.is_none() && self.module.is_none())
+    }
+}
+
+/// Whether a word is one of those that have commas between them.
+fn is_among(word: &[u8], words: &[u8]) -> bool
+    ensures { result ≡ is_of_kinds (Some words.now) word.now }
+{
+    words.split(|byte| *byte == b',').any(|one| one == word)
+}
+
+/// Whether a text is another one between two signs.
+fn is_between(opening: u8, closing: u8, asked: &[u8], shown: &[u8]) -> bool
+    ensures { result ≡ bytes_eq shown.now (opening ∷ (asked.now ++ closing ∷ [])) }
+{
+    let Some((first, rest)) = shown.split_first() else {
+        return false;
+    };
+    let Some((last, middle)) = rest.split_last() else {
+        return false;
+    };
+    *first == opening && (middle == asked && *last == closing)
+}
+
+/// Whether a text is this one, or this one between two signs.
+pub fn is_text(opening: u8, closing: u8, asked: &[u8], shown: &[u8]) -> bool
+    ensures { result ≡ is_text opening closing asked.now shown.now }
+{
+    shown == asked || is_between(opening, closing, asked, shown)
+}
+
+/// Whether an atom is shown so, where one is asked for.
+pub fn is_name(asked: &Option<String>, shown: &[u8]) -> bool
+    ensures { result ≡ is_shown (option_map string_bytes asked.now) shown.now }
+{
+    match asked {
+        Some(asked) => is_text(b'\'', b'\'', asked.as_bytes(), shown),
+        None => true,
+    }
+}
