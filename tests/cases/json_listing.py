@@ -1,4 +1,4 @@
-"""Cases of `list --json` and `stream --json`. Each line of the plain listing is parted here, what it tells of a process and
+"""Cases of `list --json` and `stream --json`. Each line of the readable listing is parted here, what it tells of a process and
 a function is found in its message, and Python's own json writes and reads the objects."""
 
 import json
@@ -38,7 +38,7 @@ def told_of_message(kind, text, entry):
 
 
 def object_of(line, entries):
-    """The object of a line of a plain or readable listing."""
+    """The object of a line of a readable listing."""
     words = line.split(" ", 2)
     if words[0] == "before":
         _, _, first, _, lost = line.split(" ")
@@ -72,12 +72,12 @@ def check(listing, entries, output):
 
 
 def check_all(program, stream):
-    """Checks each listing of a stream, plain and readable: as it is, in a file and in a wrap."""
+    """Checks each readable listing of a stream, as it is, in a file and in a wrap: objects have its texts, with -p and without."""
     listed = Listed(program, stream)
-    for style in STYLES:
-        for words, data, _ in listed.listings(style):
-            listing, entries = listed.whole[words]
-            check(listing, entries, program.good(*words, "--json", stdin=data))
+    for words, data, _ in listed.listings(("-p",)):
+        listing, entries = listed.whole[words]
+        check(listing, entries, program.good(*words, "--json", stdin=data))
+        check(listing, entries, program.good(*(word for word in words if word != "-p"), "--json", stdin=data))
     return listed
 
 
@@ -146,13 +146,13 @@ def the_objects_of_chosen_lines_are_written(program):
 @case
 def what_is_listed_of_a_broken_stream_are_objects_too(program):
     stream = stream_of("plain")
+    whole = program.run("stream", "-p", stdin=stream[:-1])
     for style in STYLES:
-        whole = program.run("stream", *style, stdin=stream[:-1])
         outcome = program.run("stream", *style, "--json", stdin=stream[:-1])
         same((outcome.status, outcome.errors), (whole.status, whole.errors))
         check(whole.output, split(stream), outcome.output)
     (program.folder / "t").write_bytes(segment(FILE_HEADER, split(stream)[0])[:-1] + b"\1\0\0\xff\xff")
-    whole, outcome = program.run("list", "t"), program.run("list", "t", "--json")
+    whole, outcome = program.run("list", "-p", "t"), program.run("list", "t", "--json")
     same((outcome.status, outcome.errors), (whole.status, whole.errors))
     check(whole.output, split(stream), outcome.output)
 

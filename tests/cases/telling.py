@@ -244,7 +244,7 @@ def opaque_entries_are_counted_at_a_terminal(program):
     program.good("import", "t", stdin=stream)
     program.good("import", "w", *WRAP, "--size", "900K", stdin=stream)
     many = "dbgrec: 1,200 of 2,401 entries are opaque here: -p shows them\n"
-    for words in (("list", "t"), ("list", "w"), ("stream",), ("list", "t", "--json")):
+    for words in (("list", "t"), ("list", "w"), ("stream",)):
         data = stream if words[0] == "stream" else b""
         said, output = at_a_terminal(program, *words, stdin=data)
         same((words, said, output), (words, many, program.good(*words, stdin=data)))
@@ -252,6 +252,7 @@ def opaque_entries_are_counted_at_a_terminal(program):
         ("list", "t", "--to", "2"): "dbgrec: 1 of 3 entries is opaque here: -p shows it\n",
         ("list", "t", "--from", "2400"): "",
         ("list", "-p", "t"): "",
+        ("list", "t", "--json"): "",
         ("list", "t", "--mfa", "no:no"): "",
         ("list", "t", "--only", "send"): "",
         ("export", "t"): "",

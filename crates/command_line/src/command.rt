@@ -485,9 +485,10 @@ fn choice_in<'a>(alloc: Global, matches: &ArgMatches<'a>) -> Result<Option<Choic
     Ok(if choice.is_all() { None } else { Some(choice) })
 }
 
-/// Whether any term is shown. What looks at kinds, processes or functions looks at those of such a listing.
+/// Whether any term is shown. What tells of kinds, processes or functions tells of those of such a listing.
 fn is_pretty(matches: &ArgMatches<'_>) -> bool {
     matches.get_flag("pretty")
+        || matches.get_flag("json")
         || ["only", "pid", "mfa"]
             .iter()
             .any(|name| matches.get_str(name).is_some())

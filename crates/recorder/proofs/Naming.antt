@@ -100,7 +100,3 @@ told_moved was now store given fault complaint same is told = subst (λ (place :
 
 pub names_call : (place : Place) (newest : Option FileFault) (call : FileFault) (refusal : Refusal) (told : SimFault) → Some call ≡ newest → IsOfDevice refusal → TellsCall place refusal call told → NamesCall place newest refusal told
 names_call place newest call refusal told is of tells = subst (λ (n : Option FileFault). NamesCall place n refusal told) is (λ h. tells, λ none. absurd (none of))
-
-pub names_refusal : (place : Place) (newest : Option FileFault) (refusal : Refusal) → (IsOfDevice refusal → ⊥) → NamesCall place newest refusal (faults.Refused refusal)
-names_refusal place None refusal none = refl
-names_refusal place (Some call) refusal none = (λ of. absurd (none of), λ other. refl)

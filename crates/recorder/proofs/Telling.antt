@@ -15,11 +15,6 @@ use Rattle.trace_advice.specs.declared.complaint.Complaint.{Complaint}
 use Rattle.trace_advice.specs.declared.complaint.Complaint.TheVariants as complaints
 use Rattle.recorder.specs.Telling.{TellsRefusal, Tells, IsToldOf}
 
--- any fault is told as it is
-pub tells_itself : (fault : SimFault) (advice : Option Advice) → Tells fault (complaints.Fault fault advice)
-tells_itself (faults.Refused refusal) advice = refl
-tells_itself fault advice = refl
-
 -- with any advice
 tells_so : (fault told : SimFault) (was advice : Option Advice) → Tells fault (complaints.Fault told was) → Tells fault (complaints.Fault told advice)
 tells_so (faults.Refused refusal) told was advice h = h

@@ -49,17 +49,6 @@ pub record HasWritten {P : Type 0} (told : P → Told) (old : Held P) (leave : O
   pub asked : AreAsked told old done leave new
   pub text : Appends before now (written done)
 
-pub nothing_yet : {P : Type 0} (told : P → Told) (held : Held P) (known : Option (List ℕ)) → HasWritten told held None held known known
-nothing_yet told held known = record { done = []; asked = ends; text = appends_none known }
-
--- a run, and then another
-pub both_written : {P : Type 0} (told : P → Told) (old mid new : Held P) (leave : Option Leave) (start before now : Option (List ℕ)) → HasWritten told old None mid start before → HasWritten told mid leave new before now → HasWritten told old leave new start now
-both_written told old mid new leave start before now one two = record {
-  done = one.done ++ two.done;
-  asked = then_more told old mid new one.done two.done leave one.asked two.asked;
-  text = subst (λ (l : List ℕ). Appends start now l) (sym (written-append one.done two.done)) (appends_both start before now (written one.done) (written two.done) one.text two.text);
-}
-
 -- a desk has finished its port
 pub finished_there : {P : Type 0} (told : P → Told) (desk : DeskState P) (q : P) (end : Held P) → Finishes (told desk.port) (told q) → IsAtDesk desk end → IsLetGo told end q
 finished_there told desk q (Alone p) finished there = absurd there

@@ -109,8 +109,7 @@ impl Tally {
         let head = &self.head[..self.length.min(HEAD)];
         self.is_over = self.is_over || head.is_empty();
         if let Some(kind) = kind_in(head) {
-            let is_opaque = kind.starts_with(b" opaque ")
-                || kind.starts_with(b",\"kind\":\"opaque\"");
+            let is_opaque = kind.starts_with(b" opaque ");
             self.sight.entries = self.sight.entries.saturating_add(1);
             self.sight.opaque = self.sight.opaque.saturating_add(u64::from(is_opaque));
         }

@@ -27,12 +27,6 @@ times_le : (b : Bool) (n : ℕ) → (IsTrue b ↔ (0 < n)) → times b ≤ n
 times_le true n h = omega (arith, h.0 refl)
 times_le false n h = omega arith
 
-times_same : (b a : Bool) (n : ℕ) → (IsTrue b ↔ (0 < n)) → n ≡ times a → times b ≡ times a
-times_same true true n h e = refl
-times_same false false n h e = refl
-times_same true false n h e = omega (arith, h.0 refl, e)
-times_same false true n h e = let bad : false ≡ true = h.1 (omega (arith, e)) in cc
-
 -- the flags of letters of which none stands there twice, and no other
 pub has_letters : (w : List ℕ) (f : Flags) → Names w f → length w ≡ set_in f → HasLetters w f
 has_letters w f n e =
@@ -51,19 +45,6 @@ has_letters w f n e =
       monotonic = omega (arith, few w, e, c, s, r, a, t, m);
       others = e;
     }
-
-pub no_flags : (w : List ℕ) (f : Flags) → Names w f → length w ≢ set_in f → (all : Flags) → HasLetters w all → ⊥
-no_flags w f n differs all h =
-    differs (omega (
-      arith,
-      h.others,
-      times_same f.call all.call (count_of 99 w) n.call h.call,
-      times_same f.send all.send (count_of 115 w) n.send h.send,
-      times_same f.receive all.receive (count_of 114 w) n.receive h.receive,
-      times_same f.arity all.arity (count_of 97 w) n.arity h.arity,
-      times_same f.timestamp all.timestamp (count_of 116 w) n.timestamp h.timestamp,
-      times_same f.monotonic all.monotonic (count_of 109 w) n.monotonic h.monotonic,
-    ))
 
 -- whether a letter stands there
 pub stands_there : (letter : ℕ) (w : List ℕ) → (list_any (λ y. nat_eq y letter) w ≡ true → 0 < count_of letter w) × (0 < count_of letter w → list_any (λ y. nat_eq y letter) w ≡ true)
@@ -120,10 +101,6 @@ no_letters = record { call = refl; send = refl; receive = refl; arity = refl; ti
 
 pub dash : (word : List ℕ) (flags : Flags) → word ≡ codes "-" → HasLetters [] flags → IsFlags word flags
 dash word flags e h = subst (λ (w : List ℕ). IsFlags w flags) (sym e) (IsFlags.none flags h)
-
--- a word has no flags where there is nothing, and none other than its letters say where it isn't `-`
-pub no_word : (w : List ℕ) (f : Flags) → length w ≡ 0 → IsFlags w f → ⊥
-no_word w f none h = elim (as_parts w f h) [ inl p ↦ absurd (omega (arith, none, ap (λ (v : List ℕ). length v) p.0)) | inr p ↦ absurd (omega (arith, none, p.0)) ]
 
 pub by_letters : (w : List ℕ) (f : Flags) → w ≢ codes "-" → IsFlags w f → HasLetters w f
 by_letters w f other h = elim (as_parts w f h) [ inl p ↦ absurd (other p.0) | inr p ↦ p.1 ]

@@ -169,17 +169,6 @@ nil_left (x ∷ y ∷ xs) short even = absurd (omega arith)
 pub all_spelled : (digits rest found : List ℕ) → IsBegun digits rest found → length rest < 2 → IsHex digits found
 all_spelled digits rest found i short = subst (λ (xs : List ℕ). IsHex digits xs) (append-nil found) (i.goes_on [] (nil_left rest short i.even))
 
-stuck : (high low : ℕ) (after bytes : List ℕ) → IsHex (high ∷ low ∷ after) bytes → ((b : ℕ) → IsDigit high (b / 16) × IsDigit low (b % 16) → ⊥) → ⊥
-stuck high low after [] k none = absurd k
-stuck high low after (b ∷ bytes) k none = none b (k.0, k.1)
-
--- what isn't a digit ends it
-pub not_spelled : (digits rest found : List ℕ) → IsBegun digits rest found → 2 ≤ length rest → ((b : ℕ) → IsDigit (get_or rest 0 0) (b / 16) × IsDigit (get_or rest 1 0) (b % 16) → ⊥)
-    → (all : List ℕ) → IsHex digits all → ⊥
-not_spelled digits rest found i low none all k =
-    let j = i.only all k in
-    stuck (get_or rest 0 0) (get_or rest 1 0) (drop 2 rest) j.0 (subst (λ (xs : List ℕ). IsHex xs j.0) (more_than_two rest low) j.2) none
-
 even_hex : (word bytes : List ℕ) → IsHex word bytes → length word % 2 ≡ 0
 even_hex [] [] h = refl
 even_hex [] (b ∷ bytes) h = absurd h

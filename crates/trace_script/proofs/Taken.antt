@@ -92,14 +92,6 @@ taken was is bytes text p line some e counts = subst (λ (t : List ℕ). IsTaken
 pub some_bytes : (v : Vec ℕ) → false ≡ (vec_len v == 0) → 0 < length v.items
 some_bytes v t = let counted = v.ok.0 in grind (arith, nat_tests)
 
-pub nothing_left : (was is : Progress) (bytes : List ℕ) → length bytes ≡ 0 → Consumes was.left is.left bytes → IsReadLine was.left is.left bytes → is.lines ≡ was.lines → IsOver was is
-nothing_left was is [] none p line counts = record {
-  no_more = p;
-  used_up = elim line.ends [ inl long ↦ absurd (omega (arith, long)) | inr q ↦ elim q [ inl broken ↦ absurd (omega (arith, broken.0)) | inr up ↦ up ] ];
-  counts = counts;
-}
-nothing_left was is (x ∷ xs) none p line counts = absurd (omega (arith, none))
-
 pub advanced : (was is : Progress) (text : List ℕ) (more : Bool) → more ≡ true → Advances was is text (Ok more) → IsTaken was is text ⊎ IsTooLong was is text
 advanced was is text more e told = let Told : Bool → Type 0 = λ b. Advances was is text (Ok b) in subst Told e told
 
@@ -126,9 +118,6 @@ passed_more was mid is text h t s = record { silent = h.silent ++ text ∷ []; e
 pub no_line : (of_desk : Bool) (number : ℕ) (text : List ℕ) (found : Option Line) → false ≡ is_some found → TellsLine of_desk number text (Ok found) → IsSilent text
 no_line of_desk number text None e told = told
 no_line of_desk number text (Some line) e told = let same : false ≡ true = e in cc
-
-pub next_found : (of_desk : Bool) (was mid is : Progress) (text : List ℕ) (line : Line) → HasPassed was mid → IsTaken mid is text ⊎ IsTooLong mid is text → IsCommand of_desk line text → HasNext of_desk was is line
-next_found of_desk was mid is text line h t k = record { silent = h.silent; each = h.each; mid = mid; before = h.before; text = text; taken = is_taken mid is text t k.short; command = k }
 
 pub ended : (was mid is : Progress) → HasPassed was mid → IsOver mid is → HasEnded was is
 ended was mid is h over = record { silent = h.silent; each = h.each; mid = mid; before = h.before; over = over }

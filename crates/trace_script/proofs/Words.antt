@@ -12,32 +12,14 @@ use Rattle.trace_script.specs.Spellings.{IsFound, IsFoundAs, IsNumber, IsNumberI
 pub sole_not : {X : Type 0} (P : List ℕ → X → Type 0) (ws : List (List ℕ)) (a : List ℕ) → ws ≡ a ∷ [] → ((x : X) → P a x → ⊥) → (x : X) → Sole P ws x → ⊥
 sole_not P ws a e none x s = let p : s.word ≡ a = cc (s.are, e) in none x (subst (λ (w : List ℕ). P w x) p s.spells)
 
-pub not_two : {X Y : Type 0} (P : List ℕ → X → Type 0) (Q : List ℕ → Y → Type 0) (ws : List (List ℕ)) → length ws ≢ 2 → (x : X) (y : Y) → Two P Q ws x y → ⊥
-not_two P Q ws other x y s = other (ap (λ (xs : List (List ℕ)). length xs) s.are)
-
 pub two_not1 : {X Y : Type 0} (P : List ℕ → X → Type 0) (Q : List ℕ → Y → Type 0) (ws : List (List ℕ)) (a b : List ℕ) → ws ≡ a ∷ b ∷ [] → ((x : X) → P a x → ⊥) → (x : X) (y : Y) → Two P Q ws x y → ⊥
 two_not1 P Q ws a b e none x y s = let p : s.word1 ≡ a = cc (s.are, e) in none x (subst (λ (w : List ℕ). P w x) p s.spells1)
 
 pub two_not2 : {X Y : Type 0} (P : List ℕ → X → Type 0) (Q : List ℕ → Y → Type 0) (ws : List (List ℕ)) (a b : List ℕ) → ws ≡ a ∷ b ∷ [] → ((y : Y) → Q b y → ⊥) → (x : X) (y : Y) → Two P Q ws x y → ⊥
 two_not2 P Q ws a b e none x y s = let p : s.word2 ≡ b = cc (s.are, e) in none y (subst (λ (w : List ℕ). Q w y) p s.spells2)
 
-pub not_three : {X Y Z : Type 0} (P : List ℕ → X → Type 0) (Q : List ℕ → Y → Type 0) (R : List ℕ → Z → Type 0) (ws : List (List ℕ)) → length ws ≢ 3 → (x : X) (y : Y) (z : Z) → Three P Q R ws x y z → ⊥
-not_three P Q R ws other x y z s = other (ap (λ (xs : List (List ℕ)). length xs) s.are)
-
-pub three_not1 : {X Y Z : Type 0} (P : List ℕ → X → Type 0) (Q : List ℕ → Y → Type 0) (R : List ℕ → Z → Type 0) (ws : List (List ℕ)) (a b c : List ℕ) → ws ≡ a ∷ b ∷ c ∷ [] → ((x : X) → P a x → ⊥) → (x : X) (y : Y) (z : Z) → Three P Q R ws x y z → ⊥
-three_not1 P Q R ws a b c e none x y z s = let p : s.word1 ≡ a = cc (s.are, e) in none x (subst (λ (w : List ℕ). P w x) p s.spells1)
-
-pub three_not2 : {X Y Z : Type 0} (P : List ℕ → X → Type 0) (Q : List ℕ → Y → Type 0) (R : List ℕ → Z → Type 0) (ws : List (List ℕ)) (a b c : List ℕ) → ws ≡ a ∷ b ∷ c ∷ [] → ((y : Y) → Q b y → ⊥) → (x : X) (y : Y) (z : Z) → Three P Q R ws x y z → ⊥
-three_not2 P Q R ws a b c e none x y z s = let p : s.word2 ≡ b = cc (s.are, e) in none y (subst (λ (w : List ℕ). Q w y) p s.spells2)
-
 pub three_not3 : {X Y Z : Type 0} (P : List ℕ → X → Type 0) (Q : List ℕ → Y → Type 0) (R : List ℕ → Z → Type 0) (ws : List (List ℕ)) (a b c : List ℕ) → ws ≡ a ∷ b ∷ c ∷ [] → ((z : Z) → R c z → ⊥) → (x : X) (y : Y) (z : Z) → Three P Q R ws x y z → ⊥
 three_not3 P Q R ws a b c e none x y z s = let p : s.word3 ≡ c = cc (s.are, e) in none z (subst (λ (w : List ℕ). R w z) p s.spells3)
-
-pub not_first : {X Y : Type 0} (P : List ℕ → X → Type 0) (Q : List (List ℕ) → Y → Type 0) (ws : List (List ℕ)) → ws ≡ [] → (x : X) (y : Y) → First P Q ws x y → ⊥
-not_first P Q ws none x y s = let bad : s.word ∷ s.others ≡ [] = cc (s.are, none) in cc
-
-pub first_not : {X Y : Type 0} (P : List ℕ → X → Type 0) (Q : List (List ℕ) → Y → Type 0) (ws others : List (List ℕ)) (a : List ℕ) → ws ≡ a ∷ others → ((x : X) → P a x → ⊥) → (x : X) (y : Y) → First P Q ws x y → ⊥
-first_not P Q ws others a e none x y s = let p : s.word ≡ a = cc (s.are, e) in none x (subst (λ (w : List ℕ). P w x) p s.spells)
 
 pub first_not_others : {X Y : Type 0} (P : List ℕ → X → Type 0) (Q : List (List ℕ) → Y → Type 0) (ws others : List (List ℕ)) (a : List ℕ) → ws ≡ a ∷ others → ((y : Y) → Q others y → ⊥) → (x : X) (y : Y) → First P Q ws x y → ⊥
 first_not_others P Q ws others a e none x y s = let p : s.others ≡ others = cc (s.are, e) in none y (subst (λ (o : List (List ℕ)). Q o y) p s.spells_others)

@@ -152,35 +152,31 @@ grouped old told n = simp append_assoc
 pub put_behind : (old new told : List ℕ) (n : ℕ) → new ≡ old ++ decimal n ++ codes " " ++ told ++ 10 ∷ [] → new ≡ old ++ (decimal n ++ codes " " ++ told ++ 10 ∷ [])
 put_behind old new told n e = e ∙ grouped old told n
 
-apart_from : (a b c : Bool) → a && b ≡ false → a && (b && c) ≡ false
-apart_from false b c e = refl
-apart_from true false c e = refl
-apart_from true true c e = absurd cc
-
 unsuited : (a b c : Bool) → c ≡ false → a && (b && c) ≡ false
 unsuited false b c e = refl
 unsuited true false c e = refl
 unsuited true true c e = e
 
-all_three : (a b c : Bool) → a && b ≡ true → c ≡ true → a && (b && c) ≡ true
-all_three true true c e f = f
-all_three true false c e f = absurd cc
-all_three false b c e f = absurd cc
+all_three : (a b c : Bool) → a ≡ true → b ≡ true → c ≡ true → a && (b && c) ≡ true
+all_three true true true d e f = refl
+all_three true true false d e f = absurd cc
+all_three true false c d e f = absurd cc
+all_three false b c d e f = absurd cc
 
--- a message by its number and by what is asked of it
-pub by_number : (notation : Notation) (wording : Wording) (asks : Asks) (n : ℕ) (bytes : List ℕ) → is_to asks.to n && is_from asks.from n ≡ false → IsShown notation wording asks n (Message bytes) []
-by_number notation wording asks n bytes e = passed_over (apart_from (is_to asks.to n) (is_from asks.from n) (suits_if asks (term_in bytes)) e)
+unsuited_number : (a b c : Bool) → b ≡ false → a && (b && c) ≡ false
+unsuited_number true true c e = absurd cc
+unsuited_number true false c e = refl
+unsuited_number false b c e = refl
 
-pub not_asked : (notation : Notation) (wording : Wording) (asks : Asks) (n : ℕ) (bytes : List ℕ) → suits_if asks (term_in bytes) ≡ false → IsShown notation wording asks n (Message bytes) []
-not_asked notation wording asks n bytes e = passed_over (unsuited (is_to asks.to n) (is_from asks.from n) (suits_if asks (term_in bytes)) e)
+-- what stands for a message, and nothing where it isn't asked for
+pub shown_of : (notation : Notation) (wording : Wording) (asks : Asks) (n : ℕ) (bytes old new : List ℕ) (is : Bool) → is_to asks.to n ≡ true → is_from asks.from n ≡ true → is ≡ suits_if asks (term_in bytes)
+    → (is ≡ true → (row : List ℕ) × IsRow notation wording n (Message bytes) row × (new ≡ old ++ row)) → (is ≡ false → new ≡ old) → (shown : List ℕ) × IsShown notation wording asks n (Message bytes) shown × (new ≡ old ++ shown)
+shown_of notation wording asks n bytes old new true at from asked told other =
+    let r = told refl in (r.0, asked_for r.0 (all_three (is_to asks.to n) (is_from asks.from n) (suits_if asks (term_in bytes)) at from (sym asked)) r.1, r.2)
+shown_of notation wording asks n bytes old new false at from asked told other = ([], passed_over (unsuited (is_to asks.to n) (is_from asks.from n) (suits_if asks (term_in bytes)) (sym asked)), other refl ∙ sym (append-nil old))
 
-pub row_asked : (notation : Notation) (wording : Wording) (asks : Asks) (n : ℕ) (bytes row : List ℕ) → is_to asks.to n && is_from asks.from n ≡ true → suits_if asks (term_in bytes) ≡ true → IsRow notation wording n (Message bytes) row
-    → IsShown notation wording asks n (Message bytes) row
-row_asked notation wording asks n bytes row e f is = asked_for row (all_three (is_to asks.to n) (is_from asks.from n) (suits_if asks (term_in bytes)) e f) is
-
-pub one_asked : (wording : Wording) (asks : Asks) (n : ℕ) (bytes told : List ℕ) → is_to asks.to n && is_from asks.from n ≡ true → suits_if asks (term_in bytes) ≡ true → IsTold wording (Message bytes) told
-    → IsShown Text wording asks n (Message bytes) (decimal n ++ codes " " ++ told ++ 10 ∷ [])
-one_asked wording asks n bytes told e f is = row_asked Text wording asks n bytes (decimal n ++ codes " " ++ told ++ 10 ∷ []) e f (told, is, refl)
+pub too_early : (asks : Asks) (n : ℕ) (bytes : List ℕ) → is_from asks.from n ≡ false → chooses asks n (Message bytes) ≡ false
+too_early asks n bytes e = unsuited_number (is_to asks.to n) (is_from asks.from n) (suits_if asks (term_in bytes)) e
 
 -- a line, and an object, is what stands for an entry
 pub row_of_line : (notation : Notation) (wording : Wording) (n : ℕ) (entry : Entry) (old new told : List ℕ) → notation ≡ Text → IsTold wording entry told → new ≡ old ++ line_text n told
@@ -188,7 +184,7 @@ pub row_of_line : (notation : Notation) (wording : Wording) (n : ℕ) (entry : E
 row_of_line Text wording n entry old new told is t e = (line_text n told, (told, t, refl), e)
 row_of_line Json wording n entry old new told is t e = absurd cc
 
-pub row_of_object : (notation : Notation) (wording : Wording) (n : ℕ) (entry : Entry) (old new : List ℕ) (members : List Member) → notation ≡ Json → IsObject wording n entry members → new ≡ old ++ object_line members
+pub row_of_object : (notation : Notation) (wording : Wording) (n : ℕ) (entry : Entry) (old new : List ℕ) (members : List Member) → notation ≡ Json → IsObject n entry members → new ≡ old ++ object_line members
     → (row : List ℕ) × IsRow notation wording n entry row × (new ≡ old ++ row)
 row_of_object Text wording n entry old new members is o e = absurd cc
 row_of_object Json wording n entry old new members is o e = (object_line members, (members, o, refl), e)
@@ -198,10 +194,10 @@ pub put_parts : (old a b c new told : List ℕ) (n : ℕ) → a ≡ old ++ decim
 put_parts old a b c new told n x y z w = w ∙ ap (λ (l : List ℕ). l ++ 10 ∷ []) (z ∙ ap (λ (l : List ℕ). l ++ told) (y ∙ ap (λ (l : List ℕ). l ++ 32 ∷ []) x)) ∙ grouped old told n
 
 -- and taken back
-pub taken_back : (old a b c new : List ℕ) (n start : ℕ) → start ≡ length old → a ≡ old ++ decimal n → b ≡ a ++ 32 ∷ [] → c ≡ b → new ≡ take start c → new ≡ old ++ []
+pub taken_back : (old a b c new : List ℕ) (n start : ℕ) → start ≡ length old → a ≡ old ++ decimal n → b ≡ a ++ 32 ∷ [] → c ≡ b → new ≡ take start c → new ≡ old
 taken_back old a b c new n start s x y z w =
     let whole : c ≡ old ++ (decimal n ++ 32 ∷ []) = z ∙ y ∙ ap (λ (l : List ℕ). l ++ 32 ∷ []) x ∙ append_assoc old (decimal n) (32 ∷ []) in
-    w ∙ ap (take start) whole ∙ take_at old (decimal n ++ 32 ∷ []) start (sym s) ∙ sym (append-nil old)
+    w ∙ ap (take start) whole ∙ take_at old (decimal n ++ 32 ∷ []) start (sym s)
 
 -- ---- behind the end
 
@@ -209,7 +205,7 @@ later : (to : Option ℕ) (n m : ℕ) → is_at_end to n ≡ true → n < m → 
 later None n m at more = absurd cc
 later (Some last) n m at more = lt-leb m last (let h = leb-true last n at in omega (arith, h))
 
-unchosen : (asks : Asks) (m : ℕ) (e : Entry) → is_to asks.to m ≡ false → chooses asks m e ≡ false
+pub unchosen : (asks : Asks) (m : ℕ) (e : Entry) → is_to asks.to m ≡ false → chooses asks m e ≡ false
 unchosen asks m (Message bytes) over = ap (λ (b : Bool). b && (is_from asks.from m && suits_if asks (term_in bytes))) over
 unchosen asks m (Drop count) over = over
 

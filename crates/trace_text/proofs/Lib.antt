@@ -18,14 +18,10 @@ pub mod AnySound
 pub mod PrettyTelling
 pub mod OnePretty
 pub mod Between
-pub mod Fronts
-pub mod Lengths
-pub mod Arities
+pub mod PartLemmas
 pub mod Suiting
 pub mod Lined
 pub mod ChosenLines
-pub mod FrontFacts
 pub mod SubsetLemmas
 pub mod Printing
-pub mod Passing
 pub mod ObjectLines

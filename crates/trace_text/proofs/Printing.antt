@@ -8,7 +8,6 @@ use Rattle.json.specs.Tree.{json_tokens, members_tokens, HasNumbers, MembersHave
 use Rattle.json.proofs.Printed.Decimals.{IsNumber-decimal}
 use Rattle.json.proofs.Printed.Trees.{document-print}
 use Rattle.entry_codec.specs.Entries.{Entry}
-use Rattle.trace_text.specs.declared.style.Wording.{Wording}
 use Rattle.trace_text.specs.AnyTerm.{AnyTerm}
 use Rattle.trace_text.specs.Choosing.{term_in}
 use Rattle.trace_text.specs.Facts.{traced}
@@ -82,7 +81,7 @@ small_facts kind term =
     let called = function_if (is_of_call kind) term in
     small_append (of_some (codes "pid") pid) (of_some (codes "mfa") called) (small_some (codes "pid") pid) (small_some (codes "mfa") called)
 
-pub object_small : (wording : Wording) (n : ℕ) (e : Entry) (members : List Member) → n < 2 ^ 64 → HasSmallCount e → IsObject wording n e members → AreSmall members
-object_small wording n _ _ low small (of_read bytes kind shown is) = (low, (tt, small_append (facts_of kind (term_in bytes)) (of_text (codes "text") shown ∷ []) (small_facts kind (term_in bytes)) (tt, tt)))
-object_small wording n _ _ low small (of_unread bytes is) = (low, (tt, (small, tt)))
-object_small wording n _ _ low small (of_drop count) = (low, (tt, (small, tt)))
+pub object_small : (n : ℕ) (e : Entry) (members : List Member) → n < 2 ^ 64 → HasSmallCount e → IsObject n e members → AreSmall members
+object_small n _ _ low small (of_read bytes kind shown is) = (low, (tt, small_append (facts_of kind (term_in bytes)) (of_text (codes "text") shown ∷ []) (small_facts kind (term_in bytes)) (tt, tt)))
+object_small n _ _ low small (of_unread bytes is) = (low, (tt, (small, tt)))
+object_small n _ _ low small (of_drop count) = (low, (tt, (small, tt)))

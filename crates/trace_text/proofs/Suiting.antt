@@ -1,6 +1,6 @@
 -- What a choice asks for, part by part.
 use Rattle.std.specs.Prelude.{not, is_some, is_none, IfOk}
-use Rattle.std.proofs.Common.{◌≡◌, ℕ, ◌<◌, ◌≤◌, Bool, true, false, ◌&&◌, ◌||◌, cond, leb, eqb, List, [], length, take, codes, Option, Some, None, Result, Ok, Err, refl, sym, ap, ◌∙◌, subst, arith}
+use Rattle.std.proofs.Common.{◌≡◌, ℕ, ◌<◌, ◌≤◌, Bool, true, false, ◌&&◌, ◌||◌, cond, leb, eqb, List, [], length, take, codes, Option, Some, None, Result, Ok, Err, inl, inr, refl, sym, ap, ◌∙◌, subst, arith}
 use Rattle.std.specs.Option.{option_map}
 use Rattle.std.proofs.lemmas.Bool.{le-leb, lt-leb, eq-eqb, eqb-true}
 use Rattle.std.proofs.lemmas.List.{append-nil, take_all}
@@ -10,10 +10,13 @@ use Rattle.trace_text.specs.AnyTerm.{AnyTerm}
 use Rattle.trace_text.specs.AnyReading.{any_whole_at}
 use Rattle.trace_text.specs.Facts.{Function, function_of, tells_function, called}
 use Rattle.trace_text.specs.Choosing.{Asks, asks_no_text, is_of_kinds, is_of_pid, is_shown, is_of_arity, is_called, is_of_function, suits, suits_opaque, suits_if, if_all, term_in}
+use Rattle.trace_text.specs.Objects.{IsUnread}
+use Rattle.trace_text.specs.Parts.{IsReadSo}
 use Rattle.trace_text.specs.Pretty.{leaf_text}
 use Rattle.trace_text.specs.PrettyLines.{kind_word, longest_message, IsOpaqueAny}
 use Rattle.trace_text.specs.Sights.{sight}
 use Rattle.trace_text.specs.SpellsAny.{SpellsAny}
+use Rattle.trace_text.specs.declared.pretty.ReadMessage.{ReadMessage}
 use Rattle.trace_text.specs.declared.sight.Kind.{Kind}
 use Rattle.trace_text.proofs.AnyAgain.{whole_again}
 use Rattle.trace_text.proofs.AnySound.{whole_takes}
@@ -22,26 +25,25 @@ pub asks_some : {A B : Type 0} (f : A → B) (o : Option A) (b : Bool) → is_so
 asks_some f None b is no_none = let e : false ≡ true = is ∙ ap not no_none in absurd cc
 asks_some f (Some x) b is no_none = refl
 
-pub called_by : (asks : Asks) (t : AnyTerm) (f : Function) (first second : List ℕ) (a b : Bool) → function_of t ≡ Some f → first ≡ leaf_text f.of_module → second ≡ leaf_text f.of_name
-    → is_shown asks.of_module first ≡ a → is_shown asks.of_name second ≡ b → is_called asks (function_of t) ≡ (a && (b && is_of_arity asks.of_arity f.arguments))
-called_by asks t f first second a b is one two has named =
-    ap (is_called asks) is ∙ ap (λ (c : Bool). c && (is_shown asks.of_name (leaf_text f.of_name) && is_of_arity asks.of_arity f.arguments)) (ap (is_shown asks.of_module) (sym one) ∙ has)
+pub called_so : (asks : Asks) (f : Function) (first second : List ℕ) (a b : Bool) → first ≡ leaf_text f.of_module → second ≡ leaf_text f.of_name → is_shown asks.of_module first ≡ a → is_shown asks.of_name second ≡ b
+    → is_called asks (Some f) ≡ (a && (b && is_of_arity asks.of_arity f.arguments))
+called_so asks f first second a b one two has named =
+    ap (λ (c : Bool). c && (is_shown asks.of_name (leaf_text f.of_name) && is_of_arity asks.of_arity f.arguments)) (ap (is_shown asks.of_module) (sym one) ∙ has)
     ∙ ap (λ (c : Bool). a && (c && is_of_arity asks.of_arity f.arguments)) (ap (is_shown asks.of_name) (sym two) ∙ named)
 
-pub module_differs : (asks : Asks) (t : AnyTerm) (f : Function) (first second : List ℕ) → function_of t ≡ Some f → first ≡ leaf_text f.of_module → second ≡ leaf_text f.of_name
-    → is_shown asks.of_module first ≡ false → is_called asks (function_of t) ≡ false
-module_differs asks t f first second is one two differs = called_by asks t f first second false (is_shown asks.of_name second) is one two differs refl
+none_called : (asks : Asks) (b : Bool) → is_called asks (cond b None None) ≡ false
+none_called asks true = refl
+none_called asks false = refl
+
+pub no_function_asked : (asks : Asks) (t : AnyTerm) → is_none asks.of_module ≡ false → function_of t ≡ None → is_of_function asks t ≡ false
+no_function_asked asks t some none =
+    ap (λ (b : Bool). b || is_called asks (cond (tells_function (sight t).kind) (function_of t) None)) some
+    ∙ ap (λ (o : Option Function). is_called asks (cond (tells_function (sight t).kind) o None)) none ∙ none_called asks (tells_function (sight t).kind)
 
 pub function_asked : (asks : Asks) (t : AnyTerm) (kind : Option Kind) → is_none asks.of_module ≡ false → kind ≡ (sight t).kind → tells_function kind ≡ true → is_of_function asks t ≡ is_called asks (function_of t)
 function_asked asks t kind some is tells =
     ap (λ (b : Bool). b || is_called asks (cond (tells_function (sight t).kind) (function_of t) None)) some
     ∙ ap (λ (b : Bool). is_called asks (cond b (function_of t) None)) (ap tells_function (sym is) ∙ tells)
-
-pub suits_by : (asks : Asks) (t : AnyTerm) (kind : Option Kind) (word : List ℕ) (a b : Bool) → word ≡ kind_word kind → kind ≡ (sight t).kind → is_of_kinds asks.kinds word ≡ a → is_of_pid asks.pid t ≡ b
-    → suits asks t ≡ (a && (b && is_of_function asks t))
-suits_by asks t kind word a b says is first second =
-    ap (λ (c : Bool). c && (is_of_pid asks.pid t && is_of_function asks t)) (ap (is_of_kinds asks.kinds) (sym (says ∙ ap kind_word is)) ∙ first)
-    ∙ ap (λ (c : Bool). a && (c && is_of_function asks t)) second
 
 -- ---- where nothing is asked of messages
 
@@ -81,7 +83,7 @@ term_by : (bytes : List ℕ) (b : Bool) → leb (length bytes) longest_message �
 unfolding term_in
 term_by bytes b e = ap (λ (c : Bool). cond c (if_all (any_whole_at bytes) (length bytes)) None) e
 
-pub spelled_whole : (bytes : List ℕ) (t : AnyTerm) → SpellsAny t bytes → any_whole_at bytes ≡ Ok (t, length bytes)
+spelled_whole : (bytes : List ℕ) (t : AnyTerm) → SpellsAny t bytes → any_whole_at bytes ≡ Ok (t, length bytes)
 spelled_whole bytes t is = subst (λ (l : List ℕ). any_whole_at l ≡ Ok (t, length bytes)) (append-nil bytes) (whole_again t bytes [] is)
 
 pub term_spelled : (bytes : List ℕ) (t : AnyTerm) → length bytes ≤ longest_message → SpellsAny t bytes → term_in bytes ≡ Some t
@@ -108,6 +110,17 @@ none_there bytes false e fits opaque = term_by bytes false e
 
 pub term_opaque : (bytes : List ℕ) → IsBytes bytes → IsOpaqueAny bytes → term_in bytes ≡ None
 term_opaque bytes fits opaque = none_there bytes (leb (length bytes) longest_message) refl fits opaque
+
+-- what is asked of a message that is read, and of one that isn't
+pub asked_read : (asks : Asks) (read : ReadMessage) (bytes text : List ℕ) (r : IsReadSo read bytes text) → suits asks r.t ≡ suits_if asks (term_in bytes)
+asked_read asks read bytes text r = sym (ap (suits_if asks) (term_spelled bytes r.t r.short r.spells))
+
+no_term : (bytes : List ℕ) → IsBytes bytes → IsUnread bytes → term_in bytes ≡ None
+no_term bytes fits (inl opaque) = term_opaque bytes fits opaque
+no_term bytes fits (inr long) = term_too_long bytes long
+
+pub asked_unread : (asks : Asks) (bytes : List ℕ) → IsBytes bytes → IsUnread bytes → suits_opaque asks ≡ suits_if asks (term_in bytes)
+asked_unread asks bytes fits is = sym (ap (suits_if asks) (no_term bytes fits is))
 
 pub if_ok_weaker : {X Y : Type 0} (r : Result X Y) (P Q : X → Type 0) → ((x : X) → P x → Q x) → IfOk r P → IfOk r Q
 if_ok_weaker (Ok x) P Q f h = f x h

@@ -1,5 +1,5 @@
 -- Which entries a choice asks for.
-use Rattle.std.specs.Prelude.{ℕ, pos, Bool, true, false, not, ◌&&◌, ◌||◌, Option, Some, None, List, [], ◌∷◌, ◌++◌, ◌==◌, nat_le, length, codes, is_none, string_bytes, Result, Ok, Err, if◌then◌else◌}
+use Rattle.std.specs.Prelude.{ℕ, Bool, true, false, not, ◌&&◌, ◌||◌, Option, Some, None, List, [], ◌∷◌, ◌++◌, ◌==◌, nat_le, length, codes, is_none, string_bytes, Result, Ok, Err, if◌then◌else◌}
 use Rattle.std.specs.Fmt.{decimal}
 use Rattle.std.specs.List.{slice_split, list_any}
 use Rattle.std.specs.Option.{option_map}
@@ -7,8 +7,7 @@ use Rattle.std.specs.Str.{bytes_eq}
 use Rattle.ext_format.specs.declared.fault.DecodeFault.{DecodeFault}
 use Rattle.entry_codec.specs.Entries.{Entry, Message, Drop}
 use Rattle.trace_text.specs.declared.choice.Choice.{Choice}
-use Rattle.trace_text.specs.AnyTerm.{Leaf, int, AnyTerm, leaf}
-use Rattle.trace_text.specs.BigText.{whole_decimal}
+use Rattle.trace_text.specs.AnyTerm.{Leaf, AnyTerm}
 use Rattle.trace_text.specs.AnyReading.{any_whole_at}
 use Rattle.trace_text.specs.Facts.{Function, traced, arity_told, called}
 use Rattle.trace_text.specs.Pretty.{leaf_text}
@@ -96,11 +95,6 @@ is_shown (Some asked) shown = is_text 39 39 asked shown
 abbrev pub is_count : ℕ → Option (List ℕ) → Bool
 is_count asked None = false
 is_count asked (Some told) = bytes_eq told (decimal asked)
-
--- it is told as a number
-abbrev pub is_integer_told : ℕ → AnyTerm → Bool
-is_integer_told asked (leaf (int (pos n))) = is_count asked (Some (whole_decimal n))
-is_integer_told asked t = false
 
 abbrev pub is_of_arity : Option ℕ → AnyTerm → Bool
 is_of_arity None arguments = true

@@ -1,5 +1,5 @@
 -- What the term of a trace message tells of the process that is traced, and of the function that is called or returned from.
-use Rattle.std.specs.Prelude.{ℕ, suc, pos, Bool, true, false, ◌||◌, Option, Some, None, List, if◌then◌else◌}
+use Rattle.std.specs.Prelude.{ℕ, pos, Bool, true, false, ◌||◌, Option, Some, None, List, if◌then◌else◌}
 use Rattle.std.specs.Fmt.{decimal}
 use Rattle.std.specs.Option.{option_map, option_and_then}
 use Rattle.trace_message.specs.declared.word.Word.TheVariants as words
@@ -9,9 +9,9 @@ use Rattle.trace_text.specs.declared.sight.Kind.{Kind}
 use Rattle.trace_text.specs.declared.sight.Kind.TheVariants as kinds
 use Rattle.trace_text.specs.declared.sight.Sort.{Sort}
 use Rattle.trace_text.specs.declared.sight.Sort.TheVariants as sorts
-use Rattle.trace_text.specs.AnyTerm.{Leaf, int, AnyTerm, leaf, tuple, nil, cons, AnyMembers, no_members, member}
+use Rattle.trace_text.specs.AnyTerm.{Leaf, int, AnyTerm, leaf, tuple, AnyMembers, no_members, member}
 use Rattle.trace_text.specs.BigText.{whole_decimal}
-use Rattle.trace_text.specs.Sights.{is_pid, is_port, sort_of, sight}
+use Rattle.trace_text.specs.Sights.{is_pid, is_port, sort_of, sight, arity_in}
 
 -- the atoms `trace` and `trace_ts`
 abbrev pub is_tag : Sort → Bool
@@ -27,6 +27,11 @@ abbrev pub is_number : Sort → Bool
 is_number sorts.Number = true
 is_number (sorts.Character c) = true
 is_number _ = false
+
+-- how many members a list has, where that is told
+abbrev pub count_of : Sort → Option ℕ
+count_of (sorts.List count) = count
+count_of _ = None
 
 -- who is traced: a process or a port
 abbrev pub is_tracee : Sort → Bool
@@ -51,16 +56,10 @@ tracee_of ts = None
 abbrev pub traced : AnyTerm → Option Leaf
 traced t = tracee_of (behind_tag t)
 
--- how many members a list has; an improper one has no such number
-abbrev pub proper_length : AnyTerm → Option ℕ
-proper_length nil = Some 0
-proper_length (cons a b) = option_map suc (proper_length b)
-proper_length t = None
-
 -- how many arguments are told, in decimal: as many as the members of a list of them, or a number that isn't negative
 abbrev pub arity_told : AnyTerm → Option (List ℕ)
 arity_told (leaf (int (pos n))) = Some (whole_decimal n)
-arity_told t = option_map decimal (proper_length t)
+arity_told t = option_map decimal (arity_in t)
 
 -- a function by the atoms of its module and its name, and what tells how many arguments it has
 pub record Function : Type 0 where

@@ -20,6 +20,6 @@ pub mod PrettyLines
 pub mod Subset
 pub mod Shows
 pub mod Facts
-pub mod FrontReading
+pub mod Parts
 pub mod Choosing
 pub mod Objects

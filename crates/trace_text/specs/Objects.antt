@@ -1,24 +1,18 @@
 -- Objects of entries and their texts, by the grammar of JSON that the kit has.
-use Rattle.std.specs.Prelude.{◌≡◌, ℕ, ◌<◌, ◌≤◌, ◌^◌, Bool, ◌||◌, ◌==◌, ◌⊎◌, Option, Some, None, List, [], ◌∷◌, ◌++◌, length, codes, if◌then◌else◌}
+use Rattle.std.specs.Prelude.{ℕ, ◌<◌, ◌≤◌, ◌^◌, Bool, ◌||◌, ◌==◌, ◌⊎◌, Option, Some, None, List, [], ◌∷◌, ◌++◌, length, codes, if◌then◌else◌}
 use Rattle.std.specs.Fmt.{decimal}
 use Rattle.std.specs.Option.{option_map, option_and_then}
 use Rattle.std.specs.Str.{bytes_eq}
 use Rattle.json.specs.Json as json
 use Rattle.json.specs.Print.{quoted}
 use Rattle.entry_codec.specs.Entries.{Entry, Message, Drop}
-use Rattle.ext_format.specs.Spelling.{Spells}
-use Rattle.trace_terms.specs.Data.{Data}
-use Rattle.trace_text.specs.declared.style.Wording.{Wording}
-use Rattle.trace_text.specs.declared.style.Wording.TheVariants.{Plain, Pretty}
 use Rattle.trace_text.specs.AnyTerm.{AnyTerm}
 use Rattle.trace_text.specs.Choosing.{term_in}
 use Rattle.trace_text.specs.Facts.{Function, traced, function_of, arity_told}
-use Rattle.trace_text.specs.PlainLines.{IsKind, IsOpaque}
 use Rattle.trace_text.specs.Pretty.{leaf_text, IsPretty}
 use Rattle.trace_text.specs.PrettyKinds.{IsPrettyKind}
 use Rattle.trace_text.specs.PrettyLines.{longest_message, IsOpaqueAny}
 use Rattle.trace_text.specs.SpellsAny.{SpellsAny}
-use Rattle.trace_text.specs.TermText.{text_of}
 
 -- ---- members and their texts
 
@@ -88,14 +82,12 @@ AreSmall (member ∷ members) = IsSmall member.value × AreSmall members
 -- ---- entries
 
 -- a message is read: it is one spelling of a term and nothing more, and this is the word for its kind and the text of the term
-abbrev pub IsRead : Wording → List ℕ → List ℕ → List ℕ → Type 0
-IsRead Plain bytes kind shown = (t : Data) × Spells t bytes × IsKind t kind × (shown ≡ text_of t)
-IsRead Pretty bytes kind shown = (t : AnyTerm) × (length bytes ≤ longest_message) × SpellsAny t bytes × IsPrettyKind t kind × IsPretty t shown
+abbrev pub IsRead : List ℕ → List ℕ → List ℕ → Type 0
+IsRead bytes kind shown = (t : AnyTerm) × (length bytes ≤ longest_message) × SpellsAny t bytes × IsPrettyKind t kind × IsPretty t shown
 
 -- it isn't
-abbrev pub IsUnread : Wording → List ℕ → Type 0
-IsUnread Plain bytes = IsOpaque bytes
-IsUnread Pretty bytes = IsOpaqueAny bytes ⊎ (longest_message < length bytes)
+abbrev pub IsUnread : List ℕ → Type 0
+IsUnread bytes = IsOpaqueAny bytes ⊎ (longest_message < length bytes)
 
 abbrev pub arity_text : Option (List ℕ) → List ℕ
 arity_text None = []
@@ -146,10 +138,10 @@ abbrev pub end_members : List Member
 end_members = of_text (codes "kind") (codes "end_of_trace") ∷ []
 
 -- the members of the object of the entry of this number, in their order
-pub data IsObject (wording : Wording) (n : ℕ) : Entry → List Member → Type 0 where
-  of_read : (bytes kind shown : List ℕ) → IsRead wording bytes kind shown → IsObject wording n (Message bytes) (message_members n kind bytes shown)
-  of_unread : (bytes : List ℕ) → IsUnread wording bytes → IsObject wording n (Message bytes) (opaque_members n (length bytes))
-  of_drop : (count : ℕ) → IsObject wording n (Drop count) (drop_members n count)
+pub data IsObject (n : ℕ) : Entry → List Member → Type 0 where
+  of_read : (bytes kind shown : List ℕ) → IsRead bytes kind shown → IsObject n (Message bytes) (message_members n kind bytes shown)
+  of_unread : (bytes : List ℕ) → IsUnread bytes → IsObject n (Message bytes) (opaque_members n (length bytes))
+  of_drop : (count : ℕ) → IsObject n (Drop count) (drop_members n count)
 
 -- how many bytes a message has, or how many messages were lost, is below 2^64
 abbrev pub HasSmallCount : Entry → Type 0

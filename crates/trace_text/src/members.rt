@@ -63,7 +63,7 @@ pub fn put_pid(out: &mut Vec<u8>, text: &[u8]) -> Result<(), AllocError>
 
 /// A function by its module and its name, but for what tells of its arguments, and for the closing quote.
 #[tactic(auto, unfolding(json::specs::Print::escape_byte))]
-pub fn put_called(out: &mut Vec<u8>, home: &[u8], name: &[u8]) -> Result<(), AllocError>
+pub fn put_names(out: &mut Vec<u8>, home: &[u8], name: &[u8]) -> Result<(), AllocError>
     ensures { OnOk result (out.new.items ≡ out.old.items ++ 44 ∷ ((quoted (codes "mfa") ++ 58 ∷ []) ++ 34 ∷ escape (home.now ++ codes ":" ++ name.now))) }
 {
     out.extend_from_slice(b",\"mfa\":\"")?;

@@ -1,36 +1,16 @@
 //! The objects of a listing.
-ghost use Rattle.std.specs.Prelude.{◌≡◌, ◌∷◌, ◌++◌, ℕ, List, [], length, codes, OnOk, if◌then◌else◌};
+ghost use Rattle.std.specs.Prelude.{◌≡◌, ◌∷◌, ◌++◌, ℕ, List, [], OnOk, IfOk, IsTrue, IsFalse};
 ghost use Rattle.entry_codec.specs.{Entries.Message};
-ghost use Rattle.trace_text.specs.declared.style.Notation.TheVariants as notations;
-ghost use Rattle.trace_text.specs.declared.style.Wording.TheVariants as words;
-ghost use Rattle.trace_text.specs.{AnyTerm.AnyTerm, SpellsAny.SpellsAny};
-ghost use Rattle.trace_text.specs.Choosing.{asks_of, suits_opaque};
-ghost use Rattle.trace_text.specs.Lines.{IsShown};
-ghost use Rattle.trace_text.specs.Objects.{Member, IsObject, message_members, number_members, opaque_members, drop_members, counts_members, end_members, more_text, facts_of, object_line};
-ghost use Rattle.trace_text.specs.Choosing.{term_in};
+ghost use Rattle.trace_text.specs.Choosing.{asks_of, suits_opaque, suits_if, term_in};
+ghost use Rattle.trace_text.specs.Objects.{Member, IsObject, number_members, opaque_members, drop_members, counts_members, end_members, object_line};
+ghost use Rattle.trace_text.specs.Parts.{IsReadSo};
 
 use crate::any_term::Sighted;
 use crate::choice::Choice;
-use crate::facts::Front;
+use crate::facts::{put_facts, suits};
 use crate::members::{put_head, put_more_number, put_term, put_text};
-use crate::pretty::{read_pretty, word_of};
-use entry_codec::GREATEST_MESSAGE;
+use crate::pretty::{ReadMessage, read_message, word_of};
 use std::alloc::AllocError;
-
-/// What a message of the kind of this word tells of, where it isn't too long to be read.
-fn put_facts(
-    out: &mut Vec<u8>,
-    front: &mut Front,
-    kind: &[u8],
-    bytes: &[u8],
-) -> Result<(), AllocError>
-    ensures { (t : AnyTerm) → SpellsAny t bytes.now → OnOk result (out.new.items ≡ out.old.items ++ more_text (facts_of kind.now (term_in bytes.now))) }
-{
-    if bytes.len() > GREATEST_MESSAGE {
-        return Ok(());
-    }
-    front.put_facts(out, kind, bytes)
-}
 
 /// The closing bracket of an object, and its line feed.
 fn put_close(out: &mut Vec<u8>) -> Result<(), AllocError>
@@ -39,20 +19,20 @@ fn put_close(out: &mut Vec<u8>) -> Result<(), AllocError>
     out.extend_from_slice(b"}\n")
 }
 
-/// A message that is read, of the kind of this word and with this text.
-pub fn put_message_object(
+/// A message that is read, with this text.
+fn put_message_object(
     out: &mut Vec<u8>,
-    front: &mut Front,
     number: u64,
-    kind: &[u8],
-    told: &[u8],
-    bytes: &[u8],
+    read: &ReadMessage,
+    text: &[u8],
 ) -> Result<(), AllocError>
-    ensures { (t : AnyTerm) → SpellsAny t bytes.now → OnOk result (out.new.items ≡ out.old.items ++ object_line (message_members number kind.now bytes.now told.now)) }
+    ensures { (bytes : List ℕ) → IsReadSo read.now bytes text.now → OnOk result ((members : List Member) × IsObject number (Message bytes) members
+        × (out.new.items ≡ out.old.items ++ object_line members)) }
 {
+    let kind = word_of(read.kind).as_bytes();
     put_head(out, number, kind)?;
-    put_facts(out, front, kind, bytes)?;
-    put_term(out, told)?;
+    put_facts(out, kind, &read.parts, text)?;
+    put_term(out, text)?;
     put_close(out)
 }
 
@@ -110,61 +90,57 @@ pub fn put_end_object(out: &mut Vec<u8>) -> Result<(), AllocError>
     put_close(out)
 }
 
-/// A message of any terms.
-pub fn put_pretty_object(
+/// A message.
+pub fn put_object(
     told: &mut Sighted,
-    front: &mut Front,
     out: &mut Vec<u8>,
     number: u64,
     bytes: &[u8],
 ) -> Result<(), AllocError>
-    ensures { OnOk result ((members : List Member) × IsObject words.Pretty number (Message bytes.now) members × (out.new.items ≡ out.old.items ++ object_line members)) }
+    ensures { OnOk result ((members : List Member) × IsObject number (Message bytes.now) members × (out.new.items ≡ out.old.items ++ object_line members)) }
 {
-    match read_pretty(told, bytes)? {
-        Some(kind) => {
-            let word = word_of(kind).as_bytes();
-            put_message_object(out, front, number, word, &told.text, bytes)
-        }
+    match read_message(told, bytes)? {
+        Some(read) => put_message_object(out, number, &read, &told.text),
         None => put_opaque_object(out, number, bytes.len() as u64),
     }
 }
 
-/// A message that isn't read, where such are asked for.
+/// A message that isn't read, where such are asked for; answers whether they are.
 fn put_unread_object(
     choice: &Choice,
     out: &mut Vec<u8>,
     number: u64,
     size: usize,
-) -> Result<(), AllocError>
-    ensures { OnOk result (out.new.items ≡ out.old.items ++ (if suits_opaque (asks_of choice.now) then object_line (opaque_members number size) else [])) }
+) -> Result<bool, AllocError>
+    ensures asked { IfOk result (λ is. is ≡ suits_opaque (asks_of choice.now)) }
+    ensures told { IfOk result (λ is. IsTrue is → out.new.items ≡ out.old.items ++ object_line (opaque_members number size)) }
+    ensures other { IfOk result (λ is. IsFalse is → out.new.items ≡ out.old.items) }
 {
     if !choice.suits_opaque() {
-        return Ok(());
+        return Ok(false);
     }
-    put_opaque_object(out, number, size as u64)
+    put_opaque_object(out, number, size as u64)?;
+    Ok(true)
 }
 
-/// A message of any terms that is asked for by more than its number; nothing for any other. It is read once.
+/// A message that is asked for; nothing for any other. It is read once. Answers whether it is.
 pub fn put_asked_object(
     told: &mut Sighted,
-    front: &mut Front,
     choice: &Choice,
     out: &mut Vec<u8>,
     number: u64,
     bytes: &[u8],
-) -> Result<(), AllocError>
-    ensures { OnOk result ((shown : List ℕ) × IsShown notations.Json words.Pretty (asks_of choice.now) number (Message bytes.now) shown
-        × (out.new.items ≡ out.old.items ++ shown)) }
+) -> Result<bool, AllocError>
+    ensures asked { IfOk result (λ is. is ≡ suits_if (asks_of choice.now) (term_in bytes.now)) }
+    ensures told { IfOk result (λ is. IsTrue is → (members : List Member) × IsObject number (Message bytes.now) members × (out.new.items ≡ out.old.items ++ object_line members)) }
+    ensures other { IfOk result (λ is. IsFalse is → out.new.items ≡ out.old.items) }
 {
-    if !choice.has_number(number) {
-        return Ok(());
-    }
-    let Some(kind) = read_pretty(told, bytes)? else {
+    let Some(read) = read_message(told, bytes)? else {
         return put_unread_object(choice, out, number, bytes.len());
     };
-    if !front.suits(choice, kind, bytes)? {
-        return Ok(());
+    if !suits(choice, &read, &told.text) {
+        return Ok(false);
     }
-    let word = word_of(kind).as_bytes();
-    put_message_object(out, front, number, word, &told.text, bytes)
+    put_message_object(out, number, &read, &told.text)?;
+    Ok(true)
 }

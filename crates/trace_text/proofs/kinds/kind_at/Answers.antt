@@ -1,4 +1,4 @@
-use Rattle.std.proofs.Common.{Bool, cond, List, ℕ, codes, ap, sym, ◌∙◌, refl}
+use Rattle.std.proofs.Common.{Bool, cond, codes, ap, sym, ◌∙◌, refl}
 use Rattle.std.proofs.lemmas.Bool.{ne_eqb}
 use Rattle.std.proofs.lemmas.Option.{slice_get_read, slice_get_past}
 use Rattle.trace_text.specs.KindWords.{word_or, shown_kinds}

@@ -1,5 +1,0 @@
-use Rattle.trace_text.proofs.Passing.{word_leaf}
-use Rattle.trace_text.proofs.front.behind_word.Goals as goal
-
-pub returns-in-Ok : goal.returns-in-Ok
-returns-in-Ok c = word_leaf c.args.bytes.now _ c.in-Ok.rest.now c.in-Ok.ensures
