@@ -5,6 +5,7 @@ use Rattle.std.proofs.KnownBytes.{Appends-nil}
 use Rattle.trace_client.specs.Output.{AppendsPrefix}
 use Rattle.stores.specs.declared.mem_store.MemStore.{MemStore}
 use Rattle.segment.specs.Specification.{Spec}
+use Rattle.recovery.specs.CallCounts.{most_in}
 use Rattle.trace_port.specs.Openings.{IsKept}
 use Rattle.trace_port.proofs.Leaving.{weaker}
 use Rattle.stores.specs.MemStore.{reads_of, failures_of}
@@ -15,7 +16,7 @@ use Rattle.trace_script.specs.declared.line.Unsynced.{Unsynced}
 use Rattle.trace_script.specs.declared.line.Line.{Line}
 use Rattle.trace_script.specs.declared.line.Line.TheVariants as lines
 use Rattle.script_port.specs.Read.{Stretch, stretch, first_lines}
-use Rattle.simulator.specs.Simulated.{device, IsNew, IsOfStore, Does, lists, Fails, answers_in_part, lists_in_part, DoesOrFails, IsOver, IsFinished, told, not_told, failed, OnlyLooked, IsRunWhole, LeavesSo, WasRun, ComesOf, SaysWhyNot, ended_so, Simulates, IsRun, runs, not_written_out, first_of}
+use Rattle.simulator.specs.Simulated.{device, IsNew, IsOfStore, Does, lists, Fails, answers_in_part, lists_in_part, DoesOrFails, IsOver, IsFinished, told, not_told, failed, LooksBy, IsRunWhole, LeavesSo, WasRun, ComesOf, SaysWhyNot, ended_so, Simulates, IsRun, runs, not_written_out, first_of}
 use Rattle.simulator.specs.Stored.{IsListed}
 use Rattle.script_port.specs.declared.fault.SimFault.TheVariants as faults
 use Rattle.script_port.specs.declared.fault.SimFault.{SimFault}
@@ -78,7 +79,7 @@ pub failed_so : (was_left : Result (Option Leave) Stop) (fault : SimFault) (stor
 failed_so was_left fault store out is = subst (λ (l : Result (Option Leave) Stop). IsFinished store store (λ text. Appends out out text) l (Err fault)) (sym is) (failed refl (Appends-nil out))
 
 -- a store was listed, or a part of that
-pub lists_so : (result : Result Unit SimFault) (old new : MemStore) (Writes : List ℕ → Type 0) → IsListed (reads_of old) (failures_of old) (failures_of new) result Writes → OnlyLooked old new → DoesOrFails lines.List old new result Writes
+pub lists_so : (result : Result Unit SimFault) (old new : MemStore) (Writes : List ℕ → Type 0) → IsListed (reads_of old) (failures_of old) (failures_of new) result Writes → LooksBy (most_in (reads_of old)) old new → DoesOrFails lines.List old new result Writes
 lists_so (Ok done) old new Writes listed looked = (listed.0, lists listed.1 looked, listed.2)
 lists_so (Err fault) old new Writes listed looked = lists_in_part listed looked
 

@@ -1,5 +1,5 @@
 -- What a line of a script does to the store in memory while no port is held.
-use Rattle.std.specs.Prelude.{◌≡◌, ◌⊎◌, ℕ, Bool, Option, Some, None, List, [], ◌∷◌, ◌++◌, length, set, replicate, Result, Ok, Err, false}
+use Rattle.std.specs.Prelude.{◌≡◌, ◌⊎◌, ◌≤◌, ◌+◌, ◌-◌, ◌*◌, ◌^◌, min, ℕ, Bool, Option, Some, None, List, [], ◌∷◌, ◌++◌, length, set, replicate, Result, Ok, Err, false}
 use Rattle.std.specs.Io.KnownBytes.{Appends, Keeps}
 use Rattle.std.specs.declared.vec.Vec.{Vec}
 use Rattle.std.specs.declared.alloc.Global.{Global}
@@ -16,7 +16,8 @@ use Rattle.trace_store.specs.Device.{OnlyReads, Device, device_of, Leaves}
 use Rattle.segment.specs.Specification.{Spec, File, Wrap, Timed}
 use Rattle.recovery.specs.Views.{empty}
 use Rattle.recovery.specs.Stores.{readings, IsBlank}
-use Rattle.recovery.specs.Wiping.{IsWiped, IsWiping}
+use Rattle.recovery.specs.CallCounts.{most_in}
+use Rattle.recovery.specs.Wiping.{IsWiped, IsWiping, wiping_calls}
 use Rattle.trace_port.specs.declared.create.CreateFault.TheVariants.{BadSpec}
 use Rattle.trace_port.specs.Openings.{ReadsAlike, TellsCreate, TellsResume}
 use Rattle.trace_port.specs.Creations.{IsNotCreated}
@@ -122,6 +123,16 @@ pub data IsFinished (old new : MemStore) (Writes : List ℕ → Type 0) : Result
 abbrev pub OnlyLooked : MemStore → MemStore → Type 0
 OnlyLooked old new = OnlyReads honest_of clock_of reads_of images_of moments_of old new
 
+-- those of a line are at most so many
+pub record LooksBy (most : ℕ) (old new : MemStore) : Type 0 where
+  pub only_looked : OnlyLooked old new
+  pub at_most : clock_of new ≤ clock_of old + most
+
+-- each file was wiped by as many calls as that takes, none of which failed; the clock stays at its last value
+pub record WipesBy (old new : MemStore) : Type 0 where
+  pub calls : min (clock_of new) (2 ^ 64 - 1) ≡ min (clock_of old + wiping_calls (reads_of old)) (2 ^ 64 - 1)
+  pub no_failure : failures_of new ≡ failures_of old
+
 -- a line for a store while no port is held
 abbrev pub IsOfStore : Line → Type 0
 IsOfStore (lines.Store files) = Unit {0}
@@ -143,16 +154,16 @@ pub data Does (old new : MemStore) : Line → List ℕ → Type 0 where
   fuses : {calls : ℕ} → fuse_of new ≡ After (clock_of old) calls → SameButFuse old new → Does old new (lines.Fuse calls) (line_of answers.Done)
   fails_once : {calls : ℕ} → fuse_of new ≡ Once (clock_of old) calls → SameButFuse old new → Does old new (lines.FailOnce calls) (line_of answers.Done)
   crashes : {unsynced : Unsynced} {text : List ℕ} → Crashes unsynced old new text → Does old new (lines.Crash unsynced) text
-  lists : {text : List ℕ} → TellsStore (reads_of old) (failures_of old) (failures_of new) text → OnlyLooked old new → Does old new lines.List text
-  tells_files : {text : List ℕ} → TellsFiles (reads_of old) (failures_of old) (failures_of new) text → OnlyLooked old new → Does old new lines.Files text
-  wipes : IsWiped (reads_of old) (reads_of new) → ((c : Image) → images_of new c → IsBlank (readings c)) → LeavesOnly clock_of moments_of old new (IsWiping (images_of old)) → Does old new lines.Wipe (line_of answers.Done)
-  wipes_not : Rose (failures_of old) (failures_of new) → LeavesOnly clock_of moments_of old new (IsWiping (images_of old)) → Does old new lines.Wipe (line_of (answers.Refused refusals.Device))
+  lists : {text : List ℕ} → TellsStore (reads_of old) (failures_of old) (failures_of new) text → LooksBy (most_in (reads_of old)) old new → Does old new lines.List text
+  tells_files : {text : List ℕ} → TellsFiles (reads_of old) (failures_of old) (failures_of new) text → LooksBy (2 * length (reads_of old)) old new → Does old new lines.Files text
+  wipes : WipesBy old new → IsWiped (reads_of old) (reads_of new) → ((c : Image) → images_of new c → IsBlank (readings c)) → LeavesOnly clock_of moments_of old new (IsWiping (images_of old)) → Does old new lines.Wipe (line_of answers.Done)
+  wipes_not : Rose (failures_of old) (failures_of new) → clock_of new ≤ clock_of old + 7 * length (reads_of old) → LeavesOnly clock_of moments_of old new (IsWiping (images_of old)) → Does old new lines.Wipe (line_of (answers.Refused refusals.Device))
   out_of_order : {line : Line} → (IsOfStore line → ⊥) → new ≡ old → Does old new line (line_of answers.OutOfOrder)
 
 -- what such a line does where a fault ends it: what it does anyway, and of the answer a part is written; or it only looked, and listed a part of what is there
 pub data Fails (old new : MemStore) (Writes : List ℕ → Type 0) : Line → SimFault → Type 0 where
   answers_in_part : {line : Line} {text begun : List ℕ} → Does old new line text → BeginsSo text begun → Writes begun → Fails old new Writes line faults.Write
-  lists_in_part : {fault : SimFault} → IsListedInPart (reads_of old) (failures_of old) (failures_of new) Writes fault → OnlyLooked old new → Fails old new Writes lines.List fault
+  lists_in_part : {fault : SimFault} → IsListedInPart (reads_of old) (failures_of old) (failures_of new) Writes fault → LooksBy (most_in (reads_of old)) old new → Fails old new Writes lines.List fault
 
 -- what comes of a line that makes no port
 abbrev pub DoesOrFails : Line → MemStore → MemStore → Result Unit SimFault → (List ℕ → Type 0) → Type 0

@@ -65,7 +65,7 @@ returns-in-List g c =
     record {
       does = record {
         name = c.list.ensures.tells.name;
-        did = rw c.in-List.is (lists_so c.list.result c.args.store.now c.list.new.store _ (c.list.ensures.tells.did tt) c.list.ensures.only_reads);
+        did = rw c.in-List.is (lists_so c.list.result c.args.store.now c.list.new.store _ (c.list.ensures.tells.did tt) (record { only_looked = c.list.ensures.only_reads; at_most = c.list.ensures.at_most tt }));
       };
     }
 
@@ -75,7 +75,7 @@ returns-in-Files g c =
       does = record {
         name = c.list_files.ensures.tells.name;
         did = let told = c.list_files.ensures.tells.did tt in
-            rw c.in-Files.is (does_so c.list_files.result lines.Files c.args.store.now c.list_files.new.store _ _ told.0 (tells_files told.1 c.list_files.ensures.only_reads) told.2 told.3 c.list_files.ensures.fault);
+            rw c.in-Files.is (does_so c.list_files.result lines.Files c.args.store.now c.list_files.new.store _ _ told.0 (tells_files told.1 (record { only_looked = c.list_files.ensures.only_reads; at_most = c.list_files.ensures.at_most })) told.2 told.3 c.list_files.ensures.fault);
       };
     }
 
