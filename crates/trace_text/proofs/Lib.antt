@@ -5,6 +5,7 @@ pub mod SpelledLemmas
 pub mod Telling
 pub mod WholeDecimal
 pub mod FloatLemmas
+pub mod MembersInRow
 pub mod AnyLemmas
 pub mod LeafLemmas
 pub mod KindFinding

@@ -39,114 +39,26 @@ use Rattle.trace_text.specs.Parts.{IsAt, IsTextAt, IsArity, IsCalledAt, IsFuncti
 use Rattle.trace_text.specs.Pretty.{leaf_text, IsPretty, a_leaf, ArePretty, none, with_member}
 use Rattle.trace_text.specs.Printed.{Puts, PutTerm, PutMembers, any_tuple_of}
 use Rattle.trace_text.specs.Sights.{sort_of, sight, sights, of_parts, arity_in}
-use Rattle.trace_text.proofs.AnyLemmas.{join, with_front, front_none, manner_after, members_count, put_tuple_term, tail_alone}
+use Rattle.trace_text.proofs.AnyLemmas.{members_count, put_tuple_term, tail_alone}
+use Rattle.trace_text.proofs.MembersInRow.{join, manner_after, fails_before, fails_behind, put_behind, one_fails, put_one, none_put}
 use Rattle.trace_text.proofs.Steps.{Each, just, after, fails_as, seen_of}
 use Rattle.trace_text.proofs.WholeDecimal.{AreGlyphs, whole_glyphs}
 
--- ---- members behind others
+-- ---- parts of a text
 
-sights_join : (front ts : AnyMembers) → sights (join front ts) ≡ sights front ++ sights ts
-sights_join no_members ts = refl
-sights_join (member s ss) ts = ap (λ (l : List Sight). sight s ∷ l) (sights_join ss ts)
-
-pretty_join : (manner : Manner) (front ts : AnyMembers) (text own : List ℕ) → ArePretty manner front text → ArePretty (manner_after manner front) ts own → ArePretty manner (join front ts) (text ++ own)
-pretty_join manner no_members ts _ own (none _) are = are
-pretty_join manner (member s ss) ts _ own (with_member _ _ _ first rest p more) are =
-    let is : before manner ++ first ++ (rest ++ own) ≡ (before manner ++ first ++ rest) ++ own = sym (append_assoc (before manner ++ first) rest own) in
-    subst (λ (l : List ℕ). ArePretty manner (member s (join ss ts)) l) is (with_member manner s (join ss ts) first (rest ++ own) p (pretty_join (then_one manner) ss ts rest own more are))
-
--- a member before those that are read
-abbrev with_first : AnyTerm → Read AnyMembers → Read AnyMembers
-with_first t read = read >>= λ others. Ok (member t others.0, others.1)
-
-front_member : (t : AnyTerm) (ts : AnyMembers) (read : Read AnyMembers) → with_first t (with_front ts read) ≡ with_front (member t ts) read
-front_member t ts (Ok x) = refl
-front_member t ts (Err d) = refl
-
-more_others : (read : List ℕ → Read AnyTerm) (n : ℕ) (t : AnyTerm) (others : Read AnyMembers) → with_first t (others >>= λ x. with_front x.0 (any_members_at read n x.1)) ≡ (with_first t others >>= λ x. with_front x.0 (any_members_at read n x.1))
-more_others read n t (Ok x) = front_member t x.0 (any_members_at read n x.1)
-more_others read n t (Err d) = refl
-
--- after so many members so many more are read
-abbrev ReadsMore : (List ℕ → Read AnyTerm) → ℕ → ℕ → Type 0
-ReadsMore read m n = (bytes : List ℕ) → any_members_at read (m + n) bytes ≡ (any_members_at read m bytes >>= λ x. with_front x.0 (any_members_at read n x.1))
-
-more_first : (read : List ℕ → Read AnyTerm) (m n : ℕ) (r : Read AnyTerm) → ReadsMore read m n → (r >>= λ first. with_first first.0 (any_members_at read (m + n) first.1))
-    ≡ ((r >>= λ first. with_first first.0 (any_members_at read m first.1)) >>= λ x. with_front x.0 (any_members_at read n x.1))
-more_first read m n (Ok first) more = ap (with_first first.0) (more first.1) ∙ more_others read n first.0 (any_members_at read m first.1)
-more_first read m n (Err d) more = refl
-
-more_read : (read : List ℕ → Read AnyTerm) (m n : ℕ) → ReadsMore read m n
-unfolding any_members_at
-more_read read zero n bytes = let e : 0 + n ≡ n = omega arith in rw e (sym (front_none (any_members_at read n bytes)))
-more_read read (suc m) n bytes = let e : suc m + n ≡ suc (m + n) = omega arith in rw e (more_first read m n (read bytes) (more_read read m n))
-
-module _ (read : List ℕ → Read AnyTerm) (m n : ℕ) (bytes : List ℕ) where
-  pub fails_before : (d : DecodeFault) → Fails d (any_members_at read m bytes) → Fails d (any_members_at read (m + n) bytes)
-  fails_before d h = fails_as d (any_members_at read m bytes) (any_members_at read (m + n) bytes) (λ e. more_read read m n bytes ∙ ap (λ (r : Read AnyMembers). r >>= λ x. with_front x.0 (any_members_at read n x.1)) e) h
-
-  pub fails_behind : (d : DecodeFault) (ts : AnyMembers) (rest : List ℕ) → any_members_at read m bytes ≡ Ok (ts, rest) → Fails d (any_members_at read n rest) → Fails d (any_members_at read (m + n) bytes)
-  fails_behind d ts rest is h =
-      fails_as d (any_members_at read n rest) (any_members_at read (m + n) bytes)
-      (λ e. more_read read m n bytes ∙ ap (λ (r : Read AnyMembers). r >>= λ x. with_front x.0 (any_members_at read n x.1)) is ∙ ap (with_front ts) e) h
-
-  pub put_behind : (manner after : Manner) (line mid now rest last : List ℕ) (seen sees more : List Sight) (p : PutMembers manner line seen (any_members_at read m bytes) mid sees rest) → after ≡ manner_after manner p.ts
-      → PutMembers after mid sees (any_members_at read n rest) now more last → PutMembers manner line seen (any_members_at read (m + n) bytes) now more last
-  put_behind manner after line mid now rest last seen sees more p follows q =
-      record {
-        ts = join p.ts q.ts;
-        is = more_read read m n bytes ∙ ap (λ (r : Read AnyMembers). r >>= λ x. with_front x.0 (any_members_at read n x.1)) p.is ∙ ap (with_front p.ts) q.is;
-        text = p.text ++ q.text;
-        pretty = pretty_join manner p.ts q.ts p.text q.text p.pretty (subst (λ (m : Manner). ArePretty m q.ts q.text) follows q.pretty);
-        line_is = q.line_is ∙ ap (λ (l : List ℕ). l ++ q.text) p.line_is ∙ append_assoc line p.text q.text;
-        seen_is = q.seen_is ∙ ap (λ (l : List Sight). l ++ sights q.ts) p.seen_is ∙ append_assoc seen (sights p.ts) (sights q.ts) ∙ ap (λ (l : List Sight). seen ++ l) (sym (sights_join p.ts q.ts));
-      }
-
--- the first alone
-abbrev one_of : Read AnyTerm → Read AnyMembers
-one_of read = read >>= λ first. Ok (member first.0 no_members, first.1)
-
--- a text at the end
 pub at_end : (span : Span) (own line now : List ℕ) → now ≡ line ++ own → span.start ≡ length line → span.end ≡ length now → IsAt span own now
 at_end span own line now is starts ends = record { before = line; after = []; is = is ∙ sym (append-nil (line ++ own)); start = starts; end = ends ∙ ap length is ∙ length-append line own }
 
--- the first alone, as all of them
-one_by : (read : List ℕ → Read AnyTerm) (r : Read AnyTerm) → one_of r ≡ (r >>= λ first. with_first first.0 (any_members_at read 0 first.1))
-unfolding any_members_at
-one_by read (Ok x) = refl
-one_by read (Err d) = refl
-
--- one member
 module _ (read : List ℕ → Read AnyTerm) (bytes : List ℕ) where
-  one_is : one_of (read bytes) ≡ any_members_at read 1 bytes
-  unfolding any_members_at
-  one_is = one_by read (read bytes)
-
-  pub one_fails : (d : DecodeFault) → Fails d (read bytes) → Fails d (any_members_at read 1 bytes)
-  one_fails d h = fails_as d (read bytes) (any_members_at read 1 bytes) (λ e. sym one_is ∙ ap one_of e) h
-
-  pub put_one : (manner : Manner) (line mid now rest : List ℕ) (seen sees : List Sight) → mid ≡ line ++ before manner → PutTerm mid seen (read bytes) now sees rest → PutMembers manner line seen (any_members_at read 1 bytes) now sees rest
-  put_one manner line mid now rest seen sees is p =
-      record {
-        ts = member p.t no_members;
-        is = sym one_is ∙ ap one_of p.is;
-        text = before manner ++ p.text;
-        pretty = subst (λ (l : List ℕ). ArePretty manner (member p.t no_members) l) (append-nil (before manner ++ p.text)) (with_member manner p.t no_members p.text [] p.pretty (none (then_one manner)));
-        line_is = p.line_is ∙ ap (λ (l : List ℕ). l ++ p.text) is ∙ append_assoc line (before manner) p.text;
-        seen_is = p.seen_is;
-      }
-
   pub part_put : (span : Span) (manner : Manner) (old new : Written Sight) (mid rest : List ℕ) → mid ≡ old.text.items ++ before manner → (p : PutTerm mid old.seen.items (read bytes) new.text.items new.seen.items rest) → span.start ≡ length mid
       → span.end ≡ length new.text.items → PutPart span manner old new (any_members_at read 1 bytes) rest
   unfolding put_one
   part_put span manner old new mid rest is p starts ends = record {
-    put = put_one manner old.text.items mid new.text.items rest old.seen.items new.seen.items is p;
+    put = put_one read bytes manner old.text.items mid new.text.items rest old.seen.items new.seen.items is p;
     t = p.t;
     is = refl;
     at = record { own = p.text; pretty = p.pretty; at = at_end span p.text mid new.text.items p.line_is starts ends };
   }
-
--- ---- parts of a text
 
 pub at_more : (span : Span) (own now more text : List ℕ) → IsAt span own now → text ≡ now ++ more → IsAt span own text
 at_more span own now more text a is =
@@ -469,13 +381,9 @@ module _ (read : List ℕ → Read AnyTerm) (n : ℕ) (bytes line one two three 
 
 -- ---- members after the third
 
-none_put : (read : List ℕ → Read AnyTerm) (bytes : List ℕ) (told : Written Sight) → PutMembers Behind told.text.items told.seen.items (any_members_at read 0 bytes) told.text.items told.seen.items bytes
-unfolding any_members_at
-none_put read bytes told = record { ts = no_members; is = refl; text = []; pretty = none Behind; line_is = sym (append-nil told.text.items); seen_is = sym (append-nil told.seen.items) }
-
 pub no_more : (read : List ℕ → Read AnyTerm) (more : ℕ) (bytes : List ℕ) (told : Written Sight) → more ≡ 0 → PutMore None told told (any_members_at read more bytes) bytes
 unfolding none_put
-no_more read more bytes told none_left = subst (λ (n : ℕ). PutMore None told told (any_members_at read n bytes) bytes) (sym none_left) (record { put = none_put read bytes told; called = refl })
+no_more read more bytes told none_left = subst (λ (n : ℕ). PutMore None told told (any_members_at read n bytes) bytes) (sym none_left) (record { put = none_put read Behind told.text.items bytes told.seen.items; called = refl })
 
 module _ (read : List ℕ → Read AnyTerm) (more others : ℕ) (bytes : List ℕ) (counted : more ≡ 1 + others) where
   pub fourth_fails : (d : DecodeFault) → Fails d (read bytes) → Fails d (any_members_at read more bytes)

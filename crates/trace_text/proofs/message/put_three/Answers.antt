@@ -1,6 +1,7 @@
 use Rattle.std.proofs.lemmas.Result.{err_from_is_err_and}
 use Rattle.trace_text.specs.AnyReading.{any_term_at}
-use Rattle.trace_text.proofs.PartLemmas.{fails_before, second_fails, third_fails, three_put}
+use Rattle.trace_text.proofs.MembersInRow.{fails_before}
+use Rattle.trace_text.proofs.PartLemmas.{second_fails, third_fails, three_put}
 use Rattle.trace_text.proofs.message.put_three.Goals as goal
 
 pub returns-in_err-first : goal.returns-in_err-first
