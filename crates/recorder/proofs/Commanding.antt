@@ -1,5 +1,5 @@
 -- What a command does, step by step.
-use Rattle.std.proofs.Common.{◌≡◌, ℕ, Option, List, Ok, Err, OnOk, OnErr, IfErr}
+use Rattle.std.proofs.Common.{◌≡◌, ◌⊎◌, ℕ, Option, List, Ok, Err, OnOk, OnErr, IfErr}
 use Rattle.std.specs.Prelude.{Result}
 use Rattle.std.specs.Io.KnownBytes.{Appends, Keeps}
 use Rattle.trace_store.specs.Disk.{Image}
@@ -9,10 +9,9 @@ use Rattle.trace_client.specs.Output.{AppendsPrefix}
 use Rattle.trace_files.specs.Standing.{IsStanding}
 use Rattle.trace_files.specs.declared.standing.Standing.TheVariants as standings
 use Rattle.trace_reader.specs.declared.wiping.Clearing.{Clearing}
-use Rattle.recorder.specs.Commands.{IsRead, whole, not_written_out, IsCleared, Clears, done, not_told}
+use Rattle.recorder.specs.Commands.{IsRead, whole, not_written_out, IsCleared, IsOfMark, Clears, done, not_told}
 use Rattle.script_port.specs.declared.fault.SimFault.{SimFault}
 use Rattle.trace_places.specs.declared.place.Place.{Place}
-use Rattle.trace_advice.specs.Complaints.{status_told}
 use Rattle.recorder.specs.Telling.{IsOfWriter}
 use Rattle.script_port.specs.Texts.{line_of}
 use Rattle.script_port.specs.declared.answer.Answer.TheVariants.{Done}
@@ -25,7 +24,7 @@ is_read Tells form Told image was now (Ok out) mid wrote there keeps unwritten =
 is_read Tells form Told image was now (Err complaint) mid wrote there keeps unwritten = not_written_out wrote.0 mid complaint there wrote.1 wrote.2 keeps unwritten
 
 -- a trace was cleared, and that was told or not
-pub is_clear : (clearing : Clearing) (place : Place) (old new : FolderStore) (was now : Option (List ℕ)) (result : Result Unit Complaint) → IsCleared clearing old new → OnOk result (Appends was now (line_of Done)) → OnErr result (AppendsPrefix was now (line_of Done)) → IfErr result (λ complaint. status_told complaint ≡ 1)
+pub is_clear : (clearing : Clearing) (place : Place) (old new : FolderStore) (was now : Option (List ℕ)) (result : Result Unit Complaint) → IsCleared clearing old new → OnOk result (Appends was now (line_of Done)) → OnErr result (AppendsPrefix was now (line_of Done)) → IfErr result (λ complaint. IsOfWriter complaint ⊎ IsOfMark complaint)
     → Clears clearing place old new was now result
-is_clear clearing place old new was now (Ok out) cleared wrote cut status = done cleared wrote
-is_clear clearing place old new was now (Err complaint) cleared wrote cut status = not_told complaint cleared cut status
+is_clear clearing place old new was now (Ok out) cleared wrote cut why = done cleared wrote
+is_clear clearing place old new was now (Err complaint) cleared wrote cut why = not_told complaint cleared cut why

@@ -1,5 +1,5 @@
 -- What a command does with the files of a trace.
-use Rattle.std.specs.Prelude.{◌≡◌, ◌≢◌, ◌*◌, ℕ, Bool, true, false, Option, None, List, [], Result, Ok, Err, IsErr, IfSome, IfErr}
+use Rattle.std.specs.Prelude.{◌≡◌, ◌≢◌, ◌⊎◌, ◌*◌, ℕ, Bool, true, false, Option, None, List, [], Result, Ok, Err, OnOk, IsErr, IfSome, IfErr}
 use Rattle.std.specs.Option.{option_map}
 use Rattle.std.specs.Io.KnownBytes.{Appends, Keeps}
 use Rattle.trace_store.specs.Disk.{Image}
@@ -95,10 +95,15 @@ pub record IsCleared (clearing : Clearing) (old new : FolderStore) : Type 0 wher
   pub none_foreign : (c : Image) → images_of new c → HasNoForeign c
   pub at_most : CallsToClear old new
 
+-- what is told of a mark that stays: its file, or that there was no memory for that
+abbrev pub IsOfMark : Complaint → Type 0
+IsOfMark (complaints.Mark name reason) = Unit {0}
+IsOfMark complaint = IsOfMemory complaint
+
 -- how a clearing ended: it is said to be done where it is; or it is done, and that couldn't be told whole or the mark of a failed sync stays; or it isn't done
 pub data Clears (clearing : Clearing) (place : Place) (old new : FolderStore) (was now : Option (List ℕ)) : Result Unit Complaint → Type 0 where
   done : IsCleared clearing old new → Appends was now (line_of Done) → Clears clearing place old new was now (Ok tt)
-  not_told : (complaint : Complaint) → IsCleared clearing old new → AppendsPrefix was now (line_of Done) → status_told complaint ≡ 1 → Clears clearing place old new was now (Err complaint)
+  not_told : (complaint : Complaint) → IsCleared clearing old new → AppendsPrefix was now (line_of Done) → IsOfWriter complaint ⊎ IsOfMark complaint → Clears clearing place old new was now (Err complaint)
   refused : (fault : WipeFault) (complaint : Complaint) → IsWhyNotWiped clearing fault (reads_of old) → (fault ≢ wiping.Device → CallsToLook old new) → CallsToTryClearing old new → Appends was now [] → IsToldAt place new (wipe_fault fault) complaint → Clears clearing place old new was now (Err complaint)
 
 -- a port was opened for a trace of this kind, of a store that was honest where it is, and no device call failed
@@ -130,7 +135,7 @@ pub data Feeds (place : Place) (spec : Spec) (rules : Rules) (old new : FolderSt
   -- a byte came; then a trace was opened, and the stream put into its port
   feeds : {first mid last : FolderStore} {opened : AnyOpening} {origin : Origin} {result : Result Unit Complaint} {then : Outside} {incoming : Incoming} (begins : Begins rules.skip saw then incoming)
       (remaining : Option (List ℕ)) (reads : ℕ) (come : List ℕ) (left : Incoming) (done : Result Unit SimFault) → LooksWell old first → IsOpened spec first mid opened origin
-      → WasFed opened origin rules mid last begins.mid (outside remaining reads observed) come left done (λ text. Appends was now text) → OnlyLooks last new → MayFail (failures_of last) (failures_of new) → CallsToEnd last new → IsExplained (IsToldAt place last) rules.skip done result
+      → WasFed opened origin rules mid last begins.mid (outside remaining reads observed) come left done (λ text. Appends was now text) → OnlyLooks last new → MayFail (failures_of last) (failures_of new) → CallsToEnd last new → OnOk done (new ≡ last) → IsExplained (IsToldAt place last) rules.skip done result
       -- where it is told how much of the stream is kept, so much is
       → (honest_of new → IfErr result (λ complaint. IfSome (kept_told complaint) (IsKeptOf (first_told opened (device mid)) rules.skip come (reads_of new)))) → Feeds place spec rules old new saw observed was now result
   -- a byte came; then the trace wasn't opened
