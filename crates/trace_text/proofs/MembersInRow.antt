@@ -119,7 +119,6 @@ module _ (read : List ℕ → Read AnyTerm) (bytes : List ℕ) where
         seen_is = p.seen_is;
       }
 
-
 -- none were put yet
 unfoldable pub none_put : (read : List ℕ → Read AnyTerm) (manner : Manner) (line bytes : List ℕ) (seen : List Sight) → PutMembers manner line seen (any_members_at read 0 bytes) line seen bytes
 unfolding any_members_at
