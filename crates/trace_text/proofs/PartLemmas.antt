@@ -26,7 +26,7 @@ use Rattle.trace_text.specs.declared.told.Told.{Told as Written}
 use Rattle.trace_text.specs.declared.sight.Sight.{Sight}
 use Rattle.trace_text.specs.declared.sight.Sort.{Sort}
 use Rattle.trace_text.specs.declared.sight.Sort.TheVariants as sorts
-use Rattle.trace_text.specs.Manners.{before, then_one}
+use Rattle.trace_text.specs.Manners.{before}
 use Rattle.trace_text.specs.AnyTerm.{Leaf, int, AnyTerm, leaf, float, tuple, nil, cons, map, closure, conses, any_integers, any_count, AnyMembers, no_members, member}
 use Rattle.trace_text.specs.declared.any_tag.AnyTag.{AnyTag}
 use Rattle.trace_text.specs.declared.any_tag.AnyTag.TheVariants as any
@@ -36,7 +36,7 @@ use Rattle.trace_text.specs.Choosing.{is_count}
 use Rattle.trace_text.specs.Facts.{is_tag, is_tracee, is_atom, is_number, leaf_if, Function, with_names, function_in, function_behind, behind_tag, tracee_of, traced, function_of, arity_told}
 use Rattle.trace_text.specs.Objects.{unsigned_told}
 use Rattle.trace_text.specs.Parts.{IsAt, IsTextAt, IsArity, IsCalledAt, IsFunctionAt, IsTraceeAt, ArePartsOf, has_three, Opens, PutPart, PutThree, PutMore, PutCalled, PutMessage}
-use Rattle.trace_text.specs.Pretty.{leaf_text, IsPretty, a_leaf, ArePretty, none, with_member}
+use Rattle.trace_text.specs.Pretty.{leaf_text, IsPretty, a_leaf}
 use Rattle.trace_text.specs.Printed.{Puts, PutTerm, PutMembers, any_tuple_of}
 use Rattle.trace_text.specs.Sights.{sort_of, sight, sights, of_parts, arity_in}
 use Rattle.trace_text.proofs.AnyLemmas.{members_count, put_tuple_term, tail_alone}

@@ -111,6 +111,19 @@ none_there bytes false e fits opaque = term_by bytes false e
 pub term_opaque : (bytes : List ℕ) → IsBytes bytes → IsOpaqueAny bytes → term_in bytes ≡ None
 term_opaque bytes fits opaque = none_there bytes (leb (length bytes) longest_message) refl fits opaque
 
+and_true : (b : Bool) → b && true ≡ b
+and_true true = refl
+and_true false = refl
+
+-- where nothing is asked of a message but its kind
+pub kind_alone : (asks : Asks) (t : AnyTerm) (kind : Option Kind) (word : List ℕ) → is_none asks.pid && is_none asks.of_module ≡ true → word ≡ kind_word kind → kind ≡ (sight t).kind → is_of_kinds asks.kinds word ≡ suits asks t
+kind_alone asks t kind word e says same =
+    let a = both_true (is_none asks.pid) (is_none asks.of_module) e in
+    let pid : is_of_pid asks.pid t ≡ true = ap (λ (o : Option (List ℕ)). is_of_pid o t) (none_is asks.pid a.0) in
+    let function : is_of_function asks t ≡ true = ap (λ (b : Bool). b || is_called asks (called t)) a.1 in
+    ap (is_of_kinds asks.kinds) (says ∙ ap kind_word same) ∙ sym (and_true (is_of_kinds asks.kinds (kind_word (sight t).kind)))
+    ∙ sym (ap (λ (b : Bool). is_of_kinds asks.kinds (kind_word (sight t).kind) && (b && is_of_function asks t)) pid ∙ ap (λ (b : Bool). is_of_kinds asks.kinds (kind_word (sight t).kind) && b) function)
+
 -- what is asked of a message that is read, and of one that isn't
 pub asked_read : (asks : Asks) (read : ReadMessage) (bytes text : List ℕ) (r : IsReadSo read bytes text) → suits asks r.t ≡ suits_if asks (term_in bytes)
 asked_read asks read bytes text r = sym (ap (suits_if asks) (term_spelled bytes r.t r.short r.spells))

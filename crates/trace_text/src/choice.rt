@@ -1,5 +1,5 @@
 //! Which entries are listed.
-ghost use Rattle.std.specs.Prelude.{◌≡◌, ◌&&◌, ◌∷◌, ◌++◌, [], Some};
+ghost use Rattle.std.specs.Prelude.{is_none, ◌≡◌, ◌&&◌, ◌∷◌, ◌++◌, [], Some};
 ghost use Rattle.std.specs.Option.{option_map};
 ghost use Rattle.std.specs.Prelude.{string_bytes};
 ghost use Rattle.std.specs.Str.{bytes_eq};
@@ -79,11 +79,18 @@ impl Choice {
         }
     }
 
+    /// Whether nothing is asked of a message but its number and its kind.
+    pub fn has_no_part(&self) -> bool
+        ensures { result ≡ (is_none (asks_of self.now).pid && is_none (asks_of self.now).of_module) }
+    {
+        self.pid.is_none() && self.module.is_none()
+    }
+
     /// Whether messages are asked for that aren't read.
     pub fn suits_opaque(&self) -> bool
         ensures { result ≡ suits_opaque (asks_of self.now) }
     {
-        self.has_kind(b"opaque") && (self.pid.is_none() && self.module.is_none())
+        self.has_kind(b"opaque") && self.has_no_part()
     }
 }
 

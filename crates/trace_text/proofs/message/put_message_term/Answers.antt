@@ -6,7 +6,7 @@ pub returns-in-Some : goal.returns-in-Some
 returns-in-Some c =
     opened_message (any_term_at 256 c.args.rest.now.now) (any_term_at c.in-Some.opened.inner) c.put_parts.result _ _ _ _ _ (rw c.in-Some.is at c.in_ok-opened.ensures) c.put_parts.ensures
 
-pub returns-in_ok-put_any_term-in-None : goal.returns-in_ok-put_any_term-in-None
-returns-in_ok-put_any_term-in-None c =
-    let p = c.in_ok-put_any_term-in-None.ensures in
+pub returns-in_ok-put_term-in-None : goal.returns-in_ok-put_term-in-None
+returns-in_ok-put_term-in-None c =
+    let p = c.in_ok-put_term-in-None.ensures in
     record { put = p; are = c.none.ensures p.t _ (few_traced_in p.t _ (rw c.in-None.is at c.in_ok-opened.ensures) p.is) }
