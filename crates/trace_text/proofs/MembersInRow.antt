@@ -1,18 +1,16 @@
 -- Members of a term in a row, as they are read and put.
-use Rattle.std.proofs.Common.{◌≡◌, ℕ, zero, suc, ◌+◌, ◌-◌, ◌<◌, ◌≤◌, List, [], ◌∷◌, ◌++◌, Result, Ok, Err, refl, sym, ap, subst, ◌∙◌, append_assoc, append-nil, arith}
+use Rattle.std.proofs.Common.{◌≡◌, ℕ, zero, suc, ◌+◌, ◌-◌, ◌<◌, ◌≤◌, List, [], ◌∷◌, ◌++◌, Ok, Err, refl, sym, ap, subst, ◌∙◌, append_assoc, append-nil, arith}
 use Rattle.ext_format.specs.declared.fault.DecodeFault.{DecodeFault}
 use Rattle.ext_format.specs.Reading.{◌>>=◌, Fails, Read}
-use Rattle.ext_format.proofs.FieldLaws.{bind_ok, ok_is}
 use Rattle.trace_text.specs.declared.manner.Manner.{Manner}
-use Rattle.trace_text.specs.declared.manner.Manner.TheVariants.{First}
 use Rattle.trace_text.specs.declared.sight.Sight.{Sight}
 use Rattle.trace_text.specs.Manners.{before, then_one}
 use Rattle.trace_text.specs.AnyTerm.{AnyTerm, AnyMembers, no_members, member}
 use Rattle.trace_text.specs.AnyReading.{any_members_at}
-use Rattle.trace_text.specs.Pretty.{IsPretty, ArePretty, none, with_member}
-use Rattle.trace_text.specs.Printed.{PutTerm, PutMembers, PutsTerm, PutsMembers}
+use Rattle.trace_text.specs.Pretty.{ArePretty, none, with_member}
+use Rattle.trace_text.specs.Printed.{PutTerm, PutMembers}
 use Rattle.trace_text.specs.Sights.{sight, sights}
-use Rattle.trace_text.proofs.Steps.{fails_as, mapped_err}
+use Rattle.trace_text.proofs.Steps.{fails_as}
 
 abbrev pub join : AnyMembers → AnyMembers → AnyMembers
 join no_members ts = ts
@@ -153,25 +151,3 @@ module _ (read : List ℕ → Read AnyTerm) (n : ℕ) (manner next : Manner) (li
 
   pub all_of : (count : ℕ) → n ≤ count → count ≤ n → PutMembers manner line seen (any_members_at read count bytes) now sees rest
   all_of count le ge = let same : n ≡ count = omega (arith, le, ge) in subst (λ (k : ℕ). PutMembers manner line seen (any_members_at read k bytes) now sees rest) same some.put
-
--- ---- one alone
-
-single_pretty : (t : AnyTerm) (text : List ℕ) → ArePretty First (member t no_members) text → IsPretty t text
-single_pretty t _ (with_member _ _ _ own _ p (none _)) = subst (IsPretty t) (sym (append-nil own)) p
-
-pub single_put : (read : List ℕ → Read AnyTerm) (r : Result Unit DecodeFault) (line now : List ℕ) (seen sees : List Sight) (bytes rest : List ℕ) → PutsMembers r First (any_members_at read 1 bytes) line seen now sees rest
-    → PutsTerm r (read bytes) line seen now sees rest
-single_put read (Ok x) line now seen sees bytes rest m =
-    let f = bind_ok (read bytes) first_alone (m.ts, rest) (one_is read bytes ∙ m.is) in
-    let same : (member f.0.0 no_members, f.0.1) ≡ (m.ts, rest) = ok_is (member f.0.0 no_members, f.0.1) (m.ts, rest) f.2 in
-    let are : m.ts ≡ member f.0.0 no_members = sym (ap (λ (x : AnyMembers × List ℕ). x.0) same) in
-    record {
-      t = f.0.0;
-      is = f.1 ∙ ap (λ (l : List ℕ). Ok (f.0.0, l)) (ap (λ (x : AnyMembers × List ℕ). x.1) same);
-      text = m.text;
-      pretty = single_pretty f.0.0 m.text (subst (λ (ts : AnyMembers). ArePretty First ts m.text) are m.pretty);
-      line_is = m.line_is;
-      seen_is = m.seen_is ∙ ap (λ (ts : AnyMembers). seen ++ sights ts) are;
-    }
-single_put read (Err d) line now seen sees bytes rest h =
-    fails_as d (any_members_at read 1 bytes) (read bytes) (λ e. mapped_err d (read bytes) (λ first. (member first.0 no_members, first.1)) (one_is read bytes ∙ e)) h

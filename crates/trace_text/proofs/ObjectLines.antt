@@ -6,7 +6,8 @@ use Rattle.std.proofs.lemmas.Grind.{flat_map-append}
 use Rattle.std.specs.Fmt.{decimal}
 use Rattle.json.specs.Print.{escape_byte, escape, quoted}
 use Rattle.entry_codec.specs.Entries.{Message}
-use Rattle.trace_text.specs.declared.pretty.ReadMessage.{ReadMessage}
+use Rattle.trace_text.specs.declared.sight.Kind.{Kind}
+use Rattle.trace_text.specs.declared.sight.Sight.{Sight}
 use Rattle.trace_text.specs.declared.style.Notation.{Notation}
 use Rattle.trace_text.specs.declared.style.Notation.TheVariants.{Text, Json}
 use Rattle.trace_text.specs.AnyTerm.{AnyTerm}
@@ -83,14 +84,14 @@ function_text_put old a b c m n f first second x y z =
 
 -- ---- messages
 
-pub message_object : (n : ℕ) (bytes word text old new : List ℕ) (read : ReadMessage) (r : IsReadSo read bytes text) → word ≡ kind_word read.kind
+pub message_object : (n : ℕ) (bytes word text old new : List ℕ) (kind : Option Kind) (seen : List Sight) (r : IsReadSo kind bytes seen text) → word ≡ kind_word kind
     → new ≡ old ++ object_line (of_number (codes "n") n ∷ of_text (codes "kind") word ∷ (facts_of word (Some r.t) ++ of_text (codes "text") text ∷ []))
     → (members : List Member) × IsObject n (Message bytes) members × (new ≡ old ++ object_line members)
-message_object n bytes word text old new read r says e =
-    let named : IsPrettyKind r.t word = subst (IsPrettyKind r.t) (sym (says ∙ ap kind_word r.kind)) (kind_seen r.t) in
+message_object n bytes word text old new kind seen r says e =
+    let named : IsPrettyKind r.t word = subst (IsPrettyKind r.t) (sym (says ∙ ap kind_word r.is_kind)) (kind_seen r.t) in
     let there : term_in bytes ≡ Some r.t = term_spelled bytes r.t r.short r.spells in (
       message_members n word bytes text,
-      of_read bytes word text (r.t, r.short, r.spells, named, r.pretty),
+      of_read bytes word text (r.t, r.short, r.spells, named, r.is_seen.pretty),
       e ∙ ap (λ (o : Option AnyTerm). old ++ object_line (of_number (codes "n") n ∷ of_text (codes "kind") word ∷ (facts_of word o ++ of_text (codes "text") text ∷ []))) (sym there),
     )
 

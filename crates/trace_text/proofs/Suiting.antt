@@ -16,8 +16,8 @@ use Rattle.trace_text.specs.Pretty.{leaf_text}
 use Rattle.trace_text.specs.PrettyLines.{kind_word, longest_message, IsOpaqueAny}
 use Rattle.trace_text.specs.Sights.{sight}
 use Rattle.trace_text.specs.SpellsAny.{SpellsAny}
-use Rattle.trace_text.specs.declared.pretty.ReadMessage.{ReadMessage}
 use Rattle.trace_text.specs.declared.sight.Kind.{Kind}
+use Rattle.trace_text.specs.declared.sight.Sight.{Sight}
 use Rattle.trace_text.proofs.AnyAgain.{whole_again}
 use Rattle.trace_text.proofs.AnySound.{whole_takes}
 
@@ -39,6 +39,11 @@ pub no_function_asked : (asks : Asks) (t : AnyTerm) → is_none asks.of_module �
 no_function_asked asks t some none =
     ap (λ (b : Bool). b || is_called asks (cond (tells_function (sight t).kind) (function_of t) None)) some
     ∙ ap (λ (o : Option Function). is_called asks (cond (tells_function (sight t).kind) o None)) none ∙ none_called asks (tells_function (sight t).kind)
+
+pub no_call_asked : (asks : Asks) (t : AnyTerm) (kind : Option Kind) → is_none asks.of_module ≡ false → kind ≡ (sight t).kind → tells_function kind ≡ false → is_of_function asks t ≡ false
+no_call_asked asks t kind some is tells =
+    ap (λ (b : Bool). b || is_called asks (cond (tells_function (sight t).kind) (function_of t) None)) some
+    ∙ ap (λ (b : Bool). is_called asks (cond b (function_of t) None)) (ap tells_function (sym is) ∙ tells)
 
 pub function_asked : (asks : Asks) (t : AnyTerm) (kind : Option Kind) → is_none asks.of_module ≡ false → kind ≡ (sight t).kind → tells_function kind ≡ true → is_of_function asks t ≡ is_called asks (function_of t)
 function_asked asks t kind some is tells =
@@ -111,22 +116,13 @@ none_there bytes false e fits opaque = term_by bytes false e
 pub term_opaque : (bytes : List ℕ) → IsBytes bytes → IsOpaqueAny bytes → term_in bytes ≡ None
 term_opaque bytes fits opaque = none_there bytes (leb (length bytes) longest_message) refl fits opaque
 
-and_true : (b : Bool) → b && true ≡ b
-and_true true = refl
-and_true false = refl
-
--- where nothing is asked of a message but its kind
-pub kind_alone : (asks : Asks) (t : AnyTerm) (kind : Option Kind) (word : List ℕ) → is_none asks.pid && is_none asks.of_module ≡ true → word ≡ kind_word kind → kind ≡ (sight t).kind → is_of_kinds asks.kinds word ≡ suits asks t
-kind_alone asks t kind word e says same =
-    let a = both_true (is_none asks.pid) (is_none asks.of_module) e in
-    let pid : is_of_pid asks.pid t ≡ true = ap (λ (o : Option (List ℕ)). is_of_pid o t) (none_is asks.pid a.0) in
-    let function : is_of_function asks t ≡ true = ap (λ (b : Bool). b || is_called asks (called t)) a.1 in
-    ap (is_of_kinds asks.kinds) (says ∙ ap kind_word same) ∙ sym (and_true (is_of_kinds asks.kinds (kind_word (sight t).kind)))
-    ∙ sym (ap (λ (b : Bool). is_of_kinds asks.kinds (kind_word (sight t).kind) && (b && is_of_function asks t)) pid ∙ ap (λ (b : Bool). is_of_kinds asks.kinds (kind_word (sight t).kind) && b) function)
+-- a message that is read, by equal parts
+pub read_as : (kind : Option Kind) (bytes text text' : List ℕ) (seen seen' : List Sight) → seen' ≡ seen → text' ≡ text → IsReadSo kind bytes seen text → IsReadSo kind bytes seen' text'
+read_as kind bytes text text' seen seen' e f r = subst (λ (s : List Sight). IsReadSo kind bytes s text') (sym e) (subst (IsReadSo kind bytes seen) (sym f) r)
 
 -- what is asked of a message that is read, and of one that isn't
-pub asked_read : (asks : Asks) (read : ReadMessage) (bytes text : List ℕ) (r : IsReadSo read bytes text) → suits asks r.t ≡ suits_if asks (term_in bytes)
-asked_read asks read bytes text r = sym (ap (suits_if asks) (term_spelled bytes r.t r.short r.spells))
+pub asked_read : (asks : Asks) (kind : Option Kind) (bytes text : List ℕ) (seen : List Sight) (r : IsReadSo kind bytes seen text) → suits asks r.t ≡ suits_if asks (term_in bytes)
+asked_read asks kind bytes text seen r = sym (ap (suits_if asks) (term_spelled bytes r.t r.short r.spells))
 
 no_term : (bytes : List ℕ) → IsBytes bytes → IsUnread bytes → term_in bytes ≡ None
 no_term bytes fits (inl opaque) = term_opaque bytes fits opaque

@@ -11,22 +11,13 @@ use Rattle.trace_text.specs.declared.sight.Sort.{Sort}
 use Rattle.trace_text.specs.declared.sight.Sort.TheVariants as sorts
 use Rattle.trace_text.specs.AnyTerm.{Leaf, int, AnyTerm, leaf, tuple, AnyMembers, no_members, member}
 use Rattle.trace_text.specs.BigText.{whole_decimal}
-use Rattle.trace_text.specs.Sights.{is_pid, is_port, sort_of, sight, arity_in}
+use Rattle.trace_text.specs.Sights.{is_atom, is_pid, is_port, sort_of, sight, arity_in}
 
 -- the atoms `trace` and `trace_ts`
 abbrev pub is_tag : Sort → Bool
 is_tag (sorts.Atom (Some (headings.Known words.Trace))) = true
 is_tag (sorts.Atom (Some (headings.Known words.TraceTs))) = true
 is_tag _ = false
-
-abbrev pub is_atom : Sort → Bool
-is_atom (sorts.Atom heading) = true
-is_atom _ = false
-
-abbrev pub is_number : Sort → Bool
-is_number sorts.Number = true
-is_number (sorts.Character c) = true
-is_number _ = false
 
 -- how many members a list has, where that is told
 abbrev pub count_of : Sort → Option ℕ

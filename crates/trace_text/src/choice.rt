@@ -70,6 +70,7 @@ impl Choice {
     }
 
     /// Whether messages of the kind of this word are asked for.
+    #[inline(always)]
     pub fn has_kind(&self, kind: &[u8]) -> bool
         ensures { result ≡ is_of_kinds (asks_of self.now).kinds kind.now }
     {
@@ -95,6 +96,7 @@ impl Choice {
 }
 
 /// Whether a word is one of those that have commas between them.
+#[inline(never)]
 fn is_among(word: &[u8], words: &[u8]) -> bool
     ensures { result ≡ is_of_kinds (Some words.now) word.now }
 {
@@ -102,6 +104,7 @@ fn is_among(word: &[u8], words: &[u8]) -> bool
 }
 
 /// Whether a text is another one between two signs.
+#[inline(never)]
 fn is_between(opening: u8, closing: u8, asked: &[u8], shown: &[u8]) -> bool
     ensures { result ≡ bytes_eq shown.now (opening ∷ (asked.now ++ closing ∷ [])) }
 {
@@ -115,6 +118,7 @@ fn is_between(opening: u8, closing: u8, asked: &[u8], shown: &[u8]) -> bool
 }
 
 /// Whether a text is this one, or this one between two signs.
+#[inline(always)]
 pub fn is_text(opening: u8, closing: u8, asked: &[u8], shown: &[u8]) -> bool
     ensures { result ≡ is_text opening closing asked.now shown.now }
 {
@@ -122,6 +126,7 @@ pub fn is_text(opening: u8, closing: u8, asked: &[u8], shown: &[u8]) -> bool
 }
 
 /// Whether an atom is shown so, where one is asked for.
+#[inline(always)]
 pub fn is_name(asked: &Option<String>, shown: &[u8]) -> bool
     ensures { result ≡ is_shown (option_map string_bytes asked.now) shown.now }
 {

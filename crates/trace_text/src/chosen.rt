@@ -1,6 +1,6 @@
 //! Whether an entry is one that a choice asks for.
 
-ghost use Rattle.std.specs.Prelude.{◌≡◌, ◌++◌, ℕ, List, IfOk, OnErr, IsTrue, IsFalse, is_none, ◌&&◌, true, false, codes};
+ghost use Rattle.std.specs.Prelude.{◌≡◌, ◌++◌, ℕ, List, IfOk, OnErr, IsTrue, IsFalse, false, codes};
 ghost use Rattle.std.specs.Fmt.{decimal};
 ghost use Rattle.trace_text.specs.Choosing.{asks_of, asks_no_text, suits_opaque, suits_if, term_in};
 ghost use Rattle.trace_text.specs.PrettyLines.{IsPrettyTold};
@@ -9,7 +9,7 @@ use crate::any_term::Sighted;
 use crate::choice::Choice;
 use crate::facts::suits;
 use crate::line::put_opaque;
-use crate::pretty::{put_kind, read_kind, read_message, word_of};
+use crate::pretty::{put_kind, read_message};
 use std::alloc::AllocError;
 
 /// Whether what is asked of a message holds of this one, which is put together apart.
@@ -21,7 +21,7 @@ pub fn is_asked(apart: &mut Sighted, choice: &Choice, bytes: &[u8]) -> Result<bo
         return Ok(true);
     }
     match read_message(apart, bytes)? {
-        Some(read) => Ok(suits(choice, &read, &apart.text)),
+        Some(kind) => Ok(suits(choice, kind, &apart.seen, &apart.text)),
         None => Ok(choice.suits_opaque()),
     }
 }
@@ -37,35 +37,10 @@ pub fn put_asked(
     ensures told { IfOk result (λ is. IsTrue is → (told : List ℕ) × IsPrettyTold bytes.now told × (text.new.items ≡ text.old.items ++ told)) }
     ensures other { IfOk result (λ is. IsFalse is → text.new.items ≡ text.old.items) }
 {
-    if choice.has_no_part() {
-        return put_of_kind(told, choice, text, bytes);
-    }
-    let Some(read) = read_message(told, bytes)? else {
+    let Some(kind) = read_message(told, bytes)? else {
         return put_unread(choice, text, bytes.len());
     };
-    if !suits(choice, &read, &told.text) {
-        return Ok(false);
-    }
-    put_kind(text, read.kind, &told.text)?;
-    Ok(true)
-}
-
-/// The same, where nothing is asked of a message but its number and its kind.
-fn put_of_kind(
-    told: &mut Sighted,
-    choice: &Choice,
-    text: &mut Vec<u8>,
-    bytes: &[u8],
-) -> Result<bool, AllocError>
-    requires alone { is_none (asks_of choice.now).pid && is_none (asks_of choice.now).of_module ≡ true }
-    ensures asked { IfOk result (λ is. is ≡ suits_if (asks_of choice.now) (term_in bytes.now)) }
-    ensures told { IfOk result (λ is. IsTrue is → (told : List ℕ) × IsPrettyTold bytes.now told × (text.new.items ≡ text.old.items ++ told)) }
-    ensures other { IfOk result (λ is. IsFalse is → text.new.items ≡ text.old.items) }
-{
-    let Some(kind) = read_kind(told, bytes)? else {
-        return put_unread(choice, text, bytes.len());
-    };
-    if !choice.has_kind(word_of(kind).as_bytes()) {
+    if !suits(choice, kind, &told.seen, &told.text) {
         return Ok(false);
     }
     put_kind(text, kind, &told.text)?;

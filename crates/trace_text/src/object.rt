@@ -9,7 +9,8 @@ use crate::any_term::Sighted;
 use crate::choice::Choice;
 use crate::facts::{put_facts, suits};
 use crate::members::{put_head, put_more_number, put_term, put_text};
-use crate::pretty::{ReadMessage, read_message, word_of};
+use crate::pretty::{read_message, word_of};
+use crate::sight::{Kind, Sight};
 use std::alloc::AllocError;
 
 /// The closing bracket of an object, and its line feed.
@@ -23,15 +24,16 @@ fn put_close(out: &mut Vec<u8>) -> Result<(), AllocError>
 fn put_message_object(
     out: &mut Vec<u8>,
     number: u64,
-    read: &ReadMessage,
+    kind: Option<Kind>,
+    seen: &[Sight],
     text: &[u8],
 ) -> Result<(), AllocError>
-    ensures { (bytes : List ℕ) → IsReadSo read.now bytes text.now → OnOk result ((members : List Member) × IsObject number (Message bytes) members
+    ensures { (bytes : List ℕ) → IsReadSo kind bytes seen.now text.now → OnOk result ((members : List Member) × IsObject number (Message bytes) members
         × (out.new.items ≡ out.old.items ++ object_line members)) }
 {
-    let kind = word_of(read.kind).as_bytes();
+    let kind = word_of(kind).as_bytes();
     put_head(out, number, kind)?;
-    put_facts(out, kind, &read.parts, text)?;
+    put_facts(out, kind, seen, text)?;
     put_term(out, text)?;
     put_close(out)
 }
@@ -100,7 +102,7 @@ pub fn put_object(
     ensures { OnOk result ((members : List Member) × IsObject number (Message bytes.now) members × (out.new.items ≡ out.old.items ++ object_line members)) }
 {
     match read_message(told, bytes)? {
-        Some(read) => put_message_object(out, number, &read, &told.text),
+        Some(kind) => put_message_object(out, number, kind, &told.seen, &told.text),
         None => put_opaque_object(out, number, bytes.len() as u64),
     }
 }
@@ -135,12 +137,12 @@ pub fn put_asked_object(
     ensures told { IfOk result (λ is. IsTrue is → (members : List Member) × IsObject number (Message bytes.now) members × (out.new.items ≡ out.old.items ++ object_line members)) }
     ensures other { IfOk result (λ is. IsFalse is → out.new.items ≡ out.old.items) }
 {
-    let Some(read) = read_message(told, bytes)? else {
+    let Some(kind) = read_message(told, bytes)? else {
         return put_unread_object(choice, out, number, bytes.len());
     };
-    if !suits(choice, &read, &told.text) {
+    if !suits(choice, kind, &told.seen, &told.text) {
         return Ok(false);
     }
-    put_message_object(out, number, &read, &told.text)?;
+    put_message_object(out, number, kind, &told.seen, &told.text)?;
     Ok(true)
 }

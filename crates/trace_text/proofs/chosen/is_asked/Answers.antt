@@ -1,7 +1,6 @@
-use Rattle.std.proofs.Common.{sym, ◌∙◌, subst, arith}
+use Rattle.std.proofs.Common.{sym, ◌∙◌, arith}
 use Rattle.trace_text.specs.Choosing.{asks_of}
-use Rattle.trace_text.specs.Parts.{IsReadSo}
-use Rattle.trace_text.proofs.Suiting.{all_suit, asked_read, asked_unread}
+use Rattle.trace_text.proofs.Suiting.{read_as, all_suit, asked_read, asked_unread}
 use Rattle.trace_text.proofs.chosen.is_asked.Goals as goal
 
 pub returns-then-has_no_text-clause-asked : goal.returns-then-has_no_text-clause-asked
@@ -9,8 +8,9 @@ returns-then-has_no_text-clause-asked c = sym (all_suit (asks_of c.args.choice.n
 
 pub returns-in-Some-clause-asked : goal.returns-in-Some-clause-asked
 returns-in-Some-clause-asked c =
-    let r = subst (IsReadSo c.in-Some.read c.args.bytes.now) (sym c.deref.ensures.value) (rw c.in-Some.is at c.in_ok-read.ensures) in
-    c.suits.ensures r.t r.kind r.parts ∙ asked_read (asks_of c.args.choice.now) c.in-Some.read c.args.bytes.now _ r
+    let read = rw c.in-Some.is at c.in_ok-kind.ensures in
+    let r = read_as c.in-Some.kind c.args.bytes.now _ _ _ _ c.deref.ensures.value c.deref-in-Some.ensures.value read in
+    c.suits.ensures r.t r.is_kind r.is_seen ∙ asked_read (asks_of c.args.choice.now) c.in-Some.kind c.args.bytes.now _ _ r
 
 pub returns-in-None-clause-asked : goal.returns-in-None-clause-asked
-returns-in-None-clause-asked c = c.suits_opaque.ensures ∙ asked_unread (asks_of c.args.choice.now) c.args.bytes.now (λ i. omega (arith, c.type_inv.bytes i)) (rw c.in-None.is at c.in_ok-read.ensures)
+returns-in-None-clause-asked c = c.suits_opaque.ensures ∙ asked_unread (asks_of c.args.choice.now) c.args.bytes.now (λ i. omega (arith, c.type_inv.bytes i)) (rw c.in-None.is at c.in_ok-kind.ensures)

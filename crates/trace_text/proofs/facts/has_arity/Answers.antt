@@ -14,5 +14,5 @@ returns-in-Counted c = λ t is.
 pub returns-in-Told : goal.returns-in-Told
 returns-in-Told c = λ t is.
     let n = rw c.in-Told.is at is in
-    c.is_number.ensures ∙ ap (λ l. bytes_eq l (decimal c.in-Some.asked)) (c.part.ensures _ n.2) ∙ integer_asked n.0 c.in-Some.asked (omega arith) ∙ sym (ap (λ t. is_count c.in-Some.asked (arity_told t)) n.1)
+    c.is_number.ensures ∙ ap (λ l. bytes_eq l (decimal c.in-Some.asked)) n.2 ∙ integer_asked n.0 c.in-Some.asked (omega arith) ∙ sym (ap (λ t. is_count c.in-Some.asked (arity_told t)) n.1)
     ∙ sym (ap (λ o. is_of_arity o t) c.in-Some.is)

@@ -9,5 +9,5 @@ use Rattle.trace_text.proofs.facts.put_arity.Goals as goal
 pub returns-in-Told : goal.returns-in-Told
 returns-in-Told c = λ t is.
     let n = rw c.in-Told.is at is in
-    let same = ap unsigned_told (c.part.ensures _ n.2) ∙ integer_told n.0 ∙ sym (ap arity_told n.1) in
+    let same = ap unsigned_told n.2 ∙ integer_told n.0 ∙ sym (ap arity_told n.1) in
     subst (λ (o : Option (List ℕ)). OnOk c.put_told.result (c.put_told.new.out.items ≡ c.args.out.now.items ++ escape (arity_text o))) same c.put_told.ensures
