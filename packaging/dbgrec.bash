@@ -23,7 +23,7 @@ _dbgrec() {
         [[ $word == *,* ]] && told=${word%,*},
         for kind in $kinds; do offered+="$told$kind "; done
         ;;
-    --suffix | --count | --size | --time | --skip | --from | --to | --pid | --mfa) return ;;
+    --suffix | --count | --size | --time | --skip | --from | --to | --pid | --mfa | --longest) return ;;
     *)
         if ((COMP_CWORD == 1)); then
             offered="$commands --help --version"
@@ -35,7 +35,7 @@ _dbgrec() {
             export) offered="$readers --salvage --help" ;;
             info) offered="$readers --json --help" ;;
             wipe) offered="$readers --force --help" ;;
-            stream) offered="$chosen --help" ;;
+            stream) offered="$chosen --longest --help" ;;
             *) offered="--help" ;;
             esac
         fi

@@ -34,6 +34,7 @@ import libraries
 import listing
 import live
 import locking
+import long_messages
 import machine
 import memory
 import pretty
@@ -50,7 +51,7 @@ import wording
 from cases import Skipped
 from program import Program
 
-GROUPS = (rows, scripts, emitting, readings, listing, pretty, forms, choosing, json_listing, recording, importing, info, foreign, absent, keeping, telling, crashes, images, machine, faults, locking, replacing, live, following, windows, salvage, large, wording, installing, memory, libraries, reaching)
+GROUPS = (rows, scripts, emitting, readings, listing, pretty, long_messages, forms, choosing, json_listing, recording, importing, info, foreign, absent, keeping, telling, crashes, images, machine, faults, locking, replacing, live, following, windows, salvage, large, wording, installing, memory, libraries, reaching)
 
 
 def words():

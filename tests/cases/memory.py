@@ -106,6 +106,9 @@ KINDS = (("--kind", "file"), WRAP, TIMED)
 # a message that lies in several pieces of what is read
 LONG = b"\x83m" + (65_000).to_bytes(4, "big") + bytes(65_000)
 
+# one that no entry holds
+LONGER = b"\x83m" + (90_000).to_bytes(4, "big") + bytes(90_000)
+
 
 def cleared(files, marked=True):
     """The files of a trace that is cleared, and its mark where that isn't removed."""
@@ -149,6 +152,7 @@ def a_stream_that_is_refused_memory_is_listed_to_there(program):
     kept.reads("stream", stdin=b"".join(ENTRIES[:4]) + message(LONG)[:-1])
     kept.reads("stream", "--mfa", "lists:seq/2", "--to", "9", stdin=b"".join([*ENTRIES[:6], message(LONG)]))
     kept.reads("stream", "-p", "--json", stdin=b"".join([*ENTRIES[:6], message(LONG)]))
+    kept.reads("stream", "-p", stdin=message(LONGER) + drop(1))
 
 
 @case

@@ -25,12 +25,12 @@ COMMANDS = {
     "export": OF_FILES | {"--salvage"},
     "info": OF_FILES | {"--json"},
     "wipe": OF_FILES | {"--force"},
-    "stream": OF_LISTINGS,
+    "stream": OF_LISTINGS | {"--longest"},
     "sim": set(),
 }
 
 # of each option, its default for a new trace, as surely as it has one
-DEFAULTS = {"--kind": "file", "--suffix": "", "--count": "8", "--size": "131072", "--flush": "paused"}
+DEFAULTS = {"--kind": "file", "--suffix": "", "--count": "8", "--size": "131072", "--flush": "paused", "--longest": "16M"}
 
 
 def options_in(help_text):
@@ -70,7 +70,7 @@ def the_help_of_each_command_names_its_options_and_has_an_example(program):
         same((command, options_in(said)), (command, options))
         assert re.search(rf"^Example: .*dbgrec {command}", said, re.MULTILINE), said
         for option in options & set(DEFAULTS):
-            if DEFAULTS[option] and command in ("import", "record"):
+            if DEFAULTS[option] and command in ("import", "record", "stream"):
                 assert re.search(rf"{option} <.*\n?.*\[default: {DEFAULTS[option]}\]", said), f"{option} of {command}: {said}"
 
 

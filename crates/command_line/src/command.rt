@@ -13,6 +13,12 @@ use std::alloc::{AllocError, Global};
 use std::convert::AsStr;
 use trace_text::{Choice, is_kind};
 
+/// The most bytes of a message that a listing of a stream shows in full, unless the command line says so.
+const DEFAULT_LONGEST: u32 = 16 << 20;
+
+/// The most that the command line may say.
+const GREATEST_LONGEST: u32 = 256 << 20;
+
 /// An option with a value.
 fn option<'a>(alloc: Global, name: &'a str, value: &'a str, about: &'a str) -> Arg<'a> {
     Arg::new(alloc, name)
@@ -279,8 +285,19 @@ fn wipe<'a>(alloc: Global, command: Command<'a>) -> Result<Command<'a>, AllocErr
     ))
 }
 
+fn longest<'a>(alloc: Global) -> Arg<'a> {
+    option(
+        alloc,
+        "longest",
+        "SIZE",
+        "Shows messages of up to so many bytes in full, up to 256M, as --pretty does [default: 16M]",
+    )
+}
+
 fn stream<'a>(alloc: Global, command: Command<'a>) -> Result<Command<'a>, AllocError> {
-    let command = command.after_help("Example: nc HOST 4711 | dbgrec stream -p");
+    let command = command
+        .after_help("Example: nc HOST 4711 | dbgrec stream -p")
+        .arg(longest(alloc))?;
     with_choice(alloc, command)
 }
 
@@ -485,11 +502,22 @@ fn choice_in<'a>(alloc: Global, matches: &ArgMatches<'a>) -> Result<Option<Choic
     Ok(if choice.is_all() { None } else { Some(choice) })
 }
 
+/// How many bytes the longest message has that a listing of a stream shows in full.
+fn longest_in<'a>(matches: &ArgMatches<'a>) -> Result<u32, Misuse<'a>> {
+    match matches.get_str("longest") {
+        None => Ok(DEFAULT_LONGEST),
+        Some(text) => match bytes_in(text) {
+            Some(size) if size <= GREATEST_LONGEST => Ok(size),
+            _ => Err(Misuse::Longest(text)),
+        },
+    }
+}
+
 /// Whether any term is shown. What tells of kinds, processes or functions tells of those of such a listing.
 fn is_pretty(matches: &ArgMatches<'_>) -> bool {
     matches.get_flag("pretty")
         || matches.get_flag("json")
-        || ["only", "pid", "mfa"]
+        || ["longest", "only", "pid", "mfa"]
             .iter()
             .any(|name| matches.get_str(name).is_some())
 }
@@ -570,6 +598,7 @@ fn request_in<'a>(alloc: Global, matches: &ArgMatches<'a>) -> Result<Request<'a>
         Some(request) => Request::OfTrace(request),
         None if name == "stream" => Request::Stream {
             is_pretty: is_pretty(matches),
+            longest: longest_in(matches)?,
             shown: shown_in(alloc, matches)?,
         },
         None => Request::Sim,

@@ -97,6 +97,8 @@ pub enum Request<'a> {
     Stream {
         /// Every term as a person at a node's shell would see it.
         is_pretty: bool,
+        /// The most bytes of a message that is then read.
+        longest: u32,
         shown: Shown,
     },
     /// List a trace, and go on with what is added to it.
@@ -173,6 +175,8 @@ pub enum Misuse<'a> {
     Form(Error),
     /// The value of `--size`.
     Size(&'a str),
+    /// The value of `--longest`.
+    Longest(&'a str),
     /// A word of `--only` that is no kind.
     Kind(&'a str),
     /// The value of `--pid`.

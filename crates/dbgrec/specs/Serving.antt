@@ -14,7 +14,7 @@ use Rattle.recorder.specs.declared.files.Files.{Files}
 -- what is asked was done, by the bytes that the input had; the files are let go of after that
 abbrev pub IsServed : World → Request → Option (List ℕ) → Option (List ℕ) → Option (List ℕ) → Result Unit Complaint → Type 0
 IsServed world requests.Sim had was now result = (done : Result Unit SimFault) × (has : Option (List ℕ)) × IsRun had has was now done × IsToldAs done result
-IsServed world (requests.Stream is_pretty shown) had was now result = Shows shown (ListsStream is_pretty shown had) result was now
+IsServed world (requests.Stream is_pretty longest shown) had was now result = Shows shown (ListsStream is_pretty longest shown had) result was now
 IsServed world (requests.OfTrace request) had was now result = (left : Option Files) × ServesFiles world request had was now result left
 IsServed world (requests.Listing request shown) had was now result = (left : Option Files) × ListsFiles world request shown had was now result left
 IsServed world (requests.Follow asked is_pretty shown) had was now result = (left : Option Files) × FollowsFiles world asked is_pretty shown was now result left

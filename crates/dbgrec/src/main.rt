@@ -36,9 +36,16 @@ fn serve<R: Wait, I: Read + Drop, W: Output>(
             shown,
         } => follow_files(rt, waiter, asked, is_pretty, shown, input, output).0,
         Request::Sim => serve_sim(rt.alloc(), input, output),
-        Request::Stream { is_pretty, shown } => {
-            let alloc = rt.alloc();
-            let listing = StreamListing { alloc, is_pretty };
+        Request::Stream {
+            is_pretty,
+            longest,
+            shown,
+        } => {
+            let listing = StreamListing {
+                alloc: rt.alloc(),
+                is_pretty,
+                longest,
+            };
             show(rt, waiter, listing, shown, input, output).0
         }
         Request::OfTrace(request) => serve_files(rt, waiter, request, input, output).0,

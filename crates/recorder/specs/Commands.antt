@@ -30,6 +30,7 @@ use Rattle.trace_reader.specs.Observing.{Observations}
 use Rattle.trace_reader.specs.Reading.{IsWhyNotRead}
 use Rattle.trace_reader.specs.Windows.{IsWrittenInTurn}
 use Rattle.trace_reader.specs.Streamed.{StopsBy}
+use Rattle.trace_client.specs.declared.stream.StreamStyle.{StreamStyle}
 use Rattle.trace_reader.specs.Wiping.{HasForeign, IsWhyNotWiped, IsNotToWipe}
 use Rattle.trace_reader.specs.declared.fault.ReadFault.{ReadFault}
 use Rattle.trace_reader.specs.declared.fault.WipeFault.{WipeFault}
@@ -177,7 +178,7 @@ IsWrittenAs (written.Lines is_pretty) shown form = (style : Style) × IsStyleOf 
 IsWrittenAs written.Stream shown form = form ≡ as_bytes
 
 -- why the listing of a stream came to no end, and what is written then: by a fault, which is told, and the lines before it; or there was no room to read it, and nothing is written
-pub data EndsStream (style : Style) (had old new : Option (List ℕ)) (complaint : Complaint) : Type 0 where
+pub data EndsStream (style : StreamStyle) (had old new : Option (List ℕ)) (complaint : Complaint) : Type 0 where
   stopped : (fault : StreamFault) (left : Option (List ℕ)) → StopsBy style had left old new fault → complaint ≡ complaints.Fault (run_fault fault) None → EndsStream style had old new complaint
   no_room : Keeps old new → complaint ≡ complaints.Fault faults.NoMemory None → EndsStream style had old new complaint
 

@@ -7,7 +7,7 @@ use Rattle.command_line.specs.declared.request.Shown.{Shown}
 use Rattle.command_line.specs.declared.request.TraceRequest.{TraceRequest}
 use Rattle.command_line.specs.declared.request.TraceRequest.TheVariants as asks
 use Rattle.trace_reader.specs.Observing.{Observations}
-use Rattle.trace_text.specs.declared.style.Style.{Style}
+use Rattle.trace_client.specs.declared.stream.StreamStyle.{StreamStyle}
 use Rattle.recorder.specs.Commands.{Serves, Changes, IsUntouched, IsStyleOf, EndsStream}
 use Rattle.trace_advice.specs.Complaints.{status_told}
 use Rattle.recorder.specs.Following.{Follows}
@@ -65,10 +65,11 @@ pub data FollowsFiles (world : World) (asked : Asked) (is_pretty : Bool) (shown 
   not_followed : (complaint : Complaint) → status_told complaint ≡ 1 → Keeps was now → FollowsFiles world asked is_pretty shown was now (Err complaint) None
 
 -- a stream that had these bytes is listed in a style, to its end or until a fault
-abbrev pub ListsIn : Style → Option (List ℕ) → Listing
+abbrev pub ListsIn : StreamStyle → Option (List ℕ) → Listing
 ListsIn style had (Ok done) was now = IfSome had (λ bytes. (text : List ℕ) × IsListed style bytes (Ok tt) text × Appends was now text)
 ListsIn style had (Err complaint) was now = EndsStream style had was now complaint
 
--- in the style that is asked for
-abbrev pub ListsStream : Bool → Shown → Option (List ℕ) → Listing
-ListsStream is_pretty shown had result was now = (style : Style) × IsStyleOf is_pretty shown style × ListsIn style had result was now
+-- in the style that is asked for, with messages of up to so many bytes
+abbrev pub ListsStream : Bool → ℕ → Shown → Option (List ℕ) → Listing
+ListsStream is_pretty longest shown had result was now =
+    (style : StreamStyle) × IsStyleOf is_pretty shown style.lines × (style.longest ≡ longest) × ListsIn style had result was now

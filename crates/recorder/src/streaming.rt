@@ -9,18 +9,21 @@ use std::alloc::Global;
 use std::io::{Read, Write};
 use std::sync::Wait;
 use trace_advice::Complaint;
+use trace_client::StreamStyle;
 
 /// An entry stream, which is to be listed.
 #[derive(Drop)]
 pub struct StreamListing {
     pub alloc: Global,
     pub is_pretty: bool,
+    /// The most bytes of a message that is read.
+    pub longest: u32,
 }
 
 impl Listable for StreamListing {
     type Left = ();
 
-    ghost lists = { λ stream shown had left. ListsStream stream.is_pretty shown had };
+    ghost lists = { λ stream shown had left. ListsStream stream.is_pretty stream.longest shown had };
 
     fn list<R: Wait, I: Read + Drop, W: Output>(
         self,
@@ -29,7 +32,11 @@ impl Listable for StreamListing {
         input: I,
         output: &mut W,
     ) -> (Result<(), Complaint>, ()) {
-        let style = style(self.is_pretty, shown);
+        let lines = style(self.is_pretty, shown);
+        let style = StreamStyle {
+            lines,
+            longest: self.longest,
+        };
         (serve_stream(self.alloc, style, input, output), ())
     }
 }

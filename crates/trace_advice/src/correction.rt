@@ -14,6 +14,10 @@ use std::process::ExitCode;
 const A_SIZE: &str =
     "a number of bytes, at most 4294967295; k, M and G after it stand for powers of 1,024, as in 64k, and 4G for the most";
 
+/// What may stand for the number of `--longest`.
+const A_LONGEST: &str =
+    "a number of bytes, at most 268435456; k, M and G after it stand for powers of 1,024, as in 64M";
+
 /// What may stand for the kinds of `--only`.
 const KINDS: &str =
     "call, return, exception, send, send_lost, receive, other, opaque, drop or one of OTP's other words, as spawn, exit and seq_trace; several with commas between them";
@@ -95,6 +99,7 @@ pub fn correct(rt: &HostRuntime, misuse: Misuse<'_>) -> ExitCode
         Misuse::NotText => refuse_bytes(rt),
         Misuse::Form(error) => correct_form(rt, &error),
         Misuse::Size(text) => refuse(rt, text, "--size <BYTES>", A_SIZE),
+        Misuse::Longest(text) => refuse(rt, text, "--longest <SIZE>", A_LONGEST),
         Misuse::Kind(word) => refuse(rt, word, "--only <KIND[,KIND..]>", KINDS),
         Misuse::Process(text) => refuse(rt, text, "--pid <PID>", A_PROCESS),
         Misuse::Function(text) => refuse(rt, text, "--mfa <M[:F[/A]]>", A_FUNCTION),
