@@ -14,6 +14,7 @@ use Rattle.script_port.specs.declared.fault.SimFault.{SimFault}
 use Rattle.script_port.specs.declared.fault.SimFault.TheVariants as faults
 use Rattle.script_port.specs.declared.refusal.Refusal.{Refusal}
 use Rattle.trace_places.specs.Places.{name_of}
+use Rattle.trace_places.specs.Room.{IsTooMany}
 use Rattle.trace_places.specs.declared.place.Place.{Place}
 use Rattle.trace_advice.specs.declared.complaint.Advice.{Advice}
 use Rattle.trace_advice.specs.declared.complaint.Complaint.{Complaint}
@@ -41,12 +42,13 @@ abbrev pub NamesCall : Place → Option FileFault → Refusal → SimFault → T
 NamesCall place None refusal told = told ≡ faults.Refused refusal
 NamesCall place (Some call) refusal told = (IsOfDevice refusal → TellsCall place refusal call told) × ((IsOfDevice refusal → ⊥) → told ≡ faults.Refused refusal)
 
--- the file that is one too many is named, and why it can't be opened: by the call that the system refused
+-- the file that is one too many is named, and why it can't be opened: the call that the system refused, since too many are open
 pub record NamesCrowded (place : Place) (newest : Option FileFault) (name : List ℕ) (reason : Error) : Type 0 where
   pub call : FileFault
   pub is : newest ≡ Some call
   pub named : name ≡ name_at place call.file
   pub why : reason ≡ call.reason
+  pub too_many : IsTooMany reason
 
 -- a refusal names that call; a file that isn't a trace's is named, and a trace that isn't there
 abbrev pub Names : Place → Option FileFault → SimFault → Complaint → Type 0

@@ -1,6 +1,6 @@
 //! The files of the trace that a command line asks for.
 ghost use Rattle.std.specs.Prelude.{◌≡◌, true, false, IfOk, OnOk, IfErr};
-ghost use Rattle.stores.specs.Events.{World};
+ghost use Rattle.stores.specs.{Events.World, FolderStore.locked_of};
 ghost use Rattle.trace_places.specs.Finding.{IsFound};
 ghost use Rattle.trace_advice.specs.Complaints.{status_told};
 ghost use Rattle.recorder.specs.{Commands.Changes, Commands.IsUntouched, Commands.IsFree, Commands.IsLocked, Sites.asked_in, Sites.IsAtPlace, Sites.AgreesOn, Sites.IsOfCounts, Sites.IsWhyNotFound, Sites.NamesTrace, Sites.HasFiles};
@@ -8,6 +8,7 @@ ghost use Rattle.recorder.specs.{Commands.Changes, Commands.IsUntouched, Command
 use crate::crowded::check_room;
 use crate::files::Files;
 use command_line::{Asked, TraceRequest, Wanted};
+use std::alloc::Global;
 use trace_advice::{Complaint, FAILED_DISK, tell_idle, tell_idle_on_file};
 use trace_places::{Found, Place, find};
 
@@ -16,8 +17,8 @@ use trace_places::{Found, Place, find};
 pub fn files_for<'a>(rt: &HostRuntime, request: &TraceRequest<'a>) -> Result<Files<'a>, Complaint>
     ghost world: { World }
     ensures past { IfOk result (IsUntouched world) }
-    ensures locked { Changes request.now → IfOk result (λ files. files.store.is_locked ≡ true) }
-    ensures free { (Changes request.now → ⊥) → IfOk result (λ files. files.store.is_locked ≡ false) }
+    ensures locked { Changes request.now → IfOk result (λ files. locked_of files.store ≡ true) }
+    ensures free { (Changes request.now → ⊥) → IfOk result (λ files. locked_of files.store ≡ false) }
     ensures place { IfOk result (IsAtPlace (asked_in request.now)) }
     ensures agrees { NamesTrace request.now
         → IfOk result (λ files. AgreesOn (asked_in request.now) files.found) }
@@ -42,13 +43,13 @@ pub fn files_for<'a>(rt: &HostRuntime, request: &TraceRequest<'a>) -> Result<Fil
 }
 
 /// Refuses a count of the command line that isn't what the files say.
-fn check_count(rt: &HostRuntime, asked: &Asked<'_>, found: &Found) -> Result<(), Complaint>
+fn check_count(alloc: Global, asked: &Asked<'_>, found: &Found) -> Result<(), Complaint>
     ensures agrees { OnOk result (AgreesOn asked.now found.now) }
     ensures differs { IfErr result (IsOfCounts asked.now found.now) }
 {
     match (found.count(), asked.count) {
         (Some(own), Some(given)) if own != given => Err(Complaint::Differs {
-            name: String::from_str(rt.alloc(), asked.base)?,
+            name: String::from_str(alloc, asked.base)?,
             given,
             own,
         }),
@@ -65,7 +66,7 @@ fn found_to_read(rt: &HostRuntime, asked: Asked<'_>) -> Result<Found, Complaint>
     ensures refused { IfErr result (λ complaint. status_told complaint ≡ 1) }
 {
     let found = find(*rt, asked)?;
-    check_count(rt, &asked, &found)?;
+    check_count(rt.alloc(), &asked, &found)?;
     if matches!(found, Found::File) {
         tell_idle_on_file(rt, &asked);
     }
