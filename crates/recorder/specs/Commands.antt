@@ -25,7 +25,7 @@ use Rattle.trace_text.specs.Lines.{asks_in}
 use Rattle.trace_files.specs.Clearing.{AreCleared, IsClearing, HasNoForeign}
 use Rattle.trace_files.specs.Standing.{IsStanding}
 use Rattle.trace_files.specs.declared.standing.Standing.TheVariants as standings
-use Rattle.trace_reader.specs.Listings.{ListsStore, ExportsStore}
+use Rattle.trace_reader.specs.Listings.{WritesStore}
 use Rattle.trace_reader.specs.Observing.{Observations}
 use Rattle.trace_reader.specs.Reading.{IsWhyNotRead}
 use Rattle.trace_reader.specs.Windows.{IsWrittenInTurn}
@@ -82,10 +82,10 @@ IsExplained Told skip (Err fault) (Ok done) = ⊥
 IsExplained Told skip (Err fault) (Err complaint) = Told (fault_past skip fault) complaint
 
 -- how a reading of a trace ended, and what was written is written out: it was written whole; or so much of it as stands before a fault, or as could be written out
-pub data IsRead (Tells : Image → List ℕ → Type 0) (form : Form) (Told : SimFault → Complaint → Type 0) (image : Image) (was now : Option (List ℕ)) : Result Unit Complaint → Type 0 where
-  whole : (text : List ℕ) (mid : Option (List ℕ)) → IsStanding standings.Ours image → Tells image text → Appends was mid text → Keeps mid now → IsRead Tells form Told image was now (Ok tt)
-  not_written_out : (text : List ℕ) (mid : Option (List ℕ)) (complaint : Complaint) → IsStanding standings.Ours image → Tells image text → Appends was mid text → Keeps mid now → IsOfWriter complaint → IsRead Tells form Told image was now (Err complaint)
-  refused : (fault : ReadFault) (entries : ℕ) (mid : Option (List ℕ)) (complaint : Complaint) → IsWhyNotRead fault image → IsWrittenInTurn form fault image was mid entries → Keeps mid now → Told (read_fault fault) complaint → IsRead Tells form Told image was now (Err complaint)
+pub data IsRead (form : Form) (Told : SimFault → Complaint → Type 0) (image : Image) (was now : Option (List ℕ)) : Result Unit Complaint → Type 0 where
+  whole : (text : List ℕ) (mid : Option (List ℕ)) → IsStanding standings.Ours image → WritesStore form image text → Appends was mid text → Keeps mid now → IsRead form Told image was now (Ok tt)
+  not_written_out : (text : List ℕ) (mid : Option (List ℕ)) (complaint : Complaint) → IsStanding standings.Ours image → WritesStore form image text → Appends was mid text → Keeps mid now → IsOfWriter complaint → IsRead form Told image was now (Err complaint)
+  refused : (fault : ReadFault) (entries : ℕ) (mid : Option (List ℕ)) (complaint : Complaint) → IsWhyNotRead fault image → IsWrittenInTurn form fault image was mid entries → Keeps mid now → Told (read_fault fault) complaint → IsRead form Told image was now (Err complaint)
 
 -- a trace was cleared for good: whatever a crash leaves of it is blank
 pub record IsCleared (clearing : Clearing) (old new : FolderStore) : Type 0 where
@@ -194,8 +194,8 @@ Changes _ = Unit {0}
 -- what is done with a trace for what the command line asks and how it is to be shown, by what is seen of the stream that comes in, what is observed until the end, and the bytes that are written
 abbrev pub Serves : TraceRequest → Shown → Files → Files → Outside → Observations → Option (List ℕ) → Option (List ℕ) → Result Unit Complaint → Type 0
 Serves (requests.List asked is_pretty) shown old new saw observed was now result = (style : Style) × IsStyleOf is_pretty shown style
-    × LooksOver old.store new.store (most_with result (most_to_read (reads_of old.store)) (reads_of old.store)) (IsRead (ListsStore style) (as_lines style) (IsToldAt old.place new.store) (reads_of old.store) was now result)
-Serves (requests.Export asked) shown old new saw observed was now result = LooksOver old.store new.store (most_with result (most_to_read (reads_of old.store)) (reads_of old.store)) (IsRead ExportsStore as_bytes (IsToldAt old.place new.store) (reads_of old.store) was now result)
+    × LooksOver old.store new.store (most_with result (most_to_read (reads_of old.store)) (reads_of old.store)) (IsRead (as_lines style) (IsToldAt old.place new.store) (reads_of old.store) was now result)
+Serves (requests.Export asked) shown old new saw observed was now result = LooksOver old.store new.store (most_with result (most_to_read (reads_of old.store)) (reads_of old.store)) (IsRead as_bytes (IsToldAt old.place new.store) (reads_of old.store) was now result)
 Serves (requests.Salvage asked form) shown old new saw observed was now result = (out : Form) × IsWrittenAs form shown out
     × LooksOver old.store new.store (most_to_salvage (reads_of old.store)) (IfErr result (IsSalvage out (IsToldAt old.place new.store) (Rose (failures_of old.store) (failures_of new.store)) (reads_of old.store) was now)) × IsErr result × IfErr result (λ complaint. status_told complaint ≡ 1)
 Serves (requests.Info asked is_json) shown old new saw observed was now result = LooksOver old.store new.store (most_to_inform result (reads_of old.store)) (IsInfo (IsToldAt old.place new.store) (reads_of old.store) result) × IfErr result (λ complaint. status_told complaint ≡ 1)

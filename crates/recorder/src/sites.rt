@@ -1,9 +1,9 @@
 //! The files of the trace that a command line asks for.
-ghost use Rattle.std.specs.Prelude.{◌≡◌, true, false, IfOk, OnOk, IfErr};
-ghost use Rattle.stores.specs.{Events.World, FolderStore.locked_of};
+ghost use Rattle.std.specs.Prelude.{◌≡◌, IfOk, OnOk, IfErr};
+ghost use Rattle.stores.specs.Events.{World};
 ghost use Rattle.trace_places.specs.Finding.{IsFound};
 ghost use Rattle.trace_advice.specs.Complaints.{status_told};
-ghost use Rattle.recorder.specs.{Commands.Changes, Commands.IsUntouched, Commands.IsFree, Commands.IsLocked, Sites.asked_in, Sites.IsAtPlace, Sites.AgreesOn, Sites.IsOfCounts, Sites.IsWhyNotFound, Sites.NamesTrace, Sites.HasFiles};
+ghost use Rattle.recorder.specs.{Commands.IsFree, Commands.IsLocked, Serving.AreMade, Sites.AgreesOn, Sites.IsOfCounts, Sites.IsWhyNotFound, Sites.HasFiles};
 
 use crate::crowded::check_room;
 use crate::files::Files;
@@ -16,12 +16,7 @@ use trace_places::{Found, Place, find};
 /// knowing of it.
 pub fn files_for<'a>(rt: &HostRuntime, request: &TraceRequest<'a>) -> Result<Files<'a>, Complaint>
     ghost world: { World }
-    ensures past { IfOk result (IsUntouched world) }
-    ensures locked { Changes request.now → IfOk result (λ files. locked_of files.store ≡ true) }
-    ensures free { (Changes request.now → ⊥) → IfOk result (λ files. locked_of files.store ≡ false) }
-    ensures place { IfOk result (IsAtPlace (asked_in request.now)) }
-    ensures agrees { NamesTrace request.now
-        → IfOk result (λ files. AgreesOn (asked_in request.now) files.found) }
+    ensures made { IfOk result (AreMade world request.now) }
     ensures refused { IfErr result (λ complaint. status_told complaint ≡ 1) }
 {
     match request {
