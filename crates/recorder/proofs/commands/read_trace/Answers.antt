@@ -1,5 +1,5 @@
-use Rattle.std.proofs.Common.{rules}
-use Rattle.stores.specs.FolderStore.{reads_of, clock_of}
+use Rattle.segment.proofs.Taking.{reads_both}
+use Rattle.stores.specs.FolderStore.{honest_of, reads_of, images_of, moments_of, clock_of}
 use Rattle.recorder.specs.Live.{most_to_read}
 use Rattle.recorder.proofs.Bounds.{most_read, most_so, tell_after}
 use Rattle.recorder.specs.Commands.{refused}
@@ -12,7 +12,7 @@ pub returns-in-Ok : goal.returns-in-Ok
 returns-in-Ok g c =
     let e = c.in-Ok.ensures in
     record {
-      only_reads = search rules;
+      only_reads = c.read_live-done.ensures.only_reads;
       at_most = λ h. most_so c.written_out.result (reads_of c.args.files.now.store) (clock_of c.args.files.now.store) (clock_of c.read_live-done.new.files.store) (most_to_read (reads_of c.args.files.now.store)) (most_read (reads_of c.args.files.now.store) (clock_of c.args.files.now.store) (clock_of c.read_live-done.new.files.store) (c.read_live-done.ensures.at_most h) (c.read_live-done.ensures.once h));
       told = λ h. is_read _ _ _ _ _ c.written_out.result _ (e.tells h) (e.there h) c.flush-flushed.ensures.bytes c.written_out.ensures.err;
     }
@@ -20,7 +20,7 @@ returns-in-Ok g c =
 pub returns-in-Err : goal.returns-in-Err
 returns-in-Err g c =
     record {
-      only_reads = search rules;
+      only_reads = reads_both honest_of clock_of reads_of images_of moments_of c.args.files.now.store c.read_live-done.new.files.store c.explained.new.self.store c.read_live-done.ensures.only_reads c.explained.ensures.only_reads;
       at_most = λ h.
           let before = c.explained.ensures.only_reads.was_honest h in
           let old = c.args.files.now.store in
