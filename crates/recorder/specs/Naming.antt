@@ -50,9 +50,14 @@ pub record NamesCrowded (place : Place) (newest : Option FileFault) (name : List
   pub why : reason ≡ call.reason
   pub too_many : IsTooMany reason
 
+-- the newest call that the system refused isn't that one
+abbrev pub NotCrowded : Option FileFault → Refusal → Type 0
+NotCrowded None refusal = Unit {0}
+NotCrowded (Some call) refusal = IsOfDevice refusal → IsTooMany call.reason → ⊥
+
 -- a refusal names that call; a file that isn't a trace's is named, and a trace that isn't there
 abbrev pub Names : Place → Option FileFault → SimFault → Complaint → Type 0
-Names place newest (faults.Refused refusal) (complaints.Fault told advice) = NamesCall place newest refusal told
+Names place newest (faults.Refused refusal) (complaints.Fault told advice) = NamesCall place newest refusal told × NotCrowded newest refusal
 Names place newest (faults.Refused refusal) (complaints.TooManyOpen name files reason) = IsOfDevice refusal × NamesCrowded place newest (string_bytes name) reason
 Names place newest (faults.Foreign file is_stream) (complaints.Foreign name looks_so) = string_bytes name ≡ name_at place file
 Names place newest faults.Absent (complaints.Absent name advice) = string_bytes name ≡ place.base.now
