@@ -1,5 +1,6 @@
-"""A case of what reaches the system's files: no clause says what a function does with them beside the store that it is lent,
-so each function that opens, reads, changes or removes one, or makes a store over some, is listed here with its reason."""
+"""Cases of what reaches the system's files: no clause says what a function does with them beside the store that it is lent,
+so each function that opens, reads, changes or removes one, or makes a store over some, is listed here with its reason; and
+each module that names the runtime, without which no function reaches a file."""
 
 import pathlib
 import re
@@ -12,7 +13,9 @@ CASES, case = group()
 CRATES = pathlib.Path(__file__).parents[2] / "crates"
 
 # what reaches a file by its name
-REACH = re.compile(r"\b(?:fs::[a-z_]+(?=\()|File::[a-z_]+|OpenOptions::new|FolderStore::over|FailureMark::new|fchown(?=\())")
+REACH = re.compile(
+    r"\b(?:fs::[a-z_]+(?=\()|File::[a-z_]+|OpenOptions::new|FolderStore::over|FailureMark::new|fchown(?=\()|Files::(?:locked_)?at|(?<!fn )files_for(?=\())"
+)
 
 FUNCTION = re.compile(r"^ *(?:pub )?fn ([a-z_0-9]+)")
 
@@ -34,6 +37,13 @@ STORES = {
     ("recorder/src/files.rt", "at"): ["FolderStore::over"],
     ("recorder/src/files.rt", "has_failed"): ["FailureMark::new"],
     ("recorder/src/files.rt", "remove_mark"): ["FailureMark::new"],
+    ("recorder/src/files.rt", "locked_at"): ["Files::at"],
+    ("recorder/src/serving.rt", "files_to_follow"): ["files_for"],
+    ("recorder/src/serving.rt", "list_files"): ["files_for"],
+    ("recorder/src/serving.rt", "serve_files"): ["files_for"],
+    ("recorder/src/sites.rt", "files_to_read"): ["Files::at"],
+    ("recorder/src/sites.rt", "files_to_wipe"): ["Files::locked_at"],
+    ("recorder/src/sites.rt", "files_to_write"): ["Files::locked_at"],
     ("stores/src/named_files.rt", "marks_failures_at"): ["FailureMark::new"],
     ("trace_places/src/lookup.rt", "header_in"): ["FolderStore::over"],
 }
@@ -53,15 +63,27 @@ LOOKS = {
     ("trace_places/src/spot.rt", "target_of"): ["fs::read_link"],
 }
 
+# the modules whose functions may be handed the runtime: none of those that read or change a trace
+RUNTIME = {
+    "dbgrec": ["main"],
+    "recorder": ["awaiting", "crowded", "files", "serving", "sites", "state"],
+    "shown_listings": ["console", "counted", "inlet", "listing", "outlet"],
+    "stores": ["failure_mark", "folder", "folder_store", "named_file", "named_files"],
+    "trace_advice": ["absence"],
+    "trace_places": ["lookup", "room", "spot"],
+}
+
+
+def sources():
+    """The sources of the crates of the program."""
+    return [path for path in sorted(CRATES.glob("*/src/**/*.rt")) if not path.relative_to(CRATES).parts[0].startswith("tests_")]
+
 
 def reached():
     """What each function of the crates of the program reaches."""
     found = {}
-    for path in sorted(CRATES.glob("*/src/**/*.rt")):
-        name = str(path.relative_to(CRATES))
-        if name.startswith("tests_"):
-            continue
-        function = ""
+    for path in sources():
+        name, function = str(path.relative_to(CRATES)), ""
         for line in path.read_text(encoding="utf-8").splitlines():
             if begins := FUNCTION.match(line):
                 function = begins[1]
@@ -75,3 +97,12 @@ def reached():
 def files_are_reached_by_these_functions_alone(_program):
     listed = {**CHANGES, **STORES, **LOOKS}
     same({place: sorted(what) for place, what in reached().items()}, {place: sorted(what) for place, what in listed.items()})
+
+
+@case
+def these_modules_alone_have_the_runtime(_program):
+    found = {}
+    for path in sources():
+        if "HostRuntime" in path.read_text(encoding="utf-8"):
+            found.setdefault(path.relative_to(CRATES).parts[0], []).append(path.stem)
+    same(found, RUNTIME)

@@ -87,7 +87,7 @@ fn run<R: Wait>(rt: &HostRuntime, waiter: &R, words: &[String], output: &mut Out
 {
     match asked_for(rt.alloc(), words) {
         Ok(request) => answer(rt, waiter, request, output),
-        Err(misuse) => correct(rt, misuse),
+        Err(misuse) => correct(rt, rt.alloc(), misuse),
     }
 }
 
@@ -108,7 +108,7 @@ fn main(rt: HostRuntime) -> ExitCode {
     let words = match words(&rt) {
         Ok(words) => words,
         Err(reason) if reason.kind() == ErrorKind::OutOfMemory => return no_memory(&rt),
-        Err(_) => return correct(&rt, Misuse::NotText),
+        Err(_) => return correct(&rt, rt.alloc(), Misuse::NotText),
     };
     let code = serve_words(&rt, &rt, words.as_slice());
     drop(words);

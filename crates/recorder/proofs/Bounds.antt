@@ -7,6 +7,7 @@ use Rattle.trace_store.specs.Disk.{Image}
 use Rattle.segment.specs.Pieces.{pieces_to}
 use Rattle.stores.specs.FolderStore.{reads_of, clock_of}
 use Rattle.stores.specs.declared.folder_store.FolderStore.{FolderStore}
+use Rattle.recorder.specs.Openings.{most_to_begin}
 use Rattle.recorder.specs.Live.{most_calls, most_of_several, most_to_read}
 use Rattle.recorder.specs.Files.{OnlyLooks, most_to_tell, most_to_end, most_with}
 use Rattle.trace_advice.specs.declared.complaint.Complaint.{Complaint}
@@ -39,6 +40,12 @@ pub look_after : (old mid : FolderStore) (now most : ℕ) → OnlyLooks old mid 
 look_after old mid now most looks had seen =
     let same = subst (λ (n : ℕ). now ≤ clock_of mid + 2 * n) looks.count seen in
     omega (arith, had, same)
+
+-- to open a port, after the front of each file was looked at
+pub opens_after : (before mid now : ℕ) (image seen : Image) → seen ≡ image → mid ≤ before + 2 * length image → now ≤ mid + most_to_begin seen → now ≤ before + (2 * length image + most_to_begin image)
+opens_after before mid now image seen same had opened =
+    let begun = subst (λ (i : Image). now ≤ mid + most_to_begin i) same opened in
+    omega (arith, had, begun)
 
 -- no more than 5 readings
 pub readings_at_most : (before mid now j m : ℕ) → j ≤ 4 → mid ≤ before + j * m → now ≤ mid + m → now ≤ before + 5 * m

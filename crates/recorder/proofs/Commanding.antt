@@ -8,6 +8,7 @@ use Rattle.trace_client.specs.Forms.{Form}
 use Rattle.trace_client.specs.Output.{AppendsPrefix}
 use Rattle.trace_files.specs.Standing.{IsStanding}
 use Rattle.trace_files.specs.declared.standing.Standing.TheVariants as standings
+use Rattle.trace_reader.specs.Listings.{WritesStore}
 use Rattle.trace_reader.specs.declared.wiping.Clearing.{Clearing}
 use Rattle.recorder.specs.Commands.{IsRead, whole, not_written_out, IsCleared, IsOfMark, Clears, done, not_told}
 use Rattle.script_port.specs.declared.fault.SimFault.{SimFault}
@@ -18,10 +19,10 @@ use Rattle.script_port.specs.declared.answer.Answer.TheVariants.{Done}
 use Rattle.trace_advice.specs.declared.complaint.Complaint.{Complaint}
 
 -- a trace was written whole, and then written out or not
-pub is_read : (Tells : Image → List ℕ → Type 0) (form : Form) (Told : SimFault → Complaint → Type 0) (image : Image) (was now : Option (List ℕ)) (result : Result Unit Complaint) (mid : Option (List ℕ)) → ((text : List ℕ) × Tells image text × Appends was mid text) → IsStanding standings.Ours image → Keeps mid now
-    → IfErr result IsOfWriter → IsRead Tells form Told image was now result
-is_read Tells form Told image was now (Ok out) mid wrote there keeps unwritten = whole wrote.0 mid there wrote.1 wrote.2 keeps
-is_read Tells form Told image was now (Err complaint) mid wrote there keeps unwritten = not_written_out wrote.0 mid complaint there wrote.1 wrote.2 keeps unwritten
+pub is_read : (form : Form) (Told : SimFault → Complaint → Type 0) (image : Image) (was now : Option (List ℕ)) (result : Result Unit Complaint) (mid : Option (List ℕ)) → ((text : List ℕ) × WritesStore form image text × Appends was mid text) → IsStanding standings.Ours image → Keeps mid now
+    → IfErr result IsOfWriter → IsRead form Told image was now result
+is_read form Told image was now (Ok out) mid wrote there keeps unwritten = whole wrote.0 mid there wrote.1 wrote.2 keeps
+is_read form Told image was now (Err complaint) mid wrote there keeps unwritten = not_written_out wrote.0 mid complaint there wrote.1 wrote.2 keeps unwritten
 
 -- a trace was cleared, and that was told or not
 pub is_clear : (clearing : Clearing) (place : Place) (old new : FolderStore) (was now : Option (List ℕ)) (result : Result Unit Complaint) → IsCleared clearing old new → OnOk result (Appends was now (line_of Done)) → OnErr result (AppendsPrefix was now (line_of Done)) → IfErr result (λ complaint. IsOfWriter complaint ⊎ IsOfMark complaint)

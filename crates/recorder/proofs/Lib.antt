@@ -9,7 +9,6 @@ pub mod Followed
 pub mod Keeping
 pub mod Salvaged
 pub mod Informed
-pub mod Made
 pub mod Looking
 pub mod Starting
 pub mod Fed

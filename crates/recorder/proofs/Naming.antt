@@ -21,7 +21,7 @@ use Rattle.trace_advice.specs.declared.complaint.Complaint.{Complaint}
 use Rattle.trace_advice.specs.declared.complaint.Complaint.TheVariants as complaints
 use Rattle.recorder.specs.Telling.{IsToldOf}
 use Rattle.std.specs.String.{string_bytes}
-use Rattle.recorder.specs.Naming.{NamesCall, NamesCrowded, Names, TellsCall, IsToldAt}
+use Rattle.recorder.specs.Naming.{NamesCall, NamesCrowded, NotCrowded, Names, TellsCall, IsToldAt}
 use Rattle.recorder.proofs.Telling.{tells_kept}
 
 -- what is told at a place is told of the fault
@@ -66,10 +66,15 @@ names_none place (Some call) None refusal told none h = (λ of. absurd (none of)
 names_none place None (Some call) refusal told none h = h.1 none
 names_none place (Some before) (Some call) refusal told none h = (λ of. absurd (none of), λ other. h.1 none)
 
+-- nor is it one of too many files
+not_crowded : (newest : Option FileFault) (refusal : Refusal) → (IsOfDevice refusal → ⊥) → NotCrowded newest refusal
+not_crowded None refusal none = tt
+not_crowded (Some call) refusal none = λ of many. none of
+
 names_before : (place : Place) (was now : Option FileFault) (fault : SimFault) (complaint : Complaint) → (IsFaultOfDevice fault → now ≡ was) → Names place now fault complaint → Names place was fault complaint
 names_before place was now (faults.Refused refusal) (complaints.Fault told advice) same h = elim (of_device_or_not refusal) [
-  | inl of ↦ subst (λ (newest : Option FileFault). NamesCall place newest refusal told) (same of) h
-  | inr none ↦ names_none place was now refusal told none h
+  | inl of ↦ subst (λ (newest : Option FileFault). NamesCall place newest refusal told × NotCrowded newest refusal) (same of) h
+  | inr none ↦ (names_none place was now refusal told none h.0, not_crowded was refusal none)
 ]
 names_before place was now (faults.Refused refusal) (complaints.TooManyOpen name files reason) same h = (h.0, subst (λ (newest : Option FileFault). NamesCrowded place newest (string_bytes name) reason) (same h.0) h.1)
 names_before place was now (faults.Foreign file is_stream) (complaints.Foreign name looks_so) same h = h

@@ -1,11 +1,11 @@
 -- What a command does with the files of a trace.
-use Rattle.std.specs.Prelude.{◌≡◌, ◌≢◌, ◌⊎◌, ◌*◌, ℕ, Bool, true, false, Option, None, List, [], Result, Ok, Err, OnOk, IsErr, IfSome, IfErr}
+use Rattle.std.specs.Prelude.{◌≡◌, ◌≢◌, ◌⊎◌, ◌*◌, ℕ, length, Bool, true, false, Option, None, List, [], Result, Ok, Err, OnOk, IsErr, IfSome, IfErr}
 use Rattle.std.specs.Option.{option_map}
 use Rattle.std.specs.Io.KnownBytes.{Appends, Keeps}
 use Rattle.trace_store.specs.Disk.{Image}
 use Rattle.trace_store.specs.Moments.{Rose, LeavesOnly}
 use Rattle.stores.specs.Events.{World}
-use Rattle.stores.specs.FolderStore.{past_of, honest_of, reads_of, images_of, moments_of, clock_of, failures_of}
+use Rattle.stores.specs.FolderStore.{past_of, honest_of, reads_of, images_of, moments_of, clock_of, failures_of, locked_of}
 use Rattle.stores.specs.declared.folder_store.FolderStore.{FolderStore}
 use Rattle.stores.specs.contracts.folder_store.FolderStoreStore.TheImpl as folder
 use Rattle.segment.specs.Specification.{Spec}
@@ -25,7 +25,7 @@ use Rattle.trace_text.specs.Lines.{asks_in}
 use Rattle.trace_files.specs.Clearing.{AreCleared, IsClearing, HasNoForeign}
 use Rattle.trace_files.specs.Standing.{IsStanding}
 use Rattle.trace_files.specs.declared.standing.Standing.TheVariants as standings
-use Rattle.trace_reader.specs.Listings.{ListsStore, ExportsStore}
+use Rattle.trace_reader.specs.Listings.{WritesStore}
 use Rattle.trace_reader.specs.Observing.{Observations}
 use Rattle.trace_reader.specs.Reading.{IsWhyNotRead}
 use Rattle.trace_reader.specs.Windows.{IsWrittenInTurn}
@@ -48,10 +48,10 @@ use Rattle.script_port.specs.Faults.{run_fault, IsFaultOfDevice}
 use Rattle.trace_advice.specs.Faults.{read_fault, wipe_fault}
 use Rattle.recorder.specs.Telling.{IsOfMemory, IsOfWriter}
 use Rattle.recorder.specs.Naming.{IsToldAt}
-use Rattle.recorder.specs.Informing.{most_to_sum, IsInfo}
+use Rattle.recorder.specs.Informing.{most_to_inform, IsInfo}
 use Rattle.recorder.specs.Salvaging.{most_to_salvage, IsSalvage}
 use Rattle.recorder.specs.Live.{most_to_read}
-use Rattle.recorder.specs.Files.{most_with, CallsToClear, CallsToTryClearing, CallsToLook, CallsToEnd, OnlyLooks, LooksWell, LooksBehind, LooksOver, MayFail, WasRecorded, IsKeptOf}
+use Rattle.recorder.specs.Files.{most_with, most_to_look_and_tell, CallsToOpen, CallsToClear, CallsToTryClearing, CallsToLook, CallsToEnd, OnlyLooks, LooksWell, LooksBehind, LooksOver, MayFail, WasRecorded, IsKeptOf}
 use Rattle.recorder.specs.Importing.{import_fault, WasFed}
 use Rattle.trace_recording.specs.Incoming.{Outside, outside}
 use Rattle.trace_recording.specs.Beginning.{Begins, EndsWithin, IsUnread}
@@ -83,10 +83,10 @@ IsExplained Told skip (Err fault) (Ok done) = ⊥
 IsExplained Told skip (Err fault) (Err complaint) = Told (fault_past skip fault) complaint
 
 -- how a reading of a trace ended, and what was written is written out: it was written whole; or so much of it as stands before a fault, or as could be written out
-pub data IsRead (Tells : Image → List ℕ → Type 0) (form : Form) (Told : SimFault → Complaint → Type 0) (image : Image) (was now : Option (List ℕ)) : Result Unit Complaint → Type 0 where
-  whole : (text : List ℕ) (mid : Option (List ℕ)) → IsStanding standings.Ours image → Tells image text → Appends was mid text → Keeps mid now → IsRead Tells form Told image was now (Ok tt)
-  not_written_out : (text : List ℕ) (mid : Option (List ℕ)) (complaint : Complaint) → IsStanding standings.Ours image → Tells image text → Appends was mid text → Keeps mid now → IsOfWriter complaint → IsRead Tells form Told image was now (Err complaint)
-  refused : (fault : ReadFault) (entries : ℕ) (mid : Option (List ℕ)) (complaint : Complaint) → IsWhyNotRead fault image → IsWrittenInTurn form fault image was mid entries → Keeps mid now → Told (read_fault fault) complaint → IsRead Tells form Told image was now (Err complaint)
+pub data IsRead (form : Form) (Told : SimFault → Complaint → Type 0) (image : Image) (was now : Option (List ℕ)) : Result Unit Complaint → Type 0 where
+  whole : (text : List ℕ) (mid : Option (List ℕ)) → IsStanding standings.Ours image → WritesStore form image text → Appends was mid text → Keeps mid now → IsRead form Told image was now (Ok tt)
+  not_written_out : (text : List ℕ) (mid : Option (List ℕ)) (complaint : Complaint) → IsStanding standings.Ours image → WritesStore form image text → Appends was mid text → Keeps mid now → IsOfWriter complaint → IsRead form Told image was now (Err complaint)
+  refused : (fault : ReadFault) (entries : ℕ) (mid : Option (List ℕ)) (complaint : Complaint) → IsWhyNotRead fault image → IsWrittenInTurn form fault image was mid entries → Keeps mid now → Told (read_fault fault) complaint → IsRead form Told image was now (Err complaint)
 
 -- a trace was cleared for good: whatever a crash leaves of it is blank
 pub record IsCleared (clearing : Clearing) (old new : FolderStore) : Type 0 where
@@ -115,6 +115,7 @@ pub record IsOpened (spec : Spec) (old new : FolderStore) (opened : AnyOpening) 
   pub moments : honest_of new → KeepsTrace (device old) (device new) spec
   pub was_honest : honest_of new → honest_of old
   pub no_failure : failures_of new ≡ failures_of old
+  pub at_most : CallsToOpen old new
 
 -- none was
 pub record IsNotOpened (spec : Spec) (old new : FolderStore) (fault : SimFault) : Type 0 where
@@ -123,6 +124,7 @@ pub record IsNotOpened (spec : Spec) (old new : FolderStore) (fault : SimFault) 
   pub untouched : honest_of new → HasForeign (reads_of old) → OnlyLooks old new
   pub moments : honest_of new → KeepsTrace (device old) (device new) spec
   pub was_honest : honest_of new → honest_of old
+  pub at_most : CallsToOpen old new
 
 -- a trace was opened and the lines of a script, which had these bytes, were run at its port; or nothing was done but the opening, or not even that
 pub data Records (place : Place) (spec : Spec) (old new : FolderStore) (had was now : Option (List ℕ)) : Result Unit Complaint → Type 0 where
@@ -143,12 +145,12 @@ pub data Feeds (place : Place) (spec : Spec) (rules : Rules) (old new : FolderSt
   not_opened : {first mid : FolderStore} {then : Outside} {incoming : Incoming} (fault : SimFault) (complaint : Complaint) → Begins rules.skip saw then incoming → LooksWell old first → (honest_of first → HasNoForeign (reads_of old)) → IsNotOpened spec first mid fault
       → LooksBehind fault mid new → observed ≡ then.observed → Keeps was now → IsToldAt place new fault complaint → Feeds place spec rules old new saw observed was now (Err complaint)
   -- no byte came
-  nothing_came : {then : Outside} → EndsWithin rules.skip saw then → OnlyLooks old new → (honest_of new → HasNoForeign (reads_of old)) → observed ≡ then.observed → Keeps was now → Feeds place spec rules old new saw observed was now (Ok tt)
+  nothing_came : {then : Outside} → EndsWithin rules.skip saw then → LooksOver old new (2 * length (reads_of old)) (HasNoForeign (reads_of old)) → observed ≡ then.observed → Keeps was now → Feeds place spec rules old new saw observed was now (Ok tt)
   -- the first byte couldn't be had
-  unread : {then : Outside} (fault : ImportFault) (complaint : Complaint) → IsUnread rules.skip saw then fault → OnlyLooks old new → (honest_of new → HasNoForeign (reads_of old)) → observed ≡ then.observed → Keeps was now → IsToldAt place new (import_fault fault) complaint
+  unread : {then : Outside} (fault : ImportFault) (complaint : Complaint) → IsUnread rules.skip saw then fault → LooksOver old new (most_to_look_and_tell (reads_of old)) (HasNoForeign (reads_of old)) → observed ≡ then.observed → Keeps was now → IsToldAt place new (import_fault fault) complaint
       → Feeds place spec rules old new saw observed was now (Err complaint)
   -- its files aren't a trace's, or that can't be known, and nothing was read
-  refused : {first : FolderStore} (fault : SimFault) (complaint : Complaint) → (honest_of new → IsWhyNotOpened spec fault (reads_of old)) → OnlyLooks old first → TellsFault (failures_of old) (failures_of first) fault → LooksBehind fault first new → observed ≡ saw.observed → Keeps was now → IsToldAt place new fault complaint
+  refused : {first : FolderStore} (fault : SimFault) (complaint : Complaint) → (honest_of new → IsWhyNotOpened spec fault (reads_of old)) → OnlyLooks old first → CallsToLook old first → TellsFault (failures_of old) (failures_of first) fault → LooksBehind fault first new → observed ≡ saw.observed → Keeps was now → IsToldAt place new fault complaint
       → Feeds place spec rules old new saw observed was now (Err complaint)
 
 -- whether files that aren't of a trace are cleared, too
@@ -193,11 +195,11 @@ Changes _ = Unit {0}
 -- what is done with a trace for what the command line asks and how it is to be shown, by what is seen of the stream that comes in, what is observed until the end, and the bytes that are written
 abbrev pub Serves : TraceRequest → Shown → Files → Files → Outside → Observations → Option (List ℕ) → Option (List ℕ) → Result Unit Complaint → Type 0
 Serves (requests.List asked is_pretty) shown old new saw observed was now result = (style : Style) × IsStyleOf is_pretty shown style
-    × LooksOver old.store new.store (most_with result (most_to_read (reads_of old.store)) (reads_of old.store)) (IsRead (ListsStore style) (as_lines style) (IsToldAt old.place new.store) (reads_of old.store) was now result)
-Serves (requests.Export asked) shown old new saw observed was now result = LooksOver old.store new.store (most_with result (most_to_read (reads_of old.store)) (reads_of old.store)) (IsRead ExportsStore as_bytes (IsToldAt old.place new.store) (reads_of old.store) was now result)
+    × LooksOver old.store new.store (most_with result (most_to_read (reads_of old.store)) (reads_of old.store)) (IsRead (as_lines style) (IsToldAt old.place new.store) (reads_of old.store) was now result)
+Serves (requests.Export asked) shown old new saw observed was now result = LooksOver old.store new.store (most_with result (most_to_read (reads_of old.store)) (reads_of old.store)) (IsRead as_bytes (IsToldAt old.place new.store) (reads_of old.store) was now result)
 Serves (requests.Salvage asked form) shown old new saw observed was now result = (out : Form) × IsWrittenAs form shown out
     × LooksOver old.store new.store (most_to_salvage (reads_of old.store)) (IfErr result (IsSalvage out (IsToldAt old.place new.store) (Rose (failures_of old.store) (failures_of new.store)) (reads_of old.store) was now)) × IsErr result × IfErr result (λ complaint. status_told complaint ≡ 1)
-Serves (requests.Info asked is_json) shown old new saw observed was now result = LooksOver old.store new.store (most_with result (5 * most_to_sum (reads_of old.store)) (reads_of old.store)) (IsInfo (IsToldAt old.place new.store) (reads_of old.store) result) × IfErr result (λ complaint. status_told complaint ≡ 1)
+Serves (requests.Info asked is_json) shown old new saw observed was now result = LooksOver old.store new.store (most_to_inform result (reads_of old.store)) (IsInfo (IsToldAt old.place new.store) (reads_of old.store) result) × IfErr result (λ complaint. status_told complaint ≡ 1)
 Serves (requests.Wipe asked is_forced) shown old new saw observed was now result = (honest_of new.store → Clears (clearing_of is_forced) old.place old.store new.store was now result)
     × (honest_of new.store → IsNotToWipe (clearing_of is_forced) (reads_of old.store) → OnlyLooks old.store new.store) × (honest_of new.store → LeavesOnly clock_of moments_of old.store new.store (IsClearing (images_of old.store)))
 Serves (requests.Record asked) shown old new saw observed was now result = Records old.place (wanted old.place.kind (turn_of asked)) old.store new.store saw.remaining was now result
@@ -210,9 +212,9 @@ IsUntouched world files = past_of files.store ≡ record { world = world; names 
 -- and they aren't locked: who writes them may take the lock
 pub record IsFree (world : World) (files : Files) : Type 0 where
   pub past : IsUntouched world files
-  pub not_locked : files.store.is_locked ≡ false
+  pub not_locked : locked_of files.store ≡ false
 
 -- and their lock was taken
 pub record IsLocked (world : World) (files : Files) : Type 0 where
   pub past : IsUntouched world files
-  pub locked : files.store.is_locked ≡ true
+  pub locked : locked_of files.store ≡ true

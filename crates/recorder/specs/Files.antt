@@ -4,6 +4,7 @@ use Rattle.std.specs.Io.KnownBytes.{Appends}
 use Rattle.segment.specs.DeviceCalls.{DeviceReads}
 use Rattle.segment.specs.Pieces.{pieces_to}
 use Rattle.recovery.specs.Wiping.{wiping_calls}
+use Rattle.recorder.specs.Openings.{most_to_begin}
 use Rattle.trace_store.specs.Device.{OnlyReads, device_of}
 use Rattle.trace_store.specs.Moments.{Rose}
 use Rattle.stores.specs.FolderStore.{honest_of, reads_of, images_of, moments_of, clock_of, failures_of}
@@ -43,11 +44,6 @@ use Rattle.script_port.specs.declared.reply.Origin.{Origin}
 abbrev pub OnlyLooks : FolderStore → FolderStore → Type 0
 OnlyLooks old new = OnlyReads honest_of clock_of reads_of images_of moments_of old new
 
--- and no device call failed
-pub record LooksWell (old new : FolderStore) : Type 0 where
-  pub only_reads : OnlyLooks old new
-  pub no_failure : failures_of new ≡ failures_of old
-
 -- the failure count after some device calls, of which any may have failed
 pub data MayFail (before : ℕ) : ℕ → Type 0 where
   none : MayFail before before
@@ -56,6 +52,10 @@ pub data MayFail (before : ℕ) : ℕ → Type 0 where
 -- the most device calls to see which files disagree
 abbrev pub most_to_tell : Image → ℕ
 most_to_tell image = (4 + pieces_to 1099511627780) * length image
+
+-- and to look at the front of each file before
+abbrev pub most_to_look_and_tell : Image → ℕ
+most_to_look_and_tell image = 2 * length image + most_to_tell image
 
 -- so many, and where a fault ends it those to tell of that
 abbrev pub most_with : Result Unit Complaint → ℕ → Image → ℕ
@@ -75,6 +75,16 @@ CallsToEnd old new = clock_of new ≤ clock_of old + most_to_end (reads_of old)
 
 abbrev pub CallsToLook : FolderStore → FolderStore → Type 0
 CallsToLook old new = clock_of new ≤ clock_of old + 2 * length (reads_of old)
+
+-- to open a port, after such a look
+abbrev pub CallsToOpen : FolderStore → FolderStore → Type 0
+CallsToOpen old new = honest_of new → clock_of new ≤ clock_of old + (2 * length (reads_of old) + most_to_begin (reads_of old))
+
+-- the front of each file was looked at, and no device call failed
+pub record LooksWell (old new : FolderStore) : Type 0 where
+  pub only_reads : OnlyLooks old new
+  pub no_failure : failures_of new ≡ failures_of old
+  pub at_most : CallsToLook old new
 
 -- to see how much of an input is kept
 abbrev pub CallsToKeep : FolderStore → FolderStore → Type 0

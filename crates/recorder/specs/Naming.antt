@@ -14,6 +14,7 @@ use Rattle.script_port.specs.declared.fault.SimFault.{SimFault}
 use Rattle.script_port.specs.declared.fault.SimFault.TheVariants as faults
 use Rattle.script_port.specs.declared.refusal.Refusal.{Refusal}
 use Rattle.trace_places.specs.Places.{name_of}
+use Rattle.trace_places.specs.Room.{IsTooMany}
 use Rattle.trace_places.specs.declared.place.Place.{Place}
 use Rattle.trace_advice.specs.declared.complaint.Advice.{Advice}
 use Rattle.trace_advice.specs.declared.complaint.Complaint.{Complaint}
@@ -41,16 +42,22 @@ abbrev pub NamesCall : Place → Option FileFault → Refusal → SimFault → T
 NamesCall place None refusal told = told ≡ faults.Refused refusal
 NamesCall place (Some call) refusal told = (IsOfDevice refusal → TellsCall place refusal call told) × ((IsOfDevice refusal → ⊥) → told ≡ faults.Refused refusal)
 
--- the file that is one too many is named, and why it can't be opened: by the call that the system refused
+-- the file that is one too many is named, and why it can't be opened: the call that the system refused, since too many are open
 pub record NamesCrowded (place : Place) (newest : Option FileFault) (name : List ℕ) (reason : Error) : Type 0 where
   pub call : FileFault
   pub is : newest ≡ Some call
   pub named : name ≡ name_at place call.file
   pub why : reason ≡ call.reason
+  pub too_many : IsTooMany reason
+
+-- the newest call that the system refused isn't that one
+abbrev pub NotCrowded : Option FileFault → Refusal → Type 0
+NotCrowded None refusal = Unit {0}
+NotCrowded (Some call) refusal = IsOfDevice refusal → IsTooMany call.reason → ⊥
 
 -- a refusal names that call; a file that isn't a trace's is named, and a trace that isn't there
 abbrev pub Names : Place → Option FileFault → SimFault → Complaint → Type 0
-Names place newest (faults.Refused refusal) (complaints.Fault told advice) = NamesCall place newest refusal told
+Names place newest (faults.Refused refusal) (complaints.Fault told advice) = NamesCall place newest refusal told × NotCrowded newest refusal
 Names place newest (faults.Refused refusal) (complaints.TooManyOpen name files reason) = IsOfDevice refusal × NamesCrowded place newest (string_bytes name) reason
 Names place newest (faults.Foreign file is_stream) (complaints.Foreign name looks_so) = string_bytes name ≡ name_at place file
 Names place newest faults.Absent (complaints.Absent name advice) = string_bytes name ≡ place.base.now

@@ -2,6 +2,7 @@
 use Rattle.std.specs.Prelude.{◌≡◌, ℕ, Bool, true, false, Option, Some, None, List, [], Result, Ok, Err, IfSome}
 use Rattle.std.specs.Io.KnownBytes.{Appends, Keeps}
 use Rattle.stores.specs.Events.{World}
+use Rattle.stores.specs.FolderStore.{locked_of}
 use Rattle.command_line.specs.declared.request.Asked.{Asked}
 use Rattle.command_line.specs.declared.request.Shown.{Shown}
 use Rattle.command_line.specs.declared.request.TraceRequest.{TraceRequest}
@@ -41,8 +42,8 @@ Does (tasks.Followed is_pretty) shown files saw left = KeepsOn is_pretty shown f
 -- a count that is asked for is their own where they aren't to be written
 pub record AreMade (world : World) (request : TraceRequest) (files : Files) : Type 0 where
   pub past : IsUntouched world files
-  pub locked : Changes request → files.store.is_locked ≡ true
-  pub free : (Changes request → ⊥) → files.store.is_locked ≡ false
+  pub locked : Changes request → locked_of files.store ≡ true
+  pub free : (Changes request → ⊥) → locked_of files.store ≡ false
   pub place : IsAtPlace (asked_in request) files
   pub agrees : NamesTrace request → AgreesOn (asked_in request) files.found
 

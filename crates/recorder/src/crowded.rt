@@ -1,8 +1,9 @@
 //! More files of a trace than may be open at once.
-ghost use Rattle.std.specs.Prelude.{◌≡◌, IfOk, IfErr, IfSome};
+ghost use Rattle.std.specs.Prelude.{◌≡◌, None, IfOk, IfErr, IfSome};
 ghost use Rattle.script_port.specs.declared.fault.SimFault.TheVariants as faults;
 ghost use Rattle.trace_advice.specs.Complaints.{status_told};
-ghost use Rattle.recorder.specs.Naming.{TellsAt};
+ghost use Rattle.stores.specs.FolderStore.{fault_of};
+ghost use Rattle.recorder.specs.Naming.{NotCrowded, TellsAt};
 
 use script_port::Refusal;
 use std::alloc::{AllocError, Global};
@@ -32,7 +33,8 @@ pub fn crowded(
     store: &FolderStore,
     refusal: Refusal,
 ) -> Result<Option<Complaint>, AllocError>
-    ensures { IfOk result (λ found. IfSome found (TellsAt place.now store.now (faults.Refused refusal))) }
+    ensures crowded { IfOk result (λ found. IfSome found (TellsAt place.now store.now (faults.Refused refusal))) }
+    ensures none { IfOk result (λ found. found ≡ None → NotCrowded (fault_of store.now) refusal) }
 {
     let Some(fault) = store.last_fault() else {
         return Ok(None);

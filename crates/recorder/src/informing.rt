@@ -2,7 +2,7 @@
 ghost use Rattle.std.specs.Prelude.{◌≡◌, ◌*◌, ◌⊎◌, IfOk, IfErr};
 ghost use Rattle.stores.specs.FolderStore.{reads_of};
 ghost use Rattle.trace_advice.specs.{Complaints.status_told, Faults.read_fault};
-ghost use Rattle.recorder.specs.{Files.CallsToTell, Files.most_with, Files.OnlyLooks, Files.LooksOver, Informing.most_to_sum, Informing.IsGathered, Informing.IsInfo, Naming.IsToldAt};
+ghost use Rattle.recorder.specs.{Files.CallsToTell, Files.OnlyLooks, Files.LooksOver, Informing.most_to_sum, Informing.most_to_gather, Informing.most_to_inform, Informing.IsGathered, Informing.IsInfo, Naming.IsToldAt};
 ghost use Rattle.script_port.specs.declared.fault.SimFault.TheVariants as faults;
 
 use crate::doing::Doing;
@@ -47,10 +47,10 @@ fn look_once(files: &mut Files<'_>) -> Result<Info, ReadFault>
     }
 }
 
-/// Reads a trace, and where it isn't whole while another process writes it again, five times in all.
+/// Reads a trace once, and where it isn't whole while another process writes it again, five times in all.
 fn look_over(files: &mut Files<'_>) -> Result<Info, ReadFault>
-    ensures found { LooksOver files.old.store files.new.store (5 * most_to_sum (reads_of files.old.store))
-        (IsGathered (reads_of files.old.store) result) }
+    ensures found { LooksOver files.old.store files.new.store
+        (most_to_gather result (reads_of files.old.store)) (IsGathered (reads_of files.old.store) result) }
     ensures place { files.new.place ≡ files.old.place }
 {
     let mut made = 0;
@@ -130,7 +130,7 @@ pub fn info<W: Write, H: Host>(
     watched: &mut Watched<'_, W, H>,
 ) -> Result<(), Complaint>
     ensures ended { LooksOver files.old.store files.new.store
-        (most_with result (5 * most_to_sum (reads_of files.old.store)) (reads_of files.old.store))
+        (most_to_inform result (reads_of files.old.store))
         (IsInfo (IsToldAt files.old.place files.new.store) (reads_of files.old.store) result) }
     ensures status { IfErr result (λ complaint. status_told complaint ≡ 1) }
 {

@@ -3,6 +3,7 @@
 
 mod absence;
 mod awaiting;
+mod changing;
 mod commands;
 mod counting;
 mod crowded;
@@ -13,6 +14,7 @@ mod importing;
 mod informing;
 mod live;
 mod opening;
+mod reading;
 mod salvaging;
 mod serving;
 mod sites;

@@ -11,7 +11,6 @@ use crate::commands::{style, written_out};
 use crate::doing::Doing;
 use crate::files::Files;
 use crate::informing::told;
-use crate::state::{Newest, is_closed};
 use command_line::{Form, Shown};
 use std::alloc::AllocError;
 use std::io::Write;
@@ -28,30 +27,8 @@ fn manner(form: Form, shown: &Shown) -> Manner<'_>
     }
 }
 
-/// Whether a file is neither an open segment nor closed.
-fn is_passed(rt: &HostRuntime, name: &str) -> bool {
-    !is_closed(rt, name).unwrap_or(true) && Newest::later(None, rt, name).is_none()
-}
-
-/// The files that are.
-fn passed_over(rt: &HostRuntime, files: &Files<'_>) -> Result<Vec<String>, AllocError> {
-    let mut passed = Vec::new(files.alloc());
-    for file in 0..files.count() {
-        let name = files.name(file)?;
-        if is_passed(rt, name.as_str()) {
-            passed.push(name)?;
-        }
-    }
-    Ok(passed)
-}
-
 /// What a salvage came to, of which so many entries are shown.
-fn summary(
-    rt: &HostRuntime,
-    files: &Files<'_>,
-    salvaged: &Salvaged,
-    shown: u64,
-) -> Result<Complaint, AllocError>
+fn summary(files: &Files<'_>, salvaged: &Salvaged, shown: u64) -> Result<Complaint, AllocError>
     ensures told { IfOk result (TellsSum salvaged.now) }
     ensures status { IfOk result (λ complaint. status_told complaint ≡ 1) }
 {
@@ -60,21 +37,16 @@ fn summary(
         entries: salvaged.entries,
         shown,
         missing: salvaged.missing,
-        passed: passed_over(rt, files)?,
+        passed: files.passed_over()?,
     }))
 }
 
 /// The same, also where there is no memory for it.
-fn summary_at_least(
-    rt: &HostRuntime,
-    files: &Files<'_>,
-    salvaged: &Salvaged,
-    shown: u64,
-) -> Complaint
+fn summary_at_least(files: &Files<'_>, salvaged: &Salvaged, shown: u64) -> Complaint
     ensures told { TellsSum salvaged.now result ⊎ IsOfMemory result }
     ensures status { status_told result ≡ 1 }
 {
-    match summary(rt, files, salvaged, shown) {
+    match summary(files, salvaged, shown) {
         Ok(complaint) => complaint,
         Err(fault) => Complaint::from(fault),
     }
@@ -82,7 +54,6 @@ fn summary_at_least(
 
 /// Writes what each open file holds by itself. It never succeeds: what is written isn't the trace.
 pub fn salvage<W: Write, H: Host>(
-    rt: &HostRuntime,
     files: &mut Files<'_>,
     form: Form,
     shown: &Shown,
@@ -105,7 +76,7 @@ pub fn salvage<W: Write, H: Host>(
                 if files.is_absent(salvaged.files) {
                     Err(told(files, ReadFault::Absent, Doing::Other))
                 } else {
-                    Err(summary_at_least(rt, files, &salvaged, watched.shown()))
+                    Err(summary_at_least(files, &salvaged, watched.shown()))
                 }
             }
             Err(complaint) => Err(complaint),

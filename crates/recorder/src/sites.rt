@@ -1,13 +1,14 @@
 //! The files of the trace that a command line asks for.
-ghost use Rattle.std.specs.Prelude.{◌≡◌, true, false, IfOk, OnOk, IfErr};
+ghost use Rattle.std.specs.Prelude.{◌≡◌, IfOk, OnOk, IfErr};
 ghost use Rattle.stores.specs.Events.{World};
 ghost use Rattle.trace_places.specs.Finding.{IsFound};
 ghost use Rattle.trace_advice.specs.Complaints.{status_told};
-ghost use Rattle.recorder.specs.{Commands.Changes, Commands.IsUntouched, Commands.IsFree, Commands.IsLocked, Sites.asked_in, Sites.IsAtPlace, Sites.AgreesOn, Sites.IsOfCounts, Sites.IsWhyNotFound, Sites.NamesTrace, Sites.HasFiles};
+ghost use Rattle.recorder.specs.{Commands.IsFree, Commands.IsLocked, Serving.AreMade, Sites.AgreesOn, Sites.IsOfCounts, Sites.IsWhyNotFound, Sites.HasFiles};
 
 use crate::crowded::check_room;
 use crate::files::Files;
 use command_line::{Asked, TraceRequest, Wanted};
+use std::alloc::Global;
 use trace_advice::{Complaint, FAILED_DISK, tell_idle, tell_idle_on_file};
 use trace_places::{Found, Place, find};
 
@@ -15,12 +16,7 @@ use trace_places::{Found, Place, find};
 /// knowing of it.
 pub fn files_for<'a>(rt: &HostRuntime, request: &TraceRequest<'a>) -> Result<Files<'a>, Complaint>
     ghost world: { World }
-    ensures past { IfOk result (IsUntouched world) }
-    ensures locked { Changes request.now → IfOk result (λ files. files.store.is_locked ≡ true) }
-    ensures free { (Changes request.now → ⊥) → IfOk result (λ files. files.store.is_locked ≡ false) }
-    ensures place { IfOk result (IsAtPlace (asked_in request.now)) }
-    ensures agrees { NamesTrace request.now
-        → IfOk result (λ files. AgreesOn (asked_in request.now) files.found) }
+    ensures made { IfOk result (AreMade world request.now) }
     ensures refused { IfErr result (λ complaint. status_told complaint ≡ 1) }
 {
     match request {
@@ -42,13 +38,13 @@ pub fn files_for<'a>(rt: &HostRuntime, request: &TraceRequest<'a>) -> Result<Fil
 }
 
 /// Refuses a count of the command line that isn't what the files say.
-fn check_count(rt: &HostRuntime, asked: &Asked<'_>, found: &Found) -> Result<(), Complaint>
+fn check_count(alloc: Global, asked: &Asked<'_>, found: &Found) -> Result<(), Complaint>
     ensures agrees { OnOk result (AgreesOn asked.now found.now) }
     ensures differs { IfErr result (IsOfCounts asked.now found.now) }
 {
     match (found.count(), asked.count) {
         (Some(own), Some(given)) if own != given => Err(Complaint::Differs {
-            name: String::from_str(rt.alloc(), asked.base)?,
+            name: String::from_str(alloc, asked.base)?,
             given,
             own,
         }),
@@ -65,7 +61,7 @@ fn found_to_read(rt: &HostRuntime, asked: Asked<'_>) -> Result<Found, Complaint>
     ensures refused { IfErr result (λ complaint. status_told complaint ≡ 1) }
 {
     let found = find(*rt, asked)?;
-    check_count(rt, &asked, &found)?;
+    check_count(rt.alloc(), &asked, &found)?;
     if matches!(found, Found::File) {
         tell_idle_on_file(rt, &asked);
     }

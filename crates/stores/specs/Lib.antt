@@ -14,3 +14,4 @@ pub mod MemDisk
 pub mod Crashes
 pub mod MemStore
 pub mod CopyLaws
+pub mod Standing

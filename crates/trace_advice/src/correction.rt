@@ -8,6 +8,7 @@ use crate::ending::no_memory;
 use clap::Error as FormError;
 use clap::error::ErrorKind as MisuseKind;
 use command_line::Misuse;
+use std::alloc::Global;
 use std::process::ExitCode;
 
 /// What may stand for the number of `--size`.
@@ -35,7 +36,7 @@ const ONE_NAME: &str =
     "One name is taken. That of a wrap is what the names of its files begin with: w, where they are w0, w1 and so on.";
 
 /// Tells that a word isn't one that the option takes, and what that takes.
-fn refuse(rt: &HostRuntime, word: &str, option: &str, taken: &str) -> ExitCode
+fn refuse(rt: &impl Eprint, word: &str, option: &str, taken: &str) -> ExitCode
     ensures { exit_status result ≡ 2 }
 {
     let _ = eprintln!(rt;
@@ -45,7 +46,7 @@ fn refuse(rt: &HostRuntime, word: &str, option: &str, taken: &str) -> ExitCode
 }
 
 /// Tells that a word isn't text.
-fn refuse_bytes(rt: &HostRuntime) -> ExitCode
+fn refuse_bytes(rt: &impl Eprint) -> ExitCode
     ensures { exit_status result ≡ 2 }
 {
     let _ = eprintln!(rt;
@@ -66,8 +67,8 @@ fn form_status(kind: MisuseKind) -> u8
 }
 
 /// Whether a word was one too many after the name of a trace. The text alone tells that.
-fn is_second_name(rt: &HostRuntime, error: &FormError) -> bool {
-    let Ok(text) = format!(in rt.alloc(); "{error}") else {
+fn is_second_name(alloc: Global, error: &FormError) -> bool {
+    let Ok(text) = format!(in alloc; "{error}") else {
         return false;
     };
     let Some(word) = text.strip_prefix("error: unexpected argument '") else {
@@ -77,7 +78,7 @@ fn is_second_name(rt: &HostRuntime, error: &FormError) -> bool {
 }
 
 /// Tells what is wrong with the form of the words, or shows the help that they ask for.
-fn correct_form(rt: &HostRuntime, error: &FormError) -> ExitCode
+fn correct_form(rt: &(impl Print + Eprint), alloc: Global, error: &FormError) -> ExitCode
     ensures { exit_status result ≡ status_of_form (kind_of error.now) }
 {
     let kind = error.kind();
@@ -85,19 +86,19 @@ fn correct_form(rt: &HostRuntime, error: &FormError) -> ExitCode
         return no_memory(rt);
     }
     let _ = error.print(rt);
-    if kind == MisuseKind::UnknownArgument && is_second_name(rt, error) {
+    if kind == MisuseKind::UnknownArgument && is_second_name(alloc, error) {
         let _ = eprintln!(rt; "\n{ONE_NAME}");
     }
     ExitCode::from(form_status(kind))
 }
 
 /// Tells what is wrong with the command line, or shows the help that it asks for.
-pub fn correct(rt: &HostRuntime, misuse: Misuse<'_>) -> ExitCode
+pub fn correct(rt: &(impl Print + Eprint), alloc: Global, misuse: Misuse<'_>) -> ExitCode
     ensures { exit_status result ≡ status_of_misuse misuse.entry }
 {
     match misuse {
         Misuse::NotText => refuse_bytes(rt),
-        Misuse::Form(error) => correct_form(rt, &error),
+        Misuse::Form(error) => correct_form(rt, alloc, &error),
         Misuse::Size(text) => refuse(rt, text, "--size <BYTES>", A_SIZE),
         Misuse::Longest(text) => refuse(rt, text, "--longest <SIZE>", A_LONGEST),
         Misuse::Kind(word) => refuse(rt, word, "--only <KIND[,KIND..]>", KINDS),

@@ -11,7 +11,7 @@ use std::io::ErrorKind;
 use std::process::ExitCode;
 
 /// Tells what ended the command on standard error, where that can be had.
-fn fail(rt: &HostRuntime, complaint: &Complaint) -> ExitCode
+fn fail(rt: &impl Eprint, complaint: &Complaint) -> ExitCode
     ensures { exit_status result ≡ status_told complaint.now }
 {
     let _ = eprintln!(rt; "dbgrec: {complaint}");
@@ -19,7 +19,7 @@ fn fail(rt: &HostRuntime, complaint: &Complaint) -> ExitCode
 }
 
 /// Tells that standard output can't be written, and why. A reader that has closed it knows.
-fn fail_to_write(rt: &HostRuntime, complaint: &Complaint, reason: Option<io::Error>) -> ExitCode
+fn fail_to_write(rt: &impl Eprint, complaint: &Complaint, reason: Option<io::Error>) -> ExitCode
     requires { status_told complaint.now ≡ 1 }
     ensures { exit_status result ≡ 1 }
 {
@@ -35,7 +35,7 @@ fn fail_to_write(rt: &HostRuntime, complaint: &Complaint, reason: Option<io::Err
 }
 
 /// Tells that standard input can't be read, and why, where the system said it.
-fn fail_to_read(rt: &HostRuntime, complaint: &Complaint, reason: Option<io::Error>) -> ExitCode
+fn fail_to_read(rt: &impl Eprint, complaint: &Complaint, reason: Option<io::Error>) -> ExitCode
     ensures { exit_status result ≡ status_told complaint.now }
 {
     let code = fail(rt, complaint);
@@ -53,7 +53,7 @@ pub struct Reasons {
 }
 
 /// What the program ends with, once that was done. What it can't read or write is told with its reason.
-pub fn code_of(rt: &HostRuntime, done: &Result<(), Complaint>, reasons: Reasons) -> ExitCode
+pub fn code_of(rt: &impl Eprint, done: &Result<(), Complaint>, reasons: Reasons) -> ExitCode
     ensures { exit_status result ≡ status_of_done done.now }
 {
     match done {
@@ -67,7 +67,7 @@ pub fn code_of(rt: &HostRuntime, done: &Result<(), Complaint>, reasons: Reasons)
 }
 
 /// Tells that there was no memory to do anything.
-pub fn no_memory(rt: &HostRuntime) -> ExitCode
+pub fn no_memory(rt: &impl Eprint) -> ExitCode
     ensures { exit_status result ≡ 1 }
 {
     fail(rt, &Complaint::from(SimFault::NoMemory))

@@ -6,7 +6,7 @@ use segment::StoreSpec;
 use trace_places::{Found, Kind, Shown};
 
 /// Names the options that mean nothing to a trace of one file.
-pub fn tell_idle_on_file(rt: &HostRuntime, asked: &Asked<'_>) {
+pub fn tell_idle_on_file(rt: &impl Eprint, asked: &Asked<'_>) {
     if asked.count.is_some() {
         let _ = eprintln!(rt; "dbgrec: --count has no effect on one file");
     }
@@ -16,7 +16,7 @@ pub fn tell_idle_on_file(rt: &HostRuntime, asked: &Asked<'_>) {
 }
 
 /// Names the options that have no effect on a trace of this kind.
-pub fn tell_idle(rt: &HostRuntime, wanted: &Wanted<'_>, kind: Kind) {
+pub fn tell_idle(rt: &impl Eprint, wanted: &Wanted<'_>, kind: Kind) {
     match kind {
         Kind::File => {
             tell_idle_on_file(rt, &wanted.asked);
@@ -36,7 +36,7 @@ pub fn tell_idle(rt: &HostRuntime, wanted: &Wanted<'_>, kind: Kind) {
 }
 
 /// Says which options of the command line a wrap that is gone on with doesn't take.
-pub fn tell_own(rt: &HostRuntime, wanted: &Wanted<'_>, found: &Found, origin: Origin) {
+pub fn tell_own(rt: &impl Eprint, wanted: &Wanted<'_>, found: &Found, origin: Origin) {
     if let (Origin::Resumed, Found::Wrap(Some(own))) = (origin, found)
         && let Some(count) = own.spec.count()
     {
@@ -45,7 +45,7 @@ pub fn tell_own(rt: &HostRuntime, wanted: &Wanted<'_>, found: &Found, origin: Or
     }
 }
 
-fn tell_own_count(rt: &HostRuntime, wanted: &Wanted<'_>, count: u16) {
+fn tell_own_count(rt: &impl Eprint, wanted: &Wanted<'_>, count: u16) {
     let name = Shown(wanted.asked.base);
     if let Some(given) = wanted.asked.count
         && given != count
@@ -55,7 +55,7 @@ fn tell_own_count(rt: &HostRuntime, wanted: &Wanted<'_>, count: u16) {
 }
 
 /// What is said of the option that ends a run.
-fn tell_own_turn(rt: &HostRuntime, wanted: &Wanted<'_>, own: StoreSpec) {
+fn tell_own_turn(rt: &impl Eprint, wanted: &Wanted<'_>, own: StoreSpec) {
     let name = Shown(wanted.asked.base);
     let (turn, option, given, other, instead) = match own {
         StoreSpec::File => return,

@@ -1,4 +1,6 @@
 //! How many files may be open at once.
+ghost use Rattle.std.specs.Prelude.{◌↔◌, IsTrue, IfOk, IfSome};
+ghost use Rattle.trace_places.specs.Room.{IsTooMany};
 
 use std::alloc::AllocError;
 use std::fs::File;
@@ -7,9 +9,6 @@ use std::io;
 /// Files beside those of a trace that are opened: a folder that is synced, and the mark of a failed disk.
 const BESIDE: u32 = 2;
 
-/// The system's numbers for too many open files, of the process and of the machine.
-const TOO_MANY: [i32; 2] = [24, 23];
-
 /// The first of several files that can't be open beside the others, and why.
 #[derive(Clone, Copy, Debug)]
 pub struct Crowded {
@@ -17,16 +16,17 @@ pub struct Crowded {
     pub reason: io::Error,
 }
 
-/// Whether a file couldn't be opened since too many are open.
-pub fn is_too_many(reason: io::Error) -> bool {
-    match reason.raw_os_error() {
-        Some(code) => TOO_MANY.contains(&code),
-        None => false,
-    }
+/// Whether a file couldn't be opened since too many are open, of the process (24) or of the machine (23).
+pub fn is_too_many(reason: io::Error) -> bool
+    ensures { IsTrue result ↔ IsTooMany reason }
+{
+    matches!(reason.raw_os_error(), Some(23 | 24))
 }
 
 /// Whether so many files can't be open at once. It opens a folder as often, and closes it.
-pub fn is_crowded(rt: &HostRuntime, files: u32) -> Result<Option<Crowded>, AllocError> {
+pub fn is_crowded(rt: &HostRuntime, files: u32) -> Result<Option<Crowded>, AllocError>
+    ensures { IfOk result (λ found. IfSome found (λ crowded. IsTooMany crowded.reason)) }
+{
     let mut opened = Vec::new(rt.alloc());
     for count in 0..files.saturating_add(BESIDE) {
         match File::open(rt, "/") {

@@ -9,7 +9,7 @@ use Rattle.trace_reader.specs.declared.fault.ReadFault.TheVariants as reads
 use Rattle.trace_advice.specs.Faults.{read_fault}
 use Rattle.recorder.specs.Informing.{refused, not_told}
 use Rattle.recorder.proofs.Naming.{told_moved}
-use Rattle.recorder.proofs.Informed.{whole_so, refused_so}
+use Rattle.recorder.proofs.Informed.{judged_within, whole_once, whole_so, refused_so}
 use Rattle.recorder.proofs.informing.info.Goals as goal
 
 pub returns-in-Err-clause-ended : goal.returns-in-Err-clause-ended
@@ -27,7 +27,10 @@ returns-in-Err-clause-ended g c =
 pub returns-in-Err-write_info-clause-ended : goal.returns-in-Err-write_info-clause-ended
 returns-in-Err-write_info-clause-ended g c = record {
   only_reads = c.in-Ok.ensures.found.only_reads;
-  at_most = λ h. let most = c.in-Ok.ensures.found.at_most h in omega (arith, most);
+  at_most = λ h.
+      let image = reads_of c.args.files.now.store in
+      let most = judged_within c.in-Ok.info.outlined image (clock_of c.args.files.now.store) (clock_of c.look_over.new.files.store) (c.in-Ok.ensures.found.at_most h) in
+      omega (arith, most);
   told = λ h.
       not_told c.from.result
       (⊎_elim (λ write. inl (c.from.ensures ∙ ap (λ (fault : SimFault). complaints.Fault fault None) write))
@@ -39,7 +42,7 @@ returns-in-None-clause-ended g c =
     let e = c.in-Ok.ensures.found in
     record {
       only_reads = e.only_reads;
-      at_most = λ h. e.at_most h;
+      at_most = λ h. whole_once c.in-Ok.info.outlined c.fault.result (reads_of c.args.files.now.store) (clock_of c.args.files.now.store) (clock_of c.look_over.new.files.store) c.in-None.is c.fault.ensures (e.at_most h);
       told = λ h. let found = e.told h in whole_so _ (reads_of c.args.files.now.store) c.in-Ok.info.outlined c.fault.result c.in-None.is c.fault.ensures found.0 found.1;
     }
 
@@ -51,7 +54,8 @@ returns-clause-ended g c =
     record {
       only_reads = reads_both honest_of clock_of reads_of images_of moments_of c.args.files.now.store c.look_over.new.files.store told.new.files.store e.only_reads looks;
       at_most = λ h.
-          tell_after c.args.files.now.store c.look_over.new.files.store (clock_of told.new.files.store) (5 * most_to_sum (reads_of c.args.files.now.store)) e.only_reads (e.at_most (looks.was_honest h)) told.ensures.at_most;
+          tell_after c.args.files.now.store c.look_over.new.files.store (clock_of told.new.files.store) (5 * most_to_sum (reads_of c.args.files.now.store)) e.only_reads
+          (judged_within c.in-Ok.info.outlined (reads_of c.args.files.now.store) (clock_of c.args.files.now.store) (clock_of c.look_over.new.files.store) (e.at_most (looks.was_honest h))) told.ensures.at_most;
       told = λ h.
           let found = e.told (looks.was_honest h) in
           refused_so _ (reads_of c.args.files.now.store) c.in-Ok.info.outlined c.fault.result c.in-Some.cause told.result c.in-Some.is c.fault.ensures found.0 found.1

@@ -2,6 +2,7 @@ use Rattle.std.proofs.Common.{◌≡◌, ◌⊎◌, ◌≤◌, ◌+◌, ◌*◌,
 use Rattle.stores.specs.FolderStore.{honest_of, reads_of, clock_of}
 use Rattle.recorder.specs.Informing.{most_to_sum}
 use Rattle.recorder.specs.Files.{OnlyLooks}
+use Rattle.recorder.proofs.Informed.{NotWhole}
 use Rattle.recorder.proofs.informing.look_over.Given as goal
 
 -- the files were read at most
@@ -10,6 +11,7 @@ invariant-readings l = record {
   few : l.made ≤ 4;
   place : l.files.place ≡ l.fn.files.place;
   calls : honest_of l.files.store → clock_of l.files.store ≤ clock_of l.fn.files.store + l.made * most_to_sum (reads_of l.fn.files.store);
+  once : honest_of l.files.store → (l.made ≡ 0) ⊎ NotWhole (reads_of l.fn.files.store);
   only_reads : (l.files.store ≡ l.fn.files.store) ⊎ OnlyLooks l.fn.files.store l.files.store;
 }
 

@@ -11,8 +11,7 @@ pub returns : goal.returns
 returns g c =
     let contents = g.W.Write.contents in
     let had = g.I.Read.remaining c.args.input in
-    let made = c.in-Ok.ensures in
     let files = c.in-Ok.files in
     let left = c.do_over-done.new.files in
-    served files left (record { past = made.past; locked = made.locked; free = made.free; place = made.place; agrees = made.agrees })
+    served files left c.in-Ok.ensures.made
     (subst (λ s. ServesTrace c.args.request each_line files (outside had 0 s) left c.do_over-done.result (contents c.args.output.now) (contents c.do_over-done.new.output)) c.console_for-console.ensures (rw c.each_line-shown.ensures at c.do_over-done.ensures))
