@@ -1,5 +1,5 @@
 -- What a command does with the files of a trace.
-use Rattle.std.specs.Prelude.{◌≡◌, ◌≢◌, ◌⊎◌, ◌*◌, ℕ, length, Bool, true, false, Option, None, List, [], Result, Ok, Err, OnOk, IsErr, IfSome, IfErr}
+use Rattle.std.specs.Prelude.{◌≡◌, ◌≢◌, ◌⊎◌, ◌+◌, ◌*◌, ℕ, length, Bool, true, false, Option, None, List, [], Result, Ok, Err, OnOk, IsErr, IfSome, IfErr}
 use Rattle.std.specs.Option.{option_map}
 use Rattle.std.specs.Io.KnownBytes.{Appends, Keeps}
 use Rattle.trace_store.specs.Disk.{Image}
@@ -51,7 +51,7 @@ use Rattle.recorder.specs.Naming.{IsToldAt}
 use Rattle.recorder.specs.Informing.{most_to_inform, IsInfo}
 use Rattle.recorder.specs.Salvaging.{most_to_salvage, IsSalvage}
 use Rattle.recorder.specs.Live.{most_to_read}
-use Rattle.recorder.specs.Files.{most_with, most_to_look_and_tell, CallsToOpen, CallsToClear, CallsToTryClearing, CallsToLook, CallsToEnd, OnlyLooks, LooksWell, LooksBehind, LooksOver, MayFail, WasRecorded, IsKeptOf}
+use Rattle.recorder.specs.Files.{most_with, most_to_tell, CallsToOpen, CallsToClear, CallsToTryClearing, CallsToLook, CallsToEnd, OnlyLooks, LooksWell, LooksBehind, LooksOver, MayFail, WasRecorded, IsKeptOf}
 use Rattle.recorder.specs.Importing.{import_fault, WasFed}
 use Rattle.trace_recording.specs.Incoming.{Outside, outside}
 use Rattle.trace_recording.specs.Beginning.{Begins, EndsWithin, IsUnread}
@@ -147,7 +147,7 @@ pub data Feeds (place : Place) (spec : Spec) (rules : Rules) (old new : FolderSt
   -- no byte came
   nothing_came : {then : Outside} → EndsWithin rules.skip saw then → LooksOver old new (2 * length (reads_of old)) (HasNoForeign (reads_of old)) → observed ≡ then.observed → Keeps was now → Feeds place spec rules old new saw observed was now (Ok tt)
   -- the first byte couldn't be had
-  unread : {then : Outside} (fault : ImportFault) (complaint : Complaint) → IsUnread rules.skip saw then fault → LooksOver old new (most_to_look_and_tell (reads_of old)) (HasNoForeign (reads_of old)) → observed ≡ then.observed → Keeps was now → IsToldAt place new (import_fault fault) complaint
+  unread : {then : Outside} (fault : ImportFault) (complaint : Complaint) → IsUnread rules.skip saw then fault → LooksOver old new (2 * length (reads_of old) + most_to_tell (reads_of old)) (HasNoForeign (reads_of old)) → observed ≡ then.observed → Keeps was now → IsToldAt place new (import_fault fault) complaint
       → Feeds place spec rules old new saw observed was now (Err complaint)
   -- its files aren't a trace's, or that can't be known, and nothing was read
   refused : {first : FolderStore} (fault : SimFault) (complaint : Complaint) → (honest_of new → IsWhyNotOpened spec fault (reads_of old)) → OnlyLooks old first → CallsToLook old first → TellsFault (failures_of old) (failures_of first) fault → LooksBehind fault first new → observed ≡ saw.observed → Keeps was now → IsToldAt place new fault complaint

@@ -53,10 +53,6 @@ pub data MayFail (before : ℕ) : ℕ → Type 0 where
 abbrev pub most_to_tell : Image → ℕ
 most_to_tell image = (4 + pieces_to 1099511627780) * length image
 
--- and to look at the front of each file before
-abbrev pub most_to_look_and_tell : Image → ℕ
-most_to_look_and_tell image = 2 * length image + most_to_tell image
-
 -- so many, and where a fault ends it those to tell of that
 abbrev pub most_with : Result Unit Complaint → ℕ → Image → ℕ
 most_with (Ok done) most image = most
