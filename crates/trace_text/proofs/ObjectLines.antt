@@ -11,15 +11,16 @@ use Rattle.trace_text.specs.declared.sight.Sight.{Sight}
 use Rattle.trace_text.specs.declared.style.Notation.{Notation}
 use Rattle.trace_text.specs.declared.style.Notation.TheVariants.{Text, Json}
 use Rattle.trace_text.specs.AnyTerm.{AnyTerm}
+use Rattle.std.specs.Option.{option_map}
 use Rattle.trace_text.specs.Choosing.{Asks, is_from, is_to, suits_opaque, term_in}
-use Rattle.trace_text.specs.Facts.{Function, arity_told}
+use Rattle.trace_text.specs.Facts.{Function, arity_told, function_of, tells_function}
 use Rattle.trace_text.specs.Lines.{end_mark, opaque_line, asks_opaque, long_line}
-use Rattle.trace_text.specs.Objects.{Member, of_number, of_text, member_text, more_text, members_text, object_text, object_line, IsUnread, IsObject, of_read, of_unread, arity_text, function_text, facts_of, message_members, opaque_members}
+use Rattle.trace_text.specs.Objects.{Member, of_number, of_text, member_text, more_text, members_text, object_text, object_line, IsUnread, IsObject, of_read, of_unread, arity_text, function_text, function_if, is_of_call, facts_of, message_members, opaque_members}
 use Rattle.trace_text.specs.Parts.{IsReadSo}
 use Rattle.trace_text.specs.Pretty.{leaf_text}
 use Rattle.trace_text.specs.PrettyKinds.{IsPrettyKind}
 use Rattle.trace_text.specs.PrettyLines.{kind_word}
-use Rattle.trace_text.proofs.KindFinding.{kind_seen}
+use Rattle.trace_text.proofs.KindFinding.{kind_seen, word_tells}
 use Rattle.trace_text.proofs.Suiting.{term_spelled}
 
 more_text-append : (xs ys : List Member) → more_text (xs ++ ys) ≡ more_text xs ++ more_text ys
@@ -81,6 +82,9 @@ function_text_put old a b c m n f first second x y z =
     z ∙ ap (λ (l : List ℕ). l ++ 34 ∷ []) (y ∙ ap (λ (l : List ℕ). l ++ escape arity) (x ∙ ap (λ (l : List ℕ). old ++ 44 ∷ (h ++ 34 ∷ escape l)) named))
     ∙ called_text old h (escape names) (escape arity)
     ∙ ap (λ (l : List ℕ). old ++ 44 ∷ ((h ++ (34 ∷ (l ++ 34 ∷ []))) ++ [])) (sym (flat_map-append escape_byte names arity))
+
+pub function_some : (kind : Option Kind) (t : AnyTerm) (f : Function) → tells_function kind ≡ true → function_of t ≡ Some f → function_if (is_of_call (kind_word kind)) (Some t) ≡ Some (function_text f)
+function_some kind t f e is = ap (λ (b : Bool). cond b (option_map function_text (function_of t)) None) (word_tells kind ∙ e) ∙ ap (option_map function_text) is
 
 -- ---- messages
 

@@ -1,5 +1,7 @@
 -- Parts of a message, as they are put.
-use Rattle.std.proofs.Common.{◌≡◌, ℕ, zero, suc, ◌+◌, ◌-◌, ◌*◌, ◌^◌, ◌<◌, ◌≤◌, ℤ, pos, negsuc, Bool, true, false, cond, nat_eq, List, [], ◌∷◌, ◌++◌, length, drop, map as each, codes, Option, Some, None, Result, Ok, Err, refl, sym, ap, subst, ◌∙◌, append_assoc, append-nil, arith, ◌&&◌, get_or}
+use Rattle.std.proofs.Common.{◌≡◌, ℕ, zero, suc, ◌+◌, ◌-◌, ◌*◌, ◌^◌, ◌<◌, ◌≤◌, ℤ, pos, negsuc, Bool, true, false, cond, nat_eq, List, [], ◌∷◌, ◌++◌, length, drop, map as each, codes, Option, Some, None, Result, Ok, Err, refl, sym, ap, subst, ◌∙◌, append_assoc, append-nil, arith, ◌&&◌, get_or, length-append}
+use Rattle.std.proofs.Math.Seq.{drop-append_seam}
+use Rattle.std.proofs.lemmas.List.{drop-drop}
 use Rattle.std.specs.Int.{w8, w16, w32, w64}
 use Rattle.std.specs.Fmt.{decimal}
 use Rattle.std.specs.Str.{bytes_eq}
@@ -23,7 +25,7 @@ use Rattle.trace_text.specs.declared.any_tag.AnyTag.TheVariants as any
 use Rattle.trace_text.specs.AnyReading.{leaf_at as leaf_at_tag, finite, any_members_at, any_tuple_at, any_list_at, any_map_at, fun_head_at, fun_at, any_fields_at, any_term_at, any_whole_at}
 use Rattle.trace_text.specs.BigText.{whole_decimal, whole_signed}
 use Rattle.trace_text.specs.Choosing.{is_count}
-use Rattle.trace_text.specs.Facts.{is_tag, is_tracee, leaf_if, Function, with_names, function_in, function_behind, behind_tag, tracee_of, traced, function_of, arity_told}
+use Rattle.trace_text.specs.Facts.{tells_function, is_tag, is_tracee, leaf_if, Function, with_names, function_in, function_behind, behind_tag, tracee_of, traced, function_of, arity_told}
 use Rattle.trace_text.specs.Objects.{unsigned_told}
 use Rattle.trace_text.specs.Parts.{members_seen, IsSeenSo, is_tuple, Opens, PutMessage}
 use Rattle.trace_text.specs.Pretty.{is_printable, leaf_text, IsPretty, a_leaf, a_tuple, ArePretty, with_member}
@@ -35,6 +37,7 @@ use Rattle.trace_text.specs.declared.sight.Kind.{Kind}
 use Rattle.trace_text.specs.Sights.{is_atom, is_number, sort_of, sight, sights, shape_of, shape_of_function, is_function_shape, plain, parts_kind, arity_in}
 use Rattle.trace_text.proofs.AnyLemmas.{members_count, tail_alone}
 use Rattle.trace_text.proofs.Steps.{Each, just, after, fails_as, bracketed}
+use Rattle.trace_text.proofs.KindFinding.{tells_so}
 use Rattle.trace_text.proofs.WholeDecimal.{AreGlyphs, whole_glyphs}
 
 -- ---- leaves by their sorts
@@ -64,6 +67,13 @@ tracees = record { other = refl; list = λ count. refl; of_tuple = λ shape. ref
 
 pub own_text : (l : Leaf) (own : List ℕ) → IsPretty (leaf l) own → own ≡ leaf_text l
 own_text l _ (a_leaf _) = refl
+
+-- what stands behind the first bytes, passed over in steps
+pub dropped : (first rest text : List ℕ) (n : ℕ) → text ≡ first ++ rest → n ≡ length first → drop n text ≡ rest
+dropped first rest text n is counted = ap (λ (k : ℕ). drop k text) counted ∙ ap (drop (length first)) is ∙ drop-append_seam first rest
+
+pub dropped_twice : (first rest text once : List ℕ) (n m : ℕ) → text ≡ first ++ rest → once ≡ drop n text → n + m ≡ length first → drop m once ≡ rest
+dropped_twice first rest text once n m is from counted = ap (drop m) from ∙ drop-drop m n text ∙ dropped first rest text _ is (omega (arith, counted))
 
 -- the texts of a tuple's members
 pub tuple_begins : (a : AnyTerm) (ts : AnyMembers) (text more : List ℕ) → IsPretty (tuple (member a ts)) text
@@ -259,7 +269,7 @@ pub record HasNames (d : AnyTerm) (shape : Shape) (text : List ℕ) : Type 0 whe
   pub pretty : IsPretty f.arguments third
   pub shape_is : shape ≡ shape_of_function (sight f.arguments).sort
 
-module _ (d : AnyTerm) (shape : Shape) (own rest text : List ℕ) (n : OfNames d shape) (p : IsPretty d own) (is : text ≡ own ++ rest) where
+module _ (d : AnyTerm) (shape : Shape) (own rest : List ℕ) (n : OfNames d shape) (p : IsPretty d own) where
   abbrev pub names_begin : (own' r : List ℕ) × IsPretty n.m own' × ArePretty Behind (member n.f (member n.c no_members)) r × (own ++ rest ≡ 123 ∷ (own' ++ (r ++ 125 ∷ rest)))
   names_begin = tuple_begins n.m (member n.f (member n.c no_members)) own rest (subst (λ (t : AnyTerm). IsPretty t own) n.is p)
 
@@ -278,13 +288,13 @@ module _ (d : AnyTerm) (shape : Shape) (own rest text : List ℕ) (n : OfNames d
   sizes_are : (sight d).sizes ≡ record { first = (sight n.m).sizes.first; second = (sight n.f).sizes.first; third = (sight n.c).sizes.first }
   sizes_are = ap (λ (t : AnyTerm). (sight t).sizes) n.is
 
-  pub has_names : HasNames d shape text
+  pub has_names : HasNames d shape (own ++ rest)
   has_names = record {
     first = names_begin.0;
     second = name_next.0;
     third = arguments_next.0;
     rest = arguments_next.1 ++ 125 ∷ rest;
-    text_is = is ∙ names_begin.4 ∙ ap (λ (l : List ℕ). 123 ∷ (names_begin.0 ++ l)) name_next.4 ∙ ap (λ (l : List ℕ). 123 ∷ (names_begin.0 ++ 44 ∷ (name_next.0 ++ l))) arguments_next.4;
+    text_is = names_begin.4 ∙ ap (λ (l : List ℕ). 123 ∷ (names_begin.0 ++ l)) name_next.4 ∙ ap (λ (l : List ℕ). 123 ∷ (names_begin.0 ++ 44 ∷ (name_next.0 ++ l))) arguments_next.4;
     module_size = ap (λ (s : Sizes). s.first) sizes_are ∙ module_is.0.size;
     name_size = ap (λ (s : Sizes). s.second) sizes_are ∙ name_is.0.size;
     arguments_size = ap (λ (s : Sizes). s.third) sizes_are;
@@ -324,6 +334,35 @@ pub record HasFourth (t : AnyTerm) (text : List ℕ) (tag who word more : Sight)
   pub seen : more ≡ sight d
   pub pretty : IsPretty d fourth
   pub is : function_of t ≡ function_in d
+
+-- a message of a kind that tells of a function, by what was seen of it
+pub record SeenTold (tag who word : Sight) : Type 0 where
+  pub tagged : is_tag tag.sort ≡ true
+  pub traced : is_tracee who.sort ≡ true
+  pub worded : is_atom word.sort ≡ true
+
+pub seen_told : (t : AnyTerm) (seen : List Sight) (tag who word : Sight) (more : List Sight) → seen ≡ members_seen t → tells_function (sight t).kind ≡ true → seen ≡ tag ∷ who ∷ word ∷ more → SeenTold tag who word
+seen_told t seen tag who word more is tells there =
+    let o = tells_so t tells in
+    let same : tag ∷ who ∷ word ∷ more ≡ sight o.a ∷ sight o.b ∷ sight o.c ∷ sight o.d ∷ sights o.us = sym there ∙ is ∙ ap members_seen o.is in
+    record { tagged = ap (λ (g : Sight). is_tag g.sort) (let e : tag ≡ sight o.a = cc in e) ∙ o.tagged; traced = ap (λ (g : Sight). is_tracee g.sort) (let e : who ≡ sight o.b = cc in e) ∙ o.traced; worded = ap (λ (g : Sight). is_atom g.sort) (let e : word ≡ sight o.c = cc in e) ∙ o.worded }
+
+pub told_long : (t : AnyTerm) (seen : List Sight) → seen ≡ members_seen t → tells_function (sight t).kind ≡ true → 4 ≤ length seen
+told_long t seen is tells = let o = tells_so t tells in omega (arith, ap length (is ∙ ap members_seen o.is))
+
+pub dropped_four : {t : AnyTerm} {text : List ℕ} {tag who word more : Sight} (h : HasFourth t text tag who word more)
+    → drop 5 (drop word.sizes.first (drop who.sizes.first (drop tag.sizes.first text))) ≡ drop 1 (h.fourth ++ h.rest)
+dropped_four {t} {text} {tag} {who} {word} {more} h =
+    let a = 123 ∷ h.first in
+    let b = 44 ∷ h.second in
+    let c = 44 ∷ h.third in
+    let X = h.fourth ++ h.rest in
+    let whole : text ≡ (((a ++ b) ++ c) ++ 44 ∷ []) ++ X =
+    h.text_is ∙ sym (append_assoc a b (c ++ 44 ∷ X)) ∙ sym (append_assoc (a ++ b) c (44 ∷ X)) ∙ sym (append_assoc ((a ++ b) ++ c) (44 ∷ []) X) in
+    let long : length (((a ++ b) ++ c) ++ 44 ∷ []) ≡ tag.sizes.first + who.sizes.first + word.sizes.first + 4 =
+    omega (arith, length-append ((a ++ b) ++ c) (44 ∷ []), length-append (a ++ b) c, length-append a b, h.tag_size, h.who_size, h.word_size) in
+    ap (drop 5) (ap (drop word.sizes.first) (drop-drop who.sizes.first tag.sizes.first text) ∙ drop-drop word.sizes.first _ text) ∙ drop-drop 5 _ text
+    ∙ sym (drop-drop 1 (length (((a ++ b) ++ c) ++ 44 ∷ [])) text ∙ ap (λ (n : ℕ). drop n text) (omega (arith, long))) ∙ ap (drop 1) (dropped (((a ++ b) ++ c) ++ 44 ∷ []) X text _ whole refl)
 
 -- after who is traced
 module _ (t : AnyTerm) (seen : List Sight) (text : List ℕ) (s : IsSeenSo t seen text) (tag who word more : Sight) (others : List Sight) (there : seen ≡ tag ∷ who ∷ word ∷ more ∷ others)

@@ -17,7 +17,7 @@ use Rattle.trace_text.specs.Facts.{Function, arity_told}
 use Rattle.trace_text.specs.Pretty.{leaf_text, IsPretty}
 use Rattle.trace_text.specs.PrettyLines.{longest_message}
 use Rattle.trace_text.specs.Printed.{any_tuple_of}
-use Rattle.trace_text.specs.Sights.{sight, sights}
+use Rattle.trace_text.specs.Sights.{shape_of_function, sight, sights}
 use Rattle.trace_text.specs.SpellsAny.{SpellsAny}
 
 -- what is seen of a tuple's members; of any other term nothing
@@ -52,11 +52,20 @@ IsArity (Counted n) t = arity_told t ≡ Some (decimal n)
 IsArity (Told own) t = (z : ℤ) × (t ≡ leaf (int z)) × (own.now ≡ whole_signed z)
 IsArity Untold t = arity_told t ≡ None
 
+-- what is kept of a function's arguments
+pub record AreArguments (called : Called) (t : AnyTerm) : Type 0 where
+  pub own : List ℕ
+  pub rest : List ℕ
+  pub shape : called.shape ≡ shape_of_function (sight t).sort
+  pub size : called.size ≡ (sight t).sizes.first
+  pub pretty : IsPretty t own
+  pub text : called.arguments.now ≡ own ++ rest
+
 -- a function
 pub record IsCalledBy (called : Called) (f : Function) : Type 0 where
   pub is_module : called.of_module.now ≡ leaf_text f.of_module
   pub is_name : called.of_name.now ≡ leaf_text f.of_name
-  pub arity : IsArity called.arity f.arguments
+  pub arguments : AreArguments called f.arguments
 
 pub record IsTheFunction (called : Called) (o : Option Function) : Type 0 where
   pub f : Function

@@ -1,7 +1,7 @@
 //! The members of an object.
 ghost use Rattle.std.specs.Prelude.{◌≡◌, ◌++◌, ◌∷◌, [], codes, OnOk};
 ghost use Rattle.json.specs.Print.{escape, quoted};
-ghost use Rattle.trace_text.specs.Objects.{of_number, of_text, is_of_call, member_text, more_text, members_text};
+ghost use Rattle.trace_text.specs.Objects.{of_number, of_text, member_text, more_text, members_text};
 
 use crate::escapes::{put_escapes, put_quoted};
 use crate::term_text::put_number;
@@ -70,11 +70,4 @@ pub fn put_names(out: &mut Vec<u8>, home: &[u8], name: &[u8]) -> Result<(), Allo
     put_escapes(out, home)?;
     out.push(b':')?;
     put_escapes(out, name)
-}
-
-/// Whether messages of the kind of this word tell of a function.
-pub fn is_of_call(kind: &[u8]) -> bool
-    ensures { result ≡ is_of_call kind.now }
-{
-    kind == b"call".as_slice() || kind == b"return".as_slice() || kind == b"exception".as_slice()
 }

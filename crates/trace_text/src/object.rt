@@ -31,8 +31,7 @@ fn put_message_object(
     ensures { (bytes : List ℕ) → IsReadSo kind bytes seen.now text.now → OnOk result ((members : List Member) × IsObject number (Message bytes) members
         × (out.new.items ≡ out.old.items ++ object_line members)) }
 {
-    let kind = word_of(kind).as_bytes();
-    put_head(out, number, kind)?;
+    put_head(out, number, word_of(kind).as_bytes())?;
     put_facts(out, kind, seen, text)?;
     put_term(out, text)?;
     put_close(out)
