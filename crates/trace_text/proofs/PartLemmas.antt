@@ -98,6 +98,28 @@ leaf_by test never t own e p =
     let text = own_text l.0 own (subst (λ (t : AnyTerm). IsPretty t own) l.1 p) in
     (record { l = l.0; is = l.1; text = text; size = ap (λ (t : AnyTerm). (sight t).sizes.first) l.1 ∙ ap length (sym text) }, l.2)
 
+pub number_is : (t : AnyTerm) → is_number (sight t).sort ≡ true → (z : ℤ) × (t ≡ leaf (int z))
+number_is (leaf (int z)) e = (z, refl)
+number_is t e = absurd cc
+
+leaf_there : (t : AnyTerm) (l : Leaf) (own : List ℕ) → t ≡ leaf l → IsPretty t own → OfLeaf t own
+leaf_there t l own is p =
+    let text = own_text l own (subst (λ (t : AnyTerm). IsPretty t own) is p) in
+    record { l = l; is = is; text = text; size = ap (λ (t : AnyTerm). (sight t).sizes.first) is ∙ ap length (sym text) }
+
+function_number : (s : Sort) → shape_of_function s ≡ shapes.Function → is_number s ≡ true
+function_number sorts.Number e = refl
+function_number (sorts.Character c) e = refl
+function_number (sorts.List count) e = absurd cc
+function_number s e = absurd cc
+
+pub told_arity : (t : AnyTerm) (own text : List ℕ) (size : ℕ) (shape : Shape) → shape ≡ shape_of_function (sight t).sort → shape ≡ shapes.Function → size ≡ (sight t).sizes.first → IsPretty t own
+    → (z : ℤ) × (t ≡ leaf (int z)) × (own ≡ whole_signed z) × (size ≡ length own)
+told_arity t own text size shape is f sized p =
+    let z = number_is t (function_number (sight t).sort (sym is ∙ f)) in
+    let o = leaf_there t (int z.0) own z.1 p in
+    (z.0, z.1, own_text (int z.0) own (subst (λ (t : AnyTerm). IsPretty t own) z.1 p), sized ∙ o.size)
+
 -- ---- who is traced
 
 tagged : (a : AnyTerm) (ts : AnyMembers) → is_tag (sight a).sort ≡ true → behind_tag (tuple (member a ts)) ≡ ts

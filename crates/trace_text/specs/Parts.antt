@@ -1,5 +1,5 @@
 -- What is read of a message, and the parts that it tells of.
-use Rattle.std.specs.Prelude.{◌≡◌, ℕ, ℤ, ◌≤◌, List, [], ◌++◌, length, Bool, true, false, Option, Some, None, Result, Ok, MatchOption, MatchResult}
+use Rattle.std.specs.Prelude.{◌≡◌, ℕ, ℤ, ◌≤◌, List, [], ◌∷◌, ◌++◌, length, Bool, true, false, Option, Some, None, Result, Ok, MatchOption, MatchResult}
 use Rattle.std.specs.Fmt.{decimal}
 use Rattle.ext_format.specs.declared.fault.DecodeFault.{DecodeFault}
 use Rattle.ext_format.specs.Reading.{Read, Fails}
@@ -9,6 +9,7 @@ use Rattle.trace_text.specs.declared.message.Called.{Called}
 use Rattle.trace_text.specs.declared.message.Opening.{Opening}
 use Rattle.trace_text.specs.declared.sight.Kind.{Kind}
 use Rattle.trace_text.specs.declared.sight.Sight.{Sight}
+use Rattle.trace_text.specs.declared.sight.Sort.TheVariants as sorts
 use Rattle.trace_text.specs.declared.told.Told.{Told as Written}
 use Rattle.trace_text.specs.BigText.{whole_signed}
 use Rattle.trace_text.specs.AnyTerm.{Leaf, int, AnyTerm, leaf, tuple}
@@ -52,14 +53,16 @@ IsArity (Counted n) t = arity_told t ≡ Some (decimal n)
 IsArity (Told own) t = (z : ℤ) × (t ≡ leaf (int z)) × (own.now ≡ whole_signed z)
 IsArity Untold t = arity_told t ≡ None
 
--- what is kept of a function's arguments
+-- what is kept of a function's arguments: its tuple, and a text in which they stand after its name
 pub record AreArguments (called : Called) (t : AnyTerm) : Type 0 where
+  pub name : List ℕ
   pub own : List ℕ
   pub rest : List ℕ
-  pub shape : called.shape ≡ shape_of_function (sight t).sort
-  pub size : called.size ≡ (sight t).sizes.first
+  pub shape : called.seen.now.sort ≡ sorts.Tuple (shape_of_function (sight t).sort)
+  pub name_size : called.seen.now.sizes.second ≡ length name
+  pub size : called.seen.now.sizes.third ≡ (sight t).sizes.first
   pub pretty : IsPretty t own
-  pub text : called.arguments.now ≡ own ++ rest
+  pub text : called.from_name.now ≡ name ++ 44 ∷ (own ++ rest)
 
 -- a function
 pub record IsCalledBy (called : Called) (f : Function) : Type 0 where
