@@ -57,6 +57,11 @@ counts_put old a b c d e m n o v w x y z = closed old d e (m ∷ n ∷ o ∷ [])
 pub number_put : (old a b c : List ℕ) (m n o : Member) → a ≡ old ++ 123 ∷ members_text (m ∷ n ∷ []) → b ≡ a ++ more_text (o ∷ []) → c ≡ b ++ 125 ∷ 10 ∷ [] → c ≡ old ++ object_line (m ∷ n ∷ o ∷ [])
 number_put old a b c m n o x y z = closed old b c (m ∷ n ∷ o ∷ []) (grown old a b m (n ∷ []) (o ∷ []) x y) z
 
+pub part_put : (old a b c d e : List ℕ) (m n o p q : Member) → a ≡ old ++ 123 ∷ members_text (m ∷ n ∷ []) → b ≡ a ++ more_text (o ∷ []) → c ≡ b ++ more_text (p ∷ []) → d ≡ c ++ more_text (q ∷ [])
+    → e ≡ d ++ 125 ∷ 10 ∷ [] → e ≡ old ++ object_line (m ∷ n ∷ o ∷ p ∷ q ∷ [])
+part_put old a b c d e m n o p q v w x y z =
+    closed old d e (m ∷ n ∷ o ∷ p ∷ q ∷ []) (grown old c d m (n ∷ o ∷ p ∷ []) (q ∷ []) (grown old b c m (n ∷ o ∷ []) (p ∷ []) (grown old a b m (n ∷ []) (o ∷ []) v w) x) y) z
+
 pub message_put : (old a b c d : List ℕ) (m n o : Member) (facts : List Member) → a ≡ old ++ 123 ∷ members_text (m ∷ n ∷ []) → b ≡ a ++ more_text facts → c ≡ b ++ more_text (o ∷ []) → d ≡ c ++ 125 ∷ 10 ∷ []
     → d ≡ old ++ object_line (m ∷ n ∷ (facts ++ o ∷ []))
 message_put old a b c d m n o facts w x y z =

@@ -23,3 +23,4 @@ pub mod Facts
 pub mod Parts
 pub mod Choosing
 pub mod Objects
+pub mod PartLines

@@ -3,7 +3,7 @@ ghost use Rattle.std.specs.Prelude.{◌≡◌, ◌∷◌, ◌++◌, ℕ, List, [
 ghost use Rattle.entry_codec.specs.{Entries.Message};
 ghost use Rattle.trace_text.specs.Choosing.{asks_of, suits_opaque, suits_if, term_in};
 ghost use Rattle.trace_text.specs.Objects.{Member, IsObject, number_members, opaque_members, drop_members, counts_members, end_members, object_line};
-ghost use Rattle.trace_text.specs.Parts.{IsReadSo};
+ghost use Rattle.trace_text.specs.{Parts.IsReadSo, PartLines.part_members};
 
 use crate::any_term::Sighted;
 use crate::choice::Choice;
@@ -57,6 +57,23 @@ pub fn put_opaque_object(out: &mut Vec<u8>, number: u64, size: u64) -> Result<()
     ensures { OnOk result (out.new.items ≡ out.old.items ++ object_line (opaque_members number size)) }
 {
     put_number_object(out, number, b"opaque", b"size", size)
+}
+
+/// A part of a message of so many bytes that isn't there whole.
+pub fn put_part_object(
+    out: &mut Vec<u8>,
+    number: u64,
+    part: u64,
+    of: u64,
+    size: u64,
+) -> Result<(), AllocError>
+    ensures { OnOk result (out.new.items ≡ out.old.items ++ object_line (part_members number part of size)) }
+{
+    put_head(out, number, b"part")?;
+    put_more_number(out, b"part", part)?;
+    put_more_number(out, b"of", of)?;
+    put_more_number(out, b"size", size)?;
+    put_close(out)
 }
 
 /// So many lost messages.
