@@ -75,6 +75,11 @@ dropped first rest text n is counted = ap (λ (k : ℕ). drop k text) counted �
 pub dropped_twice : (first rest text once : List ℕ) (n m : ℕ) → text ≡ first ++ rest → once ≡ drop n text → n + m ≡ length first → drop m once ≡ rest
 dropped_twice first rest text once n m is from counted = ap (drop m) from ∙ drop-drop m n text ∙ dropped first rest text _ is (omega (arith, counted))
 
+-- what stands behind a text and the sign after it
+pub after_sign : (first rest text once : List ℕ) (sign n : ℕ) → text ≡ first ++ sign ∷ rest → once ≡ drop n text → n ≡ length first → drop 1 once ≡ rest
+after_sign first rest text once sign n is from counted =
+    dropped_twice (first ++ sign ∷ []) rest text once n 1 (is ∙ sym (append_assoc first (sign ∷ []) rest)) from (omega (arith, counted, length-append first (sign ∷ [])))
+
 -- the texts of a tuple's members
 pub tuple_begins : (a : AnyTerm) (ts : AnyMembers) (text more : List ℕ) → IsPretty (tuple (member a ts)) text
     → (own rest : List ℕ) × IsPretty a own × ArePretty Behind ts rest × (text ++ more ≡ 123 ∷ (own ++ (rest ++ 125 ∷ more)))
@@ -372,19 +377,23 @@ seen_told t seen tag who word more is tells there =
 pub told_long : (t : AnyTerm) (seen : List Sight) → seen ≡ members_seen t → tells_function (sight t).kind ≡ true → 4 ≤ length seen
 told_long t seen is tells = let o = tells_so t tells in omega (arith, ap length (is ∙ ap members_seen o.is))
 
-pub dropped_four : {t : AnyTerm} {text : List ℕ} {tag who word more : Sight} (h : HasFourth t text tag who word more)
-    → drop 5 (drop word.sizes.first (drop who.sizes.first (drop tag.sizes.first text))) ≡ drop 1 (h.fourth ++ h.rest)
-dropped_four {t} {text} {tag} {who} {word} {more} h =
+pub four_fit : {t : AnyTerm} {text : List ℕ} {tag who word more : Sight} (h : HasFourth t text tag who word more) → tag.sizes.first + who.sizes.first + word.sizes.first + 4 ≤ length text
+four_fit h =
+    omega (arith, ap length h.text_is, length-append h.first (44 ∷ (h.second ++ 44 ∷ (h.third ++ 44 ∷ (h.fourth ++ h.rest)))), length-append h.second (44 ∷ (h.third ++ 44 ∷ (h.fourth ++ h.rest))),
+    length-append h.third (44 ∷ (h.fourth ++ h.rest)), h.tag_size, h.who_size, h.word_size)
+
+pub dropped_four : {t : AnyTerm} {text : List ℕ} {tag who word more : Sight} (h : HasFourth t text tag who word more) (place : ℕ) → place ≡ tag.sizes.first + who.sizes.first + word.sizes.first + 5
+    → drop place text ≡ drop 1 (h.fourth ++ h.rest)
+dropped_four {t} {text} {tag} {who} {word} {more} h place is =
     let a = 123 ∷ h.first in
     let b = 44 ∷ h.second in
     let c = 44 ∷ h.third in
     let X = h.fourth ++ h.rest in
     let whole : text ≡ (((a ++ b) ++ c) ++ 44 ∷ []) ++ X =
     h.text_is ∙ sym (append_assoc a b (c ++ 44 ∷ X)) ∙ sym (append_assoc (a ++ b) c (44 ∷ X)) ∙ sym (append_assoc ((a ++ b) ++ c) (44 ∷ []) X) in
-    let long : length (((a ++ b) ++ c) ++ 44 ∷ []) ≡ tag.sizes.first + who.sizes.first + word.sizes.first + 4 =
-    omega (arith, length-append ((a ++ b) ++ c) (44 ∷ []), length-append (a ++ b) c, length-append a b, h.tag_size, h.who_size, h.word_size) in
-    ap (drop 5) (ap (drop word.sizes.first) (drop-drop who.sizes.first tag.sizes.first text) ∙ drop-drop word.sizes.first _ text) ∙ drop-drop 5 _ text
-    ∙ sym (drop-drop 1 (length (((a ++ b) ++ c) ++ 44 ∷ [])) text ∙ ap (λ (n : ℕ). drop n text) (omega (arith, long))) ∙ ap (drop 1) (dropped (((a ++ b) ++ c) ++ 44 ∷ []) X text _ whole refl)
+    let long : place ≡ length (((a ++ b) ++ c) ++ 44 ∷ []) + 1 =
+    omega (arith, is, length-append ((a ++ b) ++ c) (44 ∷ []), length-append (a ++ b) c, length-append a b, h.tag_size, h.who_size, h.word_size) in
+    ap (λ (n : ℕ). drop n text) long ∙ sym (drop-drop 1 (length (((a ++ b) ++ c) ++ 44 ∷ [])) text) ∙ ap (drop 1) (dropped (((a ++ b) ++ c) ++ 44 ∷ []) X text _ whole refl)
 
 -- after who is traced
 module _ (t : AnyTerm) (seen : List Sight) (text : List ℕ) (s : IsSeenSo t seen text) (tag who word more : Sight) (others : List Sight) (there : seen ≡ tag ∷ who ∷ word ∷ more ∷ others)

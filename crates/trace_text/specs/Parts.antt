@@ -53,22 +53,22 @@ IsArity (Counted n) t = arity_told t ≡ Some (decimal n)
 IsArity (Told own) t = (z : ℤ) × (t ≡ leaf (int z)) × (own.now ≡ whole_signed z)
 IsArity Untold t = arity_told t ≡ None
 
--- what is kept of a function's arguments: its tuple, and a text in which they stand after its name
-pub record AreArguments (called : Called) (t : AnyTerm) : Type 0 where
-  pub name : List ℕ
+-- a function's arguments stand in a text after its name
+pub record BeginsWithName (text : List ℕ) (f : Function) : Type 0 where
   pub own : List ℕ
   pub rest : List ℕ
-  pub shape : called.seen.now.sort ≡ sorts.Tuple (shape_of_function (sight t).sort)
-  pub name_size : called.seen.now.sizes.second ≡ length name
-  pub size : called.seen.now.sizes.third ≡ (sight t).sizes.first
-  pub pretty : IsPretty t own
-  pub text : called.from_name.now ≡ name ++ 44 ∷ (own ++ rest)
+  pub pretty : IsPretty f.arguments own
+  pub is : text ≡ leaf_text f.of_name ++ 44 ∷ (own ++ rest)
 
--- a function
+-- a function: what is seen of its tuple, and a text that begins with its module
 pub record IsCalledBy (called : Called) (f : Function) : Type 0 where
-  pub is_module : called.of_module.now ≡ leaf_text f.of_module
-  pub is_name : called.of_name.now ≡ leaf_text f.of_name
-  pub arguments : AreArguments called f.arguments
+  pub behind : List ℕ
+  pub named : BeginsWithName behind f
+  pub text : called.text.now ≡ leaf_text f.of_module ++ 44 ∷ behind
+  pub shape : called.seen.now.sort ≡ sorts.Tuple (shape_of_function (sight f.arguments).sort)
+  pub module_size : called.seen.now.sizes.first ≡ length (leaf_text f.of_module)
+  pub name_size : called.seen.now.sizes.second ≡ length (leaf_text f.of_name)
+  pub size : called.seen.now.sizes.third ≡ (sight f.arguments).sizes.first
 
 pub record IsTheFunction (called : Called) (o : Option Function) : Type 0 where
   pub f : Function

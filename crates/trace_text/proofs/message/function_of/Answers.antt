@@ -1,7 +1,8 @@
-use Rattle.std.proofs.Common.{[], ◌∷◌, ◌++◌, drop, ap, sym, ◌∙◌, append_assoc, length-append, arith}
+use Rattle.std.proofs.Common.{ℕ, List, ◌∷◌, ◌++◌, drop, length, ap, sym, ◌∙◌, refl}
+use Rattle.trace_text.specs.Pretty.{leaf_text}
 use Rattle.trace_text.specs.declared.sight.Sight.{Sight}
 use Rattle.trace_text.specs.declared.sight.Sort.TheVariants as sorts
-use Rattle.trace_text.proofs.PartLemmas.{names_there, has_names, dropped_twice}
+use Rattle.trace_text.proofs.PartLemmas.{names_there, has_names}
 use Rattle.trace_text.proofs.message.function_of.Goals as goal
 
 pub returns : goal.returns
@@ -10,17 +11,17 @@ returns c = λ t own rest e p is.
     let sort = ap (λ (s : Sight). s.sort) (sym e) ∙ c.in-Tuple.is in
     let n = names_there t shape sort (sym c.is_function.ensures ∙ c.if-not-is_function.false) in
     let h = has_names t shape own rest n p in
-    let module_size = ap (λ (s : Sight). s.sizes.first) e ∙ h.module_size in
-    let name_size = ap (λ (s : Sight). s.sizes.second) e ∙ h.name_size in
-    let text = is ∙ ap (drop 1) h.text_is in
-    let second = c.behind-of_name.ensures ∙ dropped_twice (h.first ++ 44 ∷ []) (h.second ++ 44 ∷ (h.third ++ h.rest)) _ _ _ 1 (text ∙ sym (append_assoc h.first (44 ∷ []) (h.second ++ 44 ∷ (h.third ++ h.rest)))) c.behind.ensures
-    (omega (arith, module_size, length-append h.first (44 ∷ []))) in
+    let behind = leaf_text h.f.of_name ++ 44 ∷ (h.third ++ h.rest) in
     record {
       f = h.f;
       is = h.is;
       by = record {
-        is_module = c.front.ensures h.first (44 ∷ (h.second ++ 44 ∷ (h.third ++ h.rest))) text module_size ∙ h.module_text;
-        is_name = c.front-2.ensures h.second (44 ∷ (h.third ++ h.rest)) second name_size ∙ h.name_text;
-        arguments = record { name = h.second; own = h.third; rest = h.rest; shape = c.in-Tuple.is ∙ ap (λ s. sorts.Tuple s) h.shape_is; name_size = name_size; size = ap (λ (s : Sight). s.sizes.third) e ∙ h.arguments_size; pretty = h.pretty; text = second };
+        behind = behind;
+        named = record { own = h.third; rest = h.rest; pretty = h.pretty; is = refl };
+        text = is ∙ ap (drop 1) h.text_is ∙ ap (λ (l : List ℕ). h.first ++ 44 ∷ (l ++ 44 ∷ (h.third ++ h.rest))) h.name_text ∙ ap (λ (l : List ℕ). l ++ 44 ∷ behind) h.module_text;
+        shape = c.in-Tuple.is ∙ ap (λ s. sorts.Tuple s) h.shape_is;
+        module_size = ap (λ (s : Sight). s.sizes.first) e ∙ h.module_size ∙ ap length h.module_text;
+        name_size = ap (λ (s : Sight). s.sizes.second) e ∙ h.name_size ∙ ap length h.name_text;
+        size = ap (λ (s : Sight). s.sizes.third) e ∙ h.arguments_size;
       };
     }
