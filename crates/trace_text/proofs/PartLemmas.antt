@@ -463,7 +463,7 @@ unfolding head_of
 no_minus zero xs lt e = let h : 45 ≡ 48 + 0 = ap head_of (e ∙ decimal_digit 0 (omega arith)) in omega (arith, h)
 no_minus (suc n) xs lt e = each_digit _ xs (e ∙ decimal-digits_of (suc n) (omega arith) lt)
 
-false_if : (b : Bool) → (b ≡ true → ⊥) → b ≡ false
+pub false_if : (b : Bool) → (b ≡ true → ⊥) → b ≡ false
 false_if true never = absurd (never refl)
 false_if false never = refl
 

@@ -1,7 +1,9 @@
 -- What a choice asks for, part by part.
 use Rattle.std.specs.Prelude.{not, is_some, is_none, IfOk}
-use Rattle.std.proofs.Common.{◌≡◌, ℕ, ◌<◌, ◌≤◌, Bool, true, false, ◌&&◌, ◌||◌, cond, leb, eqb, List, [], length, take, codes, Option, Some, None, Result, Ok, Err, inl, inr, refl, sym, ap, ◌∙◌, subst, arith}
+use Rattle.std.proofs.Common.{◌≡◌, ℕ, ◌<◌, ◌≤◌, Bool, true, false, ◌&&◌, ◌||◌, cond, leb, eqb, List, [], ◌∷◌, ◌++◌, length, length-append, take, codes, Option, Some, None, Result, Ok, Err, inl, inr, refl, sym, ap, ◌∙◌, subst, arith}
 use Rattle.std.specs.Option.{option_map}
+use Rattle.std.specs.Str.{bytes_eq}
+use Rattle.std.proofs.lemmas.Slice.Eq.{bytes_eq-Decides}
 use Rattle.std.proofs.lemmas.Bool.{le-leb, lt-leb, eq-eqb, eqb-true}
 use Rattle.std.proofs.lemmas.List.{append-nil, take_all}
 use Rattle.ext_format.specs.declared.fault.DecodeFault.{DecodeFault}
@@ -9,7 +11,7 @@ use Rattle.ext_format.proofs.FieldLaws.{IsBytes}
 use Rattle.trace_text.specs.AnyTerm.{AnyTerm}
 use Rattle.trace_text.specs.AnyReading.{any_whole_at}
 use Rattle.trace_text.specs.Facts.{Function, function_of, tells_function, called}
-use Rattle.trace_text.specs.Choosing.{Asks, asks_no_text, is_of_kinds, is_of_pid, is_shown, is_of_arity, is_called, is_of_function, suits, suits_opaque, suits_if, if_all, term_in}
+use Rattle.trace_text.specs.Choosing.{Asks, asks_no_text, is_of_kinds, is_of_pid, is_text, is_shown, is_of_arity, is_called, is_of_function, suits, suits_opaque, suits_if, if_all, term_in}
 use Rattle.trace_text.specs.Objects.{IsUnread}
 use Rattle.trace_text.specs.Parts.{IsReadSo}
 use Rattle.trace_text.specs.Pretty.{leaf_text}
@@ -20,25 +22,55 @@ use Rattle.trace_text.specs.declared.sight.Kind.{Kind}
 use Rattle.trace_text.specs.declared.sight.Sight.{Sight}
 use Rattle.trace_text.proofs.AnyAgain.{whole_again}
 use Rattle.trace_text.proofs.AnySound.{whole_takes}
+use Rattle.trace_text.proofs.PartLemmas.{false_if}
 
 pub asks_some : {A B : Type 0} (f : A → B) (o : Option A) (b : Bool) → is_some o ≡ not b → b ≡ false → is_none (option_map f o) ≡ false
 asks_some f None b is no_none = let e : false ≡ true = is ∙ ap not no_none in absurd cc
 asks_some f (Some x) b is no_none = refl
 
-pub called_so : (asks : Asks) (f : Function) (first second : List ℕ) (a b : Bool) → first ≡ leaf_text f.of_module → second ≡ leaf_text f.of_name → is_shown asks.of_module first ≡ a → is_shown asks.of_name second ≡ b
-    → is_called asks (Some f) ≡ (a && (b && is_of_arity asks.of_arity f.arguments))
-called_so asks f first second a b one two has named =
-    ap (λ (c : Bool). c && (is_shown asks.of_name (leaf_text f.of_name) && is_of_arity asks.of_arity f.arguments)) (ap (is_shown asks.of_module) (sym one) ∙ has)
-    ∙ ap (λ (c : Bool). a && (c && is_of_arity asks.of_arity f.arguments)) (ap (is_shown asks.of_name) (sym two) ∙ named)
+and_false : (b : Bool) → (b && false) ≡ false
+and_false true = refl
+and_false false = refl
 
-none_called : (asks : Asks) (b : Bool) → is_called asks (cond b None None) ≡ false
-none_called asks true = refl
-none_called asks false = refl
+and_true : (b : Bool) → (b && true) ≡ b
+and_true true = refl
+and_true false = refl
 
-pub no_function_asked : (asks : Asks) (t : AnyTerm) → is_none asks.of_module ≡ false → function_of t ≡ None → is_of_function asks t ≡ false
-no_function_asked asks t some none =
-    ap (λ (b : Bool). b || is_called asks (cond (tells_function (sight t).kind) (function_of t) None)) some
-    ∙ ap (λ (o : Option Function). is_called asks (cond (tells_function (sight t).kind) o None)) none ∙ none_called asks (tells_function (sight t).kind)
+pub no_arity_called : (asks : Asks) (f : Function) → is_of_arity asks.of_arity f.arguments ≡ false → is_called asks (Some f) ≡ false
+no_arity_called asks f e =
+    let m = is_shown asks.of_module (leaf_text f.of_module) in
+    let n = is_shown asks.of_name (leaf_text f.of_name) in
+    ap (λ (b : Bool). m && (n && b)) e ∙ ap (λ (b : Bool). m && b) (and_false n) ∙ and_false m
+
+pub no_name_called : (asks : Asks) (f : Function) (own : List ℕ) → own ≡ leaf_text f.of_name → is_shown asks.of_name own ≡ false → is_called asks (Some f) ≡ false
+no_name_called asks f own is e =
+    let m = is_shown asks.of_module (leaf_text f.of_module) in
+    ap (λ (b : Bool). m && (b && is_of_arity asks.of_arity f.arguments)) (ap (is_shown asks.of_name) (sym is) ∙ e) ∙ and_false m
+
+pub module_called : (asks : Asks) (f : Function) (first second : List ℕ) → first ≡ leaf_text f.of_module → second ≡ leaf_text f.of_name → is_of_arity asks.of_arity f.arguments ≡ true → is_shown asks.of_name second ≡ true
+    → is_called asks (Some f) ≡ is_shown asks.of_module first
+module_called asks f first second is named counted has =
+    let m = is_shown asks.of_module (leaf_text f.of_module) in
+    let n = is_shown asks.of_name (leaf_text f.of_name) in
+    ap (λ (b : Bool). m && (n && b)) counted ∙ ap (λ (b : Bool). m && (b && true)) (ap (is_shown asks.of_name) (sym named) ∙ has) ∙ and_true m ∙ ap (is_shown asks.of_module) (sym is)
+
+-- ---- texts by how long they are
+
+other_length : (a b : List ℕ) → (length a ≡ length b → ⊥) → bytes_eq a b ≡ false
+other_length a b never = false_if (bytes_eq a b) (λ e. never (ap length ((bytes_eq-Decides a b).0 e)))
+
+pub text_as_long : (opening closing : ℕ) (asked shown : List ℕ) → length shown ≡ length asked → is_text opening closing asked shown ≡ bytes_eq shown asked
+text_as_long opening closing asked shown same =
+    ap (λ (b : Bool). bytes_eq shown asked || b) (other_length shown (opening ∷ (asked ++ closing ∷ [])) (λ e. omega (arith, e, same, length-append asked (closing ∷ [])))) ∙ or_false (bytes_eq shown asked)
+  where
+    or_false : (b : Bool) → (b || false) ≡ b
+    or_false true = refl
+    or_false false = refl
+
+pub text_between : (opening closing : ℕ) (asked shown : List ℕ) → (length shown ≡ length asked → ⊥) → is_text opening closing asked shown ≡ bytes_eq shown (opening ∷ (asked ++ closing ∷ []))
+text_between opening closing asked shown never = ap (λ (b : Bool). b || bytes_eq shown (opening ∷ (asked ++ closing ∷ []))) (other_length shown asked never)
+
+-- ---- functions
 
 pub no_call_asked : (asks : Asks) (t : AnyTerm) (kind : Option Kind) → is_none asks.of_module ≡ false → kind ≡ (sight t).kind → tells_function kind ≡ false → is_of_function asks t ≡ false
 no_call_asked asks t kind some is tells =

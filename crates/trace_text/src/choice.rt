@@ -122,7 +122,11 @@ fn is_between(opening: u8, closing: u8, asked: &[u8], shown: &[u8]) -> bool
 pub fn is_text(opening: u8, closing: u8, asked: &[u8], shown: &[u8]) -> bool
     ensures { result ≡ is_text opening closing asked.now shown.now }
 {
-    shown == asked || is_between(opening, closing, asked, shown)
+    if shown.len() == asked.len() {
+        shown == asked
+    } else {
+        is_between(opening, closing, asked, shown)
+    }
 }
 
 /// Whether an atom is shown so, where one is asked for.
