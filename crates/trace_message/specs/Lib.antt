@@ -5,5 +5,4 @@ pub mod Messages
 pub mod Shapes
 pub mod Tuples
 pub mod Words
-pub mod Looks
 pub mod Rows
