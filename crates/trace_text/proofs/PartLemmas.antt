@@ -361,6 +361,7 @@ pub record HasFourth (t : AnyTerm) (text : List ℕ) (tag who word more : Sight)
   pub seen : more ≡ sight d
   pub pretty : IsPretty d fourth
   pub is : function_of t ≡ function_in d
+  pub some : 0 < length rest
 
 -- a message of a kind that tells of a function, by what was seen of it
 pub record SeenTold (tag who word : Sight) : Type 0 where
@@ -377,10 +378,20 @@ seen_told t seen tag who word more is tells there =
 pub told_long : (t : AnyTerm) (seen : List Sight) → seen ≡ members_seen t → tells_function (sight t).kind ≡ true → 4 ≤ length seen
 told_long t seen is tells = let o = tells_so t tells in omega (arith, ap length (is ∙ ap members_seen o.is))
 
-pub four_fit : {t : AnyTerm} {text : List ℕ} {tag who word more : Sight} (h : HasFourth t text tag who word more) → tag.sizes.first + who.sizes.first + word.sizes.first + 4 ≤ length text
+pub four_fit : {t : AnyTerm} {text : List ℕ} {tag who word more : Sight} (h : HasFourth t text tag who word more) → tag.sizes.first + who.sizes.first + word.sizes.first + 5 ≤ length text
 four_fit h =
-    omega (arith, ap length h.text_is, length-append h.first (44 ∷ (h.second ++ 44 ∷ (h.third ++ 44 ∷ (h.fourth ++ h.rest)))), length-append h.second (44 ∷ (h.third ++ 44 ∷ (h.fourth ++ h.rest))),
-    length-append h.third (44 ∷ (h.fourth ++ h.rest)), h.tag_size, h.who_size, h.word_size)
+    omega (
+      arith,
+      ap length h.text_is,
+      length-append h.first (44 ∷ (h.second ++ 44 ∷ (h.third ++ 44 ∷ (h.fourth ++ h.rest)))),
+      length-append h.second (44 ∷ (h.third ++ 44 ∷ (h.fourth ++ h.rest))),
+      length-append h.third (44 ∷ (h.fourth ++ h.rest)),
+      length-append h.fourth h.rest,
+      h.some,
+      h.tag_size,
+      h.who_size,
+      h.word_size,
+    )
 
 pub dropped_four : {t : AnyTerm} {text : List ℕ} {tag who word more : Sight} (h : HasFourth t text tag who word more) (place : ℕ) → place ≡ tag.sizes.first + who.sizes.first + word.sizes.first + 5
     → drop place text ≡ drop 1 (h.fourth ++ h.rest)
@@ -444,6 +455,7 @@ module _ (t : AnyTerm) (seen : List Sight) (text : List ℕ) (s : IsSeenSo t see
           seen = four.seen;
           pretty = fourth.2;
           is = behind_is ∙ ap (option_and_then (λ _. function_in four.d)) third_is.1;
+          some = omega (arith, length-append fourth.1 (125 ∷ []));
         }
 
 -- ---- what is told of arguments

@@ -42,17 +42,16 @@ no_arity_called asks f e =
     let n = is_shown asks.of_name (leaf_text f.of_name) in
     ap (λ (b : Bool). m && (n && b)) e ∙ ap (λ (b : Bool). m && b) (and_false n) ∙ and_false m
 
-pub no_name_called : (asks : Asks) (f : Function) (own : List ℕ) → own ≡ leaf_text f.of_name → is_shown asks.of_name own ≡ false → is_called asks (Some f) ≡ false
-no_name_called asks f own is e =
+pub no_name_called : (asks : Asks) (f : Function) → is_shown asks.of_name (leaf_text f.of_name) ≡ false → is_called asks (Some f) ≡ false
+no_name_called asks f e =
     let m = is_shown asks.of_module (leaf_text f.of_module) in
-    ap (λ (b : Bool). m && (b && is_of_arity asks.of_arity f.arguments)) (ap (is_shown asks.of_name) (sym is) ∙ e) ∙ and_false m
+    ap (λ (b : Bool). m && (b && is_of_arity asks.of_arity f.arguments)) e ∙ and_false m
 
-pub module_called : (asks : Asks) (f : Function) (first second : List ℕ) → first ≡ leaf_text f.of_module → second ≡ leaf_text f.of_name → is_of_arity asks.of_arity f.arguments ≡ true → is_shown asks.of_name second ≡ true
-    → is_called asks (Some f) ≡ is_shown asks.of_module first
-module_called asks f first second is named counted has =
+pub module_called : (asks : Asks) (f : Function) → is_of_arity asks.of_arity f.arguments ≡ true → is_shown asks.of_name (leaf_text f.of_name) ≡ true → is_called asks (Some f) ≡ is_shown asks.of_module (leaf_text f.of_module)
+module_called asks f counted named =
     let m = is_shown asks.of_module (leaf_text f.of_module) in
     let n = is_shown asks.of_name (leaf_text f.of_name) in
-    ap (λ (b : Bool). m && (n && b)) counted ∙ ap (λ (b : Bool). m && (b && true)) (ap (is_shown asks.of_name) (sym named) ∙ has) ∙ and_true m ∙ ap (is_shown asks.of_module) (sym is)
+    ap (λ (b : Bool). m && (n && b)) counted ∙ ap (λ (b : Bool). m && (b && true)) named ∙ and_true m
 
 -- ---- texts by how long they are
 

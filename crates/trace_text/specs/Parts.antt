@@ -53,18 +53,13 @@ IsArity (Counted n) t = arity_told t ≡ Some (decimal n)
 IsArity (Told own) t = (z : ℤ) × (t ≡ leaf (int z)) × (own.now ≡ whole_signed z)
 IsArity Untold t = arity_told t ≡ None
 
--- a function's arguments stand in a text after its name
-pub record BeginsWithName (text : List ℕ) (f : Function) : Type 0 where
+-- a function: what is seen of its tuple, and texts that begin with its module and with its name
+pub record IsCalledBy (called : Called) (f : Function) : Type 0 where
   pub own : List ℕ
   pub rest : List ℕ
   pub pretty : IsPretty f.arguments own
-  pub is : text ≡ leaf_text f.of_name ++ 44 ∷ (own ++ rest)
-
--- a function: what is seen of its tuple, and a text that begins with its module
-pub record IsCalledBy (called : Called) (f : Function) : Type 0 where
-  pub behind : List ℕ
-  pub named : BeginsWithName behind f
-  pub text : called.text.now ≡ leaf_text f.of_module ++ 44 ∷ behind
+  pub named : called.from_name.now ≡ leaf_text f.of_name ++ 44 ∷ (own ++ rest)
+  pub text : called.from_module.now ≡ leaf_text f.of_module ++ 44 ∷ called.from_name.now
   pub shape : called.seen.now.sort ≡ sorts.Tuple (shape_of_function (sight f.arguments).sort)
   pub module_size : called.seen.now.sizes.first ≡ length (leaf_text f.of_module)
   pub name_size : called.seen.now.sizes.second ≡ length (leaf_text f.of_name)

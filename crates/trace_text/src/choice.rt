@@ -1,9 +1,11 @@
 //! Which entries are listed.
-ghost use Rattle.std.specs.Prelude.{is_none, ◌≡◌, ◌&&◌, ◌∷◌, ◌++◌, [], Some};
+ghost use Rattle.std.specs.Prelude.{is_none, ◌≡◌, ◌&&◌, ◌∷◌, ◌++◌, ℕ, List, [], Some, length};
 ghost use Rattle.std.specs.Option.{option_map};
 ghost use Rattle.std.specs.Prelude.{string_bytes};
 ghost use Rattle.std.specs.Str.{bytes_eq};
 ghost use Rattle.trace_text.specs.Choosing.{asks_of, asks_no_text, asks_nothing, is_from, is_to, ends, is_of_kinds, is_text, is_shown, suits_opaque};
+
+use crate::message::front;
 
 /// Which entries of a trace are to be listed: those that all of this holds of; None stands for what isn't asked for.
 #[derive(Debug, Default, Drop)]
@@ -122,20 +124,32 @@ fn is_between(opening: u8, closing: u8, asked: &[u8], shown: &[u8]) -> bool
 pub fn is_text(opening: u8, closing: u8, asked: &[u8], shown: &[u8]) -> bool
     ensures { result ≡ is_text opening closing asked.now shown.now }
 {
-    if shown.len() == asked.len() {
-        shown == asked
+    shown == asked || is_between(opening, closing, asked, shown)
+}
+
+/// Whether so many bytes at the front of a text are this atom, with or without quotes.
+#[inline(always)]
+fn begins_so(asked: &[u8], text: &[u8], size: usize) -> bool
+    ensures { (own rest : List ℕ) → text.now ≡ own ++ rest → size ≡ length own → result ≡ is_text 39 39 asked.now own }
+{
+    if size == asked.len() {
+        match text.split_at_checked(size) {
+            Some((shown, _)) => shown == asked,
+            None => false,
+        }
     } else {
-        is_between(opening, closing, asked, shown)
+        is_between(b'\'', b'\'', asked, front(text, size))
     }
 }
 
-/// Whether an atom is shown so, where one is asked for.
+/// Whether an atom, whose text is so many bytes at the front of this one, is shown so, where one is asked for.
 #[inline(always)]
-pub fn is_name(asked: &Option<String>, shown: &[u8]) -> bool
-    ensures { result ≡ is_shown (option_map string_bytes asked.now) shown.now }
+pub fn is_name(asked: &Option<String>, text: &[u8], size: usize) -> bool
+    ensures { (own rest : List ℕ) → text.now ≡ own ++ rest → size ≡ length own
+        → result ≡ is_shown (option_map string_bytes asked.now) own }
 {
     match asked {
-        Some(asked) => is_text(b'\'', b'\'', asked.as_bytes(), shown),
+        Some(asked) => begins_so(asked.as_bytes(), text, size),
         None => true,
     }
 }

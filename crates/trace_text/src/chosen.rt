@@ -1,9 +1,9 @@
 //! Whether an entry is one that a choice asks for.
 
-ghost use Rattle.std.specs.Prelude.{◌≡◌, ◌++◌, ℕ, List, IfOk, OnErr, IsTrue, IsFalse, false, codes};
+ghost use Rattle.std.specs.Prelude.{◌≡◌, ◌≤◌, ◌<◌, ◌++◌, ℕ, List, length, IfOk, OnErr, IsTrue, IsFalse, true, false, codes};
 ghost use Rattle.std.specs.Fmt.{decimal};
 ghost use Rattle.trace_text.specs.Choosing.{asks_of, asks_no_text, suits_opaque, suits_if, term_in};
-ghost use Rattle.trace_text.specs.PrettyLines.{IsPrettyTold};
+ghost use Rattle.trace_text.specs.PrettyLines.{IsPrettyTold, longest_message};
 
 use crate::any_term::Sighted;
 use crate::choice::Choice;
@@ -16,6 +16,7 @@ use std::alloc::AllocError;
 pub fn is_asked(apart: &mut Sighted, choice: &Choice, bytes: &[u8]) -> Result<bool, AllocError>
     ensures asked { IfOk result (λ is. is ≡ suits_if (asks_of choice.now) (term_in bytes.now)) }
     ensures memory { OnErr result (asks_no_text (asks_of choice.now) ≡ false) }
+    ensures short { OnErr result (length bytes.now ≤ longest_message) }
 {
     if choice.has_no_text() {
         return Ok(true);
@@ -36,6 +37,7 @@ pub fn put_asked(
     ensures asked { IfOk result (λ is. is ≡ suits_if (asks_of choice.now) (term_in bytes.now)) }
     ensures told { IfOk result (λ is. IsTrue is → (told : List ℕ) × IsPrettyTold bytes.now told × (text.new.items ≡ text.old.items ++ told)) }
     ensures other { IfOk result (λ is. IsFalse is → text.new.items ≡ text.old.items) }
+    ensures memory { OnErr result (longest_message < length bytes.now → suits_opaque (asks_of choice.now) ≡ true) }
 {
     let Some(kind) = read_message(told, bytes)? else {
         return put_unread(choice, text, bytes.len());
@@ -52,6 +54,7 @@ fn put_unread(choice: &Choice, text: &mut Vec<u8>, size: usize) -> Result<bool, 
     ensures asked { IfOk result (λ is. is ≡ suits_opaque (asks_of choice.now)) }
     ensures told { IfOk result (λ is. IsTrue is → text.new.items ≡ text.old.items ++ (codes "opaque " ++ decimal size)) }
     ensures other { IfOk result (λ is. IsFalse is → text.new.items ≡ text.old.items) }
+    ensures memory { OnErr result (suits_opaque (asks_of choice.now) ≡ true) }
 {
     if !choice.suits_opaque() {
         return Ok(false);

@@ -1,9 +1,9 @@
 //! The objects of a listing.
-ghost use Rattle.std.specs.Prelude.{◌≡◌, ◌∷◌, ◌++◌, ℕ, List, [], OnOk, IfOk, IsTrue, IsFalse};
+ghost use Rattle.std.specs.Prelude.{◌≡◌, ◌<◌, ◌∷◌, ◌++◌, ℕ, List, [], length, OnOk, OnErr, IfOk, IsTrue, IsFalse, true};
 ghost use Rattle.entry_codec.specs.{Entries.Message};
 ghost use Rattle.trace_text.specs.Choosing.{asks_of, suits_opaque, suits_if, term_in};
 ghost use Rattle.trace_text.specs.Objects.{Member, IsObject, number_members, opaque_members, drop_members, counts_members, end_members, object_line};
-ghost use Rattle.trace_text.specs.{Parts.IsReadSo, PartLines.part_members};
+ghost use Rattle.trace_text.specs.{Parts.IsReadSo, PartLines.part_members, PrettyLines.longest_message};
 
 use crate::any_term::Sighted;
 use crate::choice::Choice;
@@ -133,6 +133,7 @@ fn put_unread_object(
     ensures asked { IfOk result (λ is. is ≡ suits_opaque (asks_of choice.now)) }
     ensures told { IfOk result (λ is. IsTrue is → out.new.items ≡ out.old.items ++ object_line (opaque_members number size)) }
     ensures other { IfOk result (λ is. IsFalse is → out.new.items ≡ out.old.items) }
+    ensures memory { OnErr result (suits_opaque (asks_of choice.now) ≡ true) }
 {
     if !choice.suits_opaque() {
         return Ok(false);
@@ -152,6 +153,7 @@ pub fn put_asked_object(
     ensures asked { IfOk result (λ is. is ≡ suits_if (asks_of choice.now) (term_in bytes.now)) }
     ensures told { IfOk result (λ is. IsTrue is → (members : List Member) × IsObject number (Message bytes.now) members × (out.new.items ≡ out.old.items ++ object_line members)) }
     ensures other { IfOk result (λ is. IsFalse is → out.new.items ≡ out.old.items) }
+    ensures memory { OnErr result (longest_message < length bytes.now → suits_opaque (asks_of choice.now) ≡ true) }
 {
     let Some(kind) = read_message(told, bytes)? else {
         return put_unread_object(choice, out, number, bytes.len());

@@ -8,9 +8,9 @@ returns-then-has_no_text-clause-asked c = sym (all_suit (asks_of c.args.choice.n
 
 pub returns-in-Some-clause-asked : goal.returns-in-Some-clause-asked
 returns-in-Some-clause-asked c =
-    let read = rw c.in-Some.is at c.in_ok-kind.ensures in
+    let read = rw c.in-Some.is at c.in_ok-kind.ensures.read in
     let r = read_as c.in-Some.kind c.args.bytes.now _ _ _ _ c.deref.ensures.value c.deref-in-Some.ensures.value read in
     c.suits.ensures r.t r.is_kind r.is_seen ∙ asked_read (asks_of c.args.choice.now) c.in-Some.kind c.args.bytes.now _ _ r
 
 pub returns-in-None-clause-asked : goal.returns-in-None-clause-asked
-returns-in-None-clause-asked c = c.suits_opaque.ensures ∙ asked_unread (asks_of c.args.choice.now) c.args.bytes.now (λ i. omega (arith, c.type_inv.bytes i)) (rw c.in-None.is at c.in_ok-kind.ensures)
+returns-in-None-clause-asked c = c.suits_opaque.ensures ∙ asked_unread (asks_of c.args.choice.now) c.args.bytes.now (λ i. omega (arith, c.type_inv.bytes i)) (rw c.in-None.is at c.in_ok-kind.ensures.read)

@@ -3,6 +3,4 @@ use Rattle.trace_text.specs.Pretty.{leaf_text}
 use Rattle.trace_text.proofs.message.Called.of_name.Goals as goal
 
 pub returns : goal.returns
-returns c = λ f by.
-    let n = c.from_name.ensures f by in
-    c.front.ensures (leaf_text f.of_name) (44 ∷ (n.own ++ n.rest)) n.is by.name_size
+returns c = λ f by. c.front.ensures (leaf_text f.of_name) (44 ∷ (by.own ++ by.rest)) by.named by.name_size
