@@ -103,8 +103,8 @@ def the_fault_of_a_stream_is_told_with_its_place(program):
     line = f"{example_line(0)}\n".encode()
     program.refused("stream", stdin=entry + drop(0), says="dbgrec: refused 5 ZeroDrop at 56", output=line)
     program.refused("stream", stdin=bytes.fromhex("000000003383"), says="dbgrec: refused 3 Truncated at 0")
-    program.refused("stream", stdin=b"\2", says="dbgrec: refused 4 BadOp at 0")
-    program.refused("stream", stdin=bytes.fromhex("000000fffc"), says="dbgrec: refused 6 TooLong at 0")
+    program.refused("stream", stdin=b"\2", says="dbgrec: refused 4 BadOp at 0\nthat is no entry stream, as a node writes it: list shows a stored trace")
+    program.refused("stream", stdin=bytes.fromhex("000000fffc"), says="dbgrec: refused 6 TooLong at 0\n-p lists it")
 
 
 @case

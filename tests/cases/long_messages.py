@@ -181,7 +181,7 @@ def a_long_message_is_chosen_by_what_it_tells(program):
 @case
 def a_plain_listing_ends_at_a_long_message(program):
     stream = message(b"\x83j") + message(of_size(string(100), LONGEST + 1)[0])
-    program.refused("stream", stdin=stream, says="dbgrec: refused 6 TooLong at 7", output=b"0 other []\n")
+    program.refused("stream", stdin=stream, says="dbgrec: refused 6 TooLong at 7\n-p lists it", output=b"0 other []\n")
 
 
 @case

@@ -276,7 +276,7 @@ def a_length_of_a_message_takes_no_memory_before_its_bytes_are_there(program):
     cut = Outcome(1, b"", b"dbgrec: refused 3 Truncated at 0\n")
     for length in (LONGEST, 0xFFFFFFFF):
         given = b"\0" + length.to_bytes(4, "big") + b"\x83"
-        long = Outcome(1, b"", b"dbgrec: refused 6 TooLong at 0\n")
+        long = Outcome(1, b"", b"dbgrec: refused 6 TooLong at 0\n-p lists it\n")
         same(in_little(program, "stream", stdin=given), cut if length == LONGEST else long)
         name = f"t{length}"
         same(in_little(program, "import", name, stdin=given), Outcome(1, b"created\nkept 0\n", cut.errors + goes_on(0, 0).encode()))

@@ -64,6 +64,7 @@ use Rattle.trace_places.specs.Places.{file_count, turn_of}
 use Rattle.trace_places.specs.declared.place.Place.{Place}
 use Rattle.script_port.specs.Texts.{line_of}
 use Rattle.script_port.specs.declared.answer.Answer.TheVariants.{Done}
+use Rattle.trace_advice.specs.declared.complaint.Advice.{Advice}
 use Rattle.trace_advice.specs.declared.complaint.Complaint.{Complaint}
 use Rattle.trace_advice.specs.declared.complaint.Complaint.TheVariants as complaints
 use Rattle.script_port.specs.declared.fault.SimFault.{SimFault}
@@ -181,7 +182,7 @@ IsWrittenAs written.Stream shown form = form ≡ as_bytes
 
 -- why the listing of a stream came to no end, and what is written then: by a fault, which is told, and the lines before it; or there was no room to read it, and nothing is written
 pub data EndsStream (style : StreamStyle) (had old new : Option (List ℕ)) (complaint : Complaint) : Type 0 where
-  stopped : (fault : StreamFault) (left : Option (List ℕ)) → StopsBy style had left old new fault → complaint ≡ complaints.Fault (run_fault fault) None → EndsStream style had old new complaint
+  stopped : (fault : StreamFault) (left : Option (List ℕ)) (advice : Option Advice) → StopsBy style had left old new fault → complaint ≡ complaints.Fault (run_fault fault) advice → EndsStream style had old new complaint
   no_room : Keeps old new → complaint ≡ complaints.Fault faults.NoMemory None → EndsStream style had old new complaint
 
 -- what is asked changes the trace

@@ -1,6 +1,7 @@
 //! What is told of a fault on standard error: a line, and after it what to do next.
-ghost use Rattle.std.specs.Prelude.{◌≡◌, None, IsTrue};
+ghost use Rattle.std.specs.Prelude.{◌≡◌, Option, None, IsTrue};
 ghost use Rattle.trace_advice.specs.Complaints.{status_told, IsToldAs};
+ghost use Rattle.trace_advice.specs.declared.complaint.Advice.{Advice};
 ghost use Rattle.trace_advice.specs.declared.complaint.Complaint.TheVariants as complaints;
 ghost use Rattle.script_port.specs.declared.fault.SimFault.TheVariants as faults;
 
@@ -93,6 +94,10 @@ pub enum Advice {
     ThereIsFile {
         name: String,
     },
+    /// What is to be listed begins as no entry stream does.
+    NoStream,
+    /// A message is longer than a plain listing shows.
+    TooLong,
 }
 
 impl fmt::Display for Advice {
@@ -182,6 +187,10 @@ impl fmt::Display for Advice {
                 let name = Shown(name.as_str());
                 write!(f, "{name} is one file: try without --kind")
             }
+            Advice::NoStream => f.write_str(
+                "that is no entry stream, as a node writes it: list shows a stored trace",
+            ),
+            Advice::TooLong => f.write_str("-p lists it"),
         }
     }
 }
@@ -333,6 +342,20 @@ impl Complaint {
             Complaint::Fault { fault, advice: _ } => fault.status(),
             _ => 1,
         }
+    }
+
+    /// The fault of a stream that is listed, with what to do next.
+    pub fn of_stream(fault: SimFault) -> Complaint
+        ensures { (advice : Option Advice) × (result ≡ complaints.Fault fault advice) }
+    {
+        let advice = match fault {
+            SimFault::BadOp { place: 0 } | SimFault::ZeroDrop { place: 0 } => {
+                Some(Advice::NoStream)
+            }
+            SimFault::TooLong { place: _ } => Some(Advice::TooLong),
+            _ => None,
+        };
+        Complaint::Fault { fault, advice }
     }
 
     /// Whether it has the name of a file for which a device call failed.

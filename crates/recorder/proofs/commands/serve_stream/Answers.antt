@@ -11,5 +11,6 @@ returns-in_default-clause-stopped g c = no_room (Keeps-refl _) c.from.ensures
 pub returns-in-Err-clause-stopped : goal.returns-in-Err-clause-stopped
 returns-in-Err-clause-stopped g c =
     let reader = c.in-Ok.ensures in
-    stopped c.in-Err.fault _ (rw (reader.capacity, reader.empty, reader.inner, prepend_known-nil (g.R.Read.remaining c.args.input)) at c.in-Err.ensures.err)
-    (c.from-in-Err-2.ensures ∙ ap (λ (fault : SimFault). complaints.Fault fault None) c.from-in-Err.ensures)
+    let told = c.of_stream.ensures in
+    stopped c.in-Err.fault _ told.0 (rw (reader.capacity, reader.empty, reader.inner, prepend_known-nil (g.R.Read.remaining c.args.input)) at c.in-Err.ensures.err)
+    (told.1 ∙ ap (λ (fault : SimFault). complaints.Fault fault told.0) c.from-in-Err.ensures)
