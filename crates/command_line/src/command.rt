@@ -162,7 +162,11 @@ fn import<'a>(alloc: Global, command: Command<'a>) -> Result<Command<'a>, AllocE
     )?
     .arg(flush(alloc))?
     .arg(keep_open(alloc))?
-    .arg(skip(alloc))
+    .arg(skip(alloc))?
+    .arg(longest(
+        alloc,
+        "Keeps messages of up to so many bytes, up to 256M; a drop record of 1 stands instead of a longer one [default: 16M]",
+    ))
 }
 
 /// The command that records what a script says.
@@ -285,19 +289,17 @@ fn wipe<'a>(alloc: Global, command: Command<'a>) -> Result<Command<'a>, AllocErr
     ))
 }
 
-fn longest<'a>(alloc: Global) -> Arg<'a> {
-    option(
-        alloc,
-        "longest",
-        "SIZE",
-        "Shows messages of up to so many bytes in full, up to 256M, as --pretty does [default: 16M]",
-    )
+fn longest<'a>(alloc: Global, help: &'a str) -> Arg<'a> {
+    option(alloc, "longest", "SIZE", help)
 }
 
 fn stream<'a>(alloc: Global, command: Command<'a>) -> Result<Command<'a>, AllocError> {
     let command = command
         .after_help("Example: nc HOST 4711 | dbgrec stream -p")
-        .arg(longest(alloc))?;
+        .arg(longest(
+            alloc,
+            "Shows messages of up to so many bytes in full, up to 256M, as --pretty does [default: 16M]",
+        ))?;
     with_choice(alloc, command)
 }
 
@@ -417,7 +419,7 @@ fn wanted_in<'a>(matches: &ArgMatches<'a>) -> Result<Wanted<'a>, Misuse<'a>> {
 }
 
 /// How an import goes.
-fn rules_in(matches: &ArgMatches<'_>) -> Rules {
+fn rules_in<'a>(matches: &ArgMatches<'a>) -> Result<Rules, Misuse<'a>> {
     let flushing = match matches.get_str("flush") {
         Some("always") => Flushing::Always,
         Some("never") => Flushing::Never,
@@ -428,11 +430,12 @@ fn rules_in(matches: &ArgMatches<'_>) -> Rules {
     } else {
         Ending::Seal
     };
-    Rules {
+    Ok(Rules {
         skip: matches.get_one::<u64>("skip").unwrap_or(0),
+        longest: longest_in(matches)?,
         flushing,
         ending,
-    }
+    })
 }
 
 /// The kinds that are shown, if each word is one.
@@ -502,7 +505,7 @@ fn choice_in<'a>(alloc: Global, matches: &ArgMatches<'a>) -> Result<Option<Choic
     Ok(if choice.is_all() { None } else { Some(choice) })
 }
 
-/// How many bytes the longest message has that a listing of a stream shows in full.
+/// How many bytes the longest message has that a listing of a stream shows in full, or an import keeps.
 fn longest_in<'a>(matches: &ArgMatches<'a>) -> Result<u32, Misuse<'a>> {
     match matches.get_str("longest") {
         None => Ok(DEFAULT_LONGEST),
@@ -562,7 +565,7 @@ fn trace_request_in<'a>(
         "record" => Some(TraceRequest::Record(wanted_in(matches)?)),
         "import" => Some(TraceRequest::Import {
             wanted: wanted_in(matches)?,
-            rules: rules_in(matches),
+            rules: rules_in(matches)?,
         }),
         "list" => Some(list_in(matches)),
         "export" => Some(export_in(matches)),

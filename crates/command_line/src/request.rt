@@ -60,6 +60,8 @@ pub enum Ending {
 pub struct Rules {
     /// The bytes of its input that it passes over first.
     pub skip: u64,
+    /// The most bytes of a message that is kept.
+    pub longest: u32,
     pub flushing: Flushing,
     pub ending: Ending,
 }

@@ -50,29 +50,29 @@ is_count image r skip before incoming Failed (Some kept) reads counted = record 
 
 -- what is found after an import is what it kept
 pub keeps_found : (opened : AnyOpening) (origin : Origin) (rules : Rules) (mid last new : FolderStore) (was is : Outside) (come : List ℕ) (incoming : Incoming) (done : Result Unit SimFault) (Writes : List ℕ → Type 0) (skip before : ℕ) (kept : Kept)
-    → WasFed opened origin rules mid last was is come incoming done Writes → OnlyLooks last new → honest_of new → before ≡ (first_told opened (device mid)).total → IsCounted skip before incoming (reads_of last) kept → IsKeptOf (first_told opened (device mid)) skip come (reads_of new) kept
+    → WasFed opened origin rules mid last was is come incoming done Writes → OnlyLooks last new → honest_of new → before ≡ (first_told opened (device mid)).total → IsCounted skip before incoming (reads_of last) kept → IsKeptOf (first_told opened (device mid)) rules.longest skip come (reads_of new) kept
 keeps_found (openings.File opening) origin rules mid last new was is come incoming done Writes skip before kept fed looks h same found = record {
   bytes = found.bytes;
   after = found.after;
   keeps = λ v0 c f.
-      subst (λ (image : Image). KeepsFirst (first_told (openings.File opening) (device mid)).spec v0 come kept.entries found.bytes image) (sym (looks.same_reads h))
+      subst (λ (image : Image). KeepsFirst rules.longest (first_told (openings.File opening) (device mid)).spec v0 come kept.entries found.bytes image) (sym (looks.same_reads h))
       (fed.put.first (looks.was_honest h) v0 c f kept.entries found.bytes found.mark (subst (λ (n : ℕ). HasTotal (reads_of last) (n + kept.entries)) same found.total));
 }
 keeps_found (openings.Wrap opening) origin rules mid last new was is come incoming done Writes skip before kept fed looks h same found = record {
   bytes = found.bytes;
   after = found.after;
   keeps = λ v0 c f.
-      subst (λ (image : Image). KeepsFirst (first_told (openings.Wrap opening) (device mid)).spec v0 come kept.entries found.bytes image) (sym (looks.same_reads h))
+      subst (λ (image : Image). KeepsFirst rules.longest (first_told (openings.Wrap opening) (device mid)).spec v0 come kept.entries found.bytes image) (sym (looks.same_reads h))
       (fed.put.first (looks.was_honest h) v0 c f kept.entries found.bytes found.mark (subst (λ (n : ℕ). HasTotal (reads_of last) (n + kept.entries)) same found.total));
 }
 
 -- and what is told is that
 pub told_found : (opened : AnyOpening) (origin : Origin) (rules : Rules) (mid last new : FolderStore) (was is : Outside) (come : List ℕ) (incoming : Incoming) (done : Result Unit SimFault) (Writes : List ℕ → Type 0) (skip before : ℕ) (result : Result Unit Complaint)
     → WasFed opened origin rules mid last was is come incoming done Writes → OnlyLooks last new → before ≡ (first_told opened (device mid)).total
-    → (honest_of new → IfErr result (λ complaint. IfSome (kept_told complaint) (IsCounted skip before incoming (reads_of last)))) → honest_of new → IfErr result (λ complaint. IfSome (kept_told complaint) (IsKeptOf (first_told opened (device mid)) skip come (reads_of new)))
+    → (honest_of new → IfErr result (λ complaint. IfSome (kept_told complaint) (IsCounted skip before incoming (reads_of last)))) → honest_of new → IfErr result (λ complaint. IfSome (kept_told complaint) (IsKeptOf (first_told opened (device mid)) rules.longest skip come (reads_of new)))
 told_found opened origin rules mid last new was is come incoming done Writes skip before (Ok x) fed looks same found h = tt
 told_found opened origin rules mid last new was is come incoming done Writes skip before (Err complaint) fed looks same found h = by_kept (kept_told complaint) (found h)
   where
-    by_kept : (kept : Option Kept) → IfSome kept (IsCounted skip before incoming (reads_of last)) → IfSome kept (IsKeptOf (first_told opened (device mid)) skip come (reads_of new))
+    by_kept : (kept : Option Kept) → IfSome kept (IsCounted skip before incoming (reads_of last)) → IfSome kept (IsKeptOf (first_told opened (device mid)) rules.longest skip come (reads_of new))
     by_kept None none = tt
     by_kept (Some kept) counted = keeps_found opened origin rules mid last new was is come incoming done Writes skip before kept fed looks h same counted

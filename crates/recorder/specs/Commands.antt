@@ -137,13 +137,13 @@ pub data Records (place : Place) (spec : Spec) (old new : FolderStore) (had was 
 -- what an import did, by what was seen before it and what was observed until its end
 pub data Feeds (place : Place) (spec : Spec) (rules : Rules) (old new : FolderStore) (saw : Outside) (observed : Observations) (was now : Option (List ℕ)) : Result Unit Complaint → Type 0 where
   -- a byte came; then a trace was opened, and the stream put into its port
-  feeds : {first mid last : FolderStore} {opened : AnyOpening} {origin : Origin} {result : Result Unit Complaint} {then : Outside} {incoming : Incoming} (begins : Begins rules.skip saw then incoming)
+  feeds : {first mid last : FolderStore} {opened : AnyOpening} {origin : Origin} {result : Result Unit Complaint} {then : Outside} {incoming : Incoming} (begins : Begins rules.skip rules.longest saw then incoming)
       (remaining : Option (List ℕ)) (reads : ℕ) (come : List ℕ) (left : Incoming) (done : Result Unit SimFault) → LooksWell old first → IsOpened spec first mid opened origin
       → WasFed opened origin rules mid last begins.mid (outside remaining reads observed) come left done (λ text. Appends was now text) → OnlyLooks last new → MayFail (failures_of last) (failures_of new) → CallsToEnd last new → OnOk done (new ≡ last) → IsExplained (IsToldAt place last) rules.skip done result
       -- where it is told how much of the stream is kept, so much is
-      → (honest_of new → IfErr result (λ complaint. IfSome (kept_told complaint) (IsKeptOf (first_told opened (device mid)) rules.skip come (reads_of new)))) → Feeds place spec rules old new saw observed was now result
+      → (honest_of new → IfErr result (λ complaint. IfSome (kept_told complaint) (IsKeptOf (first_told opened (device mid)) rules.longest rules.skip come (reads_of new)))) → Feeds place spec rules old new saw observed was now result
   -- a byte came; then the trace wasn't opened
-  not_opened : {first mid : FolderStore} {then : Outside} {incoming : Incoming} (fault : SimFault) (complaint : Complaint) → Begins rules.skip saw then incoming → LooksWell old first → (honest_of first → HasNoForeign (reads_of old)) → IsNotOpened spec first mid fault
+  not_opened : {first mid : FolderStore} {then : Outside} {incoming : Incoming} (fault : SimFault) (complaint : Complaint) → Begins rules.skip rules.longest saw then incoming → LooksWell old first → (honest_of first → HasNoForeign (reads_of old)) → IsNotOpened spec first mid fault
       → LooksBehind fault mid new → observed ≡ then.observed → Keeps was now → IsToldAt place new fault complaint → Feeds place spec rules old new saw observed was now (Err complaint)
   -- no byte came
   nothing_came : {then : Outside} → EndsWithin rules.skip saw then → LooksOver old new (2 * length (reads_of old)) (HasNoForeign (reads_of old)) → observed ≡ then.observed → Keeps was now → Feeds place spec rules old new saw observed was now (Ok tt)

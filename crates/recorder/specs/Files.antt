@@ -161,8 +161,8 @@ abbrev pub CountsSo : ℕ → ℕ → Incoming → ℕ → Option Kept → Type 
 CountsSo skip before incoming total None = NotCounted skip before incoming total
 CountsSo skip before incoming total (Some kept) = (bytes : ℕ) × (kept.bytes ≡ bytes + skip) × HasMark incoming kept.entries bytes × (before + kept.entries ≡ total)
 
--- so much is kept of an input, of which so many bytes were passed over and these came then: after what a port over an opening found there, a store has exactly so many entries, those of the bytes up to there
-pub record IsKeptOf (opened : Told) (skip : ℕ) (come : List ℕ) (image : Image) (kept : Kept) : Type 0 where
+-- so much is kept of an input, of which so many bytes were passed over and these came then: after what a port over an opening found there, a store has exactly so many entries, those of the bytes up to there and maybe the first fragments of the message there
+pub record IsKeptOf (opened : Told) (longest skip : ℕ) (come : List ℕ) (image : Image) (kept : Kept) : Type 0 where
   pub bytes : ℕ
   pub after : kept.bytes ≡ bytes + skip
-  pub keeps : (v0 : View) (c : ℕ) → Fits opened v0 [] c → KeepsFirst opened.spec v0 come kept.entries bytes image
+  pub keeps : (v0 : View) (c : ℕ) → Fits opened v0 [] c → KeepsFirst longest opened.spec v0 come kept.entries bytes image
