@@ -29,7 +29,7 @@ def stream_of(name):
 
 def imports(program, stream, *words):
     """Imports a stream whole into a new trace."""
-    count = len(kept(stream))
+    count = len(split(stream))
     same(program.good("import", "t", *words, stdin=stream), f"created\nsealed {count}\n".encode())
 
 
@@ -139,50 +139,13 @@ def streams_of_otp_come_back_byte_for_byte(program):
             same(program.good("wipe", "t", *kind), b"ok\n")
 
 
-TOO_LONG = {
-    1: "dbgrec: 1 message is longer than --longest {}: a drop record of 1 stands instead\n",
-    2: "dbgrec: 2 messages are longer than --longest {}: a drop record of 1 stands instead of each\n",
-}
-
-
 @case
 def a_message_that_is_too_long_is_a_drop_of_1(program):
-    expected = kept(stream_of("node"), 0)
+    expected = kept(stream_of("node"))
     same([number for number, entry in enumerate(expected) if entry == drop(1)], [71, 72, 373, 374])
     longest, longer = message(bytes(65_531)), message(bytes(65_532))
-    stream = longest + longer + longest + drop(7) + longer
-    for most in ("0", "65531"):
-        outcome = program.run("import", "t", "--longest", most, stdin=stream)
-        same(outcome, Outcome(0, b"created\nsealed 5\n", TOO_LONG[2].format(most).encode()))
-        same(program.good("export", "t"), longest + drop(1) + longest + drop(7) + drop(1))
-        program.good("wipe", "t")
-    stream = message(bytes(70_000)) + longer
-    same(program.run("import", "t", "--longest", "65532", stdin=stream), Outcome(0, b"created\nsealed 3\n", TOO_LONG[1].format(65_532).encode()))
-    same(program.good("list", "t"), listing_of(kept(stream, 65_532)))
-
-
-@case
-def a_long_message_is_kept_as_its_fragments(program):
-    sizes = (65_532, 65_512 + 65_513, 65_513 + 65_513, 1_000_000)
-    stream = b"".join(drop(3) + message(bytes(range(256)) * (size // 256) + bytes(size % 256)) for size in sizes)
-    for kind in ((), (*WRAP, "--size", "4294967295")):
-        for flush in ("always", "paused", "never"):
-            imports(program, stream, *kind, "--flush", flush)
-            same(program.good("list", "t", *kind[:2]), listing_of(kept(stream)))
-            program.good("wipe", "t", *kind[:2])
-    # one that isn't there whole leaves no fragment
-    for cut in (1, 65_531, 999_999):
-        stops(program.run("import", "t", "--keep-open", stdin=stream[:-cut]), f"refused 3 Truncated at {len(stream) - 1_000_005}", f"created\nkept {len(kept(stream[:-1_000_005]))}\n")
-        same(program.good("list", "t"), listing_of(kept(stream[:-1_000_005])))
-        program.good("wipe", "t")
-
-
-@case
-def a_longest_of_an_import_that_is_none_is_refused(program):
-    for value in ("257M", "-1", "x", "268435457"):
-        same(program.run("import", "t", f"--longest={value}", stdin=drop(1)).status, 2)
-    for value in ("0", "65531", "256M"):
-        same(program.run("import", f"t{value}", "--longest", value, stdin=drop(1)), Outcome(0, b"created\nsealed 1\n", b""))
+    imports(program, longest + longer + longest + drop(7) + longer)
+    same(program.good("export", "t"), longest + drop(1) + longest + drop(7) + drop(1))
 
 
 @case
@@ -199,7 +162,7 @@ def a_stream_in_small_pieces_is_the_same_stream(program):
                     break
             outcome = importer.end()
         same((outcome.status, outcome.errors), (0, b""))
-        same(outcome.output, f"created\nsealed {len(kept(stream))}\n".encode())
+        same(outcome.output, f"created\nsealed {len(split(stream))}\n".encode())
         same(program.good("export", "t", *kind[:2]), b"".join(kept(stream)))
 
 
@@ -256,7 +219,7 @@ def stops(outcome, fault, output):
 def a_cut_or_broken_stream_is_kept_up_to_its_fault_and_gone_on_with(program):
     for number, (good, bad, fault) in enumerate(broken_streams()):
         for kind in ((), (*WRAP, "--size", "4294967295")):
-            name, read, count = f"t{number}-{len(kind)}", kind[:2], len(kept(good))
+            name, read, count = f"t{number}-{len(kind)}", kind[:2], len(split(good))
             stops(program.run("import", name, *kind, stdin=good + bad), f"refused {fault} at {len(good)}", f"created\nkept {count}\n")
             same(program.good("export", name, *read), b"".join(kept(good)))
             # the same command once more
@@ -341,7 +304,7 @@ def what_is_told_as_kept_is_skipped_and_nothing_is_doubled(program):
             count, then = kept_of(outcome)
             place, total = max(place, then), total + count
             same(program.good("export", name, *read), b"".join(kept(stream[:place])))
-        same(program.good("import", name, *kind, "--skip", str(place), stdin=stream), f"resumed {total}\nsealed {len(kept(stream))}\n".encode())
+        same(program.good("import", name, *kind, "--skip", str(place), stdin=stream), f"resumed {total}\nsealed {len(entries)}\n".encode())
         same(program.good("export", name, *read), whole)
 
 

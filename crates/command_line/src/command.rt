@@ -162,11 +162,7 @@ fn import<'a>(alloc: Global, command: Command<'a>) -> Result<Command<'a>, AllocE
     )?
     .arg(flush(alloc))?
     .arg(keep_open(alloc))?
-    .arg(skip(alloc))?
-    .arg(longest(
-        alloc,
-        "Keeps messages of up to so many bytes, up to 256M; a drop record of 1 stands instead of a longer one [default: 16M]",
-    ))
+    .arg(skip(alloc))
 }
 
 /// The command that records what a script says.
@@ -289,17 +285,19 @@ fn wipe<'a>(alloc: Global, command: Command<'a>) -> Result<Command<'a>, AllocErr
     ))
 }
 
-fn longest<'a>(alloc: Global, help: &'a str) -> Arg<'a> {
-    option(alloc, "longest", "SIZE", help)
+fn longest<'a>(alloc: Global) -> Arg<'a> {
+    option(
+        alloc,
+        "longest",
+        "SIZE",
+        "Shows messages of up to so many bytes in full, up to 256M, as --pretty does [default: 16M]",
+    )
 }
 
 fn stream<'a>(alloc: Global, command: Command<'a>) -> Result<Command<'a>, AllocError> {
     let command = command
         .after_help("Example: nc HOST 4711 | dbgrec stream -p")
-        .arg(longest(
-            alloc,
-            "Shows messages of up to so many bytes in full, up to 256M, as --pretty does [default: 16M]",
-        ))?;
+        .arg(longest(alloc))?;
     with_choice(alloc, command)
 }
 
@@ -419,7 +417,7 @@ fn wanted_in<'a>(matches: &ArgMatches<'a>) -> Result<Wanted<'a>, Misuse<'a>> {
 }
 
 /// How an import goes.
-fn rules_in<'a>(matches: &ArgMatches<'a>) -> Result<Rules, Misuse<'a>> {
+fn rules_in(matches: &ArgMatches<'_>) -> Rules {
     let flushing = match matches.get_str("flush") {
         Some("always") => Flushing::Always,
         Some("never") => Flushing::Never,
@@ -430,12 +428,12 @@ fn rules_in<'a>(matches: &ArgMatches<'a>) -> Result<Rules, Misuse<'a>> {
     } else {
         Ending::Seal
     };
-    Ok(Rules {
+    Rules {
         skip: matches.get_one::<u64>("skip").unwrap_or(0),
-        longest: longest_in(matches)?,
+        longest: 0,
         flushing,
         ending,
-    })
+    }
 }
 
 /// The kinds that are shown, if each word is one.
@@ -505,7 +503,7 @@ fn choice_in<'a>(alloc: Global, matches: &ArgMatches<'a>) -> Result<Option<Choic
     Ok(if choice.is_all() { None } else { Some(choice) })
 }
 
-/// How many bytes the longest message has that a listing of a stream shows in full, or an import keeps.
+/// How many bytes the longest message has that a listing of a stream shows in full.
 fn longest_in<'a>(matches: &ArgMatches<'a>) -> Result<u32, Misuse<'a>> {
     match matches.get_str("longest") {
         None => Ok(DEFAULT_LONGEST),
@@ -565,7 +563,7 @@ fn trace_request_in<'a>(
         "record" => Some(TraceRequest::Record(wanted_in(matches)?)),
         "import" => Some(TraceRequest::Import {
             wanted: wanted_in(matches)?,
-            rules: rules_in(matches)?,
+            rules: rules_in(matches),
         }),
         "list" => Some(list_in(matches)),
         "export" => Some(export_in(matches)),

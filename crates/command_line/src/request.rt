@@ -60,7 +60,7 @@ pub enum Ending {
 pub struct Rules {
     /// The bytes of its input that it passes over first.
     pub skip: u64,
-    /// The most bytes of a message that is kept.
+    /// The most bytes of a message that is kept in fragments; any that an entry holds is kept.
     pub longest: u32,
     pub flushing: Flushing,
     pub ending: Ending,
