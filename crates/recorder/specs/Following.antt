@@ -1,18 +1,18 @@
 -- A trace that is followed, look by look.
 use Rattle.std.specs.Prelude.{◌≡◌, ◌⊎◌, ℕ, ◌+◌, ◌≤◌, Bool, Option, None, List, Result, Ok, Err, IfSome}
-use Rattle.std.specs.Io.KnownBytes.{Appends, Keeps}
+use Rattle.std.specs.Io.KnownBytes.{Keeps}
 use Rattle.trace_store.specs.Disk.{Image}
 use Rattle.stores.specs.CallRecords.{bytes_of}
 use Rattle.stores.specs.Events.{files_after, made_anew}
 use Rattle.stores.specs.FolderStore.{past_of, honest_of}
 use Rattle.stores.specs.declared.folder_store.FolderStore.{FolderStore}
-use Rattle.trace_text.specs.Lines.{end_text}
 use Rattle.trace_text.specs.declared.style.Style.{Style}
-use Rattle.trace_client.specs.Output.{AppendsPrefix}
+use Rattle.trace_client.specs.SoFar.{Point, point_at}
 use Rattle.trace_reader.specs.declared.fault.ReadFault.{ReadFault}
 use Rattle.trace_reader.specs.declared.fault.ReadFault.TheVariants as faults
 use Rattle.trace_reader.specs.Looks.{HasLooked, IsWhyGone, IsWhyStopped}
-use Rattle.trace_reader.specs.Sections.{HasTold, IsLookStopped}
+use Rattle.trace_reader.specs.Lists.{point_in}
+use Rattle.trace_reader.specs.Sections.{HasTold, IsLookStopped, HasEnded, HasPartlyEnded}
 use Rattle.trace_reader.specs.declared.follower.Follower.{Follower}
 use Rattle.trace_reader.specs.declared.place.Look.{Look}
 use Rattle.trace_reader.specs.declared.place.Look.TheVariants as looks
@@ -35,6 +35,10 @@ style_in follower = follower.lister.apart.style
 abbrev pub number_in : Follower → ℕ
 number_in follower = follower.lister.number
 
+-- where it is: the number of the next entry, and those that it holds
+abbrev pub where_in : Follower → Point
+where_in follower = point_in follower.lister
+
 -- how the end of a listing is told: as done where it is; else by a fault of the files at this place, or that it couldn't be written out
 abbrev pub IsToldSo : Place → FolderStore → Result Unit ReadFault → Result Unit Complaint → Type 0
 IsToldSo place store done (Ok out) = done ≡ Ok tt
@@ -44,7 +48,7 @@ IsToldSo place store (Err fault) (Err complaint) = IsToldAt place store (read_fa
 -- a follower that has told nothing yet
 pub record IsNew (style : Style) (follower : Follower) : Type 0 where
   pub same_style : style_in follower ≡ style
-  pub number : number_in follower ≡ 0
+  pub at_first : where_in follower ≡ point_at 0
   pub place : follower.place ≡ None
 
 -- the store was made anew over the files as they are now, and then they were only looked at
@@ -61,8 +65,8 @@ found_anew store = bytes_of (files_after (made_anew (past_of store)))
 pub record IsLook (files looked : FolderStore) (old new : Follower) (was now : Option (List ℕ)) (look : Look) : Type 0 where
   pub anew : LooksAnew files looked
   pub found : honest_of looked
-      → HasLooked (style_in old) (found_anew files) (number_in old) (number_in new) was now new.place old.place look
-  pub told : HasTold (style_in old) (number_in old) (number_in new) was now
+      → HasLooked (style_in old) (found_anew files) (where_in old) (where_in new) was now new.place old.place look
+  pub told : HasTold (style_in old) (where_in old) (where_in new) was now
   pub same_style : style_in new ≡ style_in old
 
 -- a look that was to go on where the last one ended failed by what stands there, as far as the files are honest
@@ -78,7 +82,7 @@ pub record IsMadeAgain (files looked : FolderStore) (old new : Follower) (was no
   pub number : number_in new ≡ number_in old
   pub place : new.place ≡ old.place
   pub same_style : style_in new ≡ style_in old
-  pub told : HasTold (style_in old) (number_in old) (number_in new) was now
+  pub told : HasTold (style_in old) (where_in old) (where_in new) was now
 
 -- what came of one look
 abbrev pub IsSeen : FolderStore → FolderStore → Follower → Follower → Option (List ℕ) → Option (List ℕ) → Seen → Type 0
@@ -121,12 +125,12 @@ IsGone mid files fault = honest_of files → IsWhyGone (found_anew mid.files) (n
 -- couldn't be written out
 pub data Ends (mid : Stand) (files : FolderStore) (now : Option (List ℕ)) : Result Unit ReadFault → Type 0 where
   sealed : (follower : Follower) (told : Option (List ℕ)) → IsLook mid.files files mid.follower follower mid.holds told looks.Sealed
-      → Appends told now (end_text (style_in follower).notation) → Ends mid files now (Ok tt)
+      → HasEnded (style_in follower) (where_in follower) told now → Ends mid files now (Ok tt)
   no_end : (follower : Follower) (told : Option (List ℕ)) (fault : ReadFault)
-      → IsLook mid.files files mid.follower follower mid.holds told looks.Sealed → AppendsPrefix told now (end_text (style_in follower).notation) → Ends mid files now (Err fault)
+      → IsLook mid.files files mid.follower follower mid.holds told looks.Sealed → HasPartlyEnded (style_in follower) (where_in follower) told now → Ends mid files now (Err fault)
   not_written_out : mid.files ≡ files → mid.holds ≡ now → Ends mid files now (Err faults.Write)
   failed : (follower : Follower) (fault : ReadFault) → LooksAnew mid.files files → IsGone mid files fault → IsWhyNotGoneOn mid.files files mid.follower follower fault
-      → IsLookStopped (style_in mid.follower) (number_in mid.follower) (number_in follower) mid.holds now fault → Ends mid files now (Err fault)
+      → IsLookStopped (style_in mid.follower) (where_in mid.follower) (where_in follower) mid.holds now fault → Ends mid files now (Err fault)
 
 -- looks from a stand on, and how they ended
 pub record HasFollowed (first : Stand) (files : FolderStore) (now : Option (List ℕ)) (result : Result Unit ReadFault) : Type 0 where

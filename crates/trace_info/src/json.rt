@@ -1,6 +1,6 @@
 //! A trace in numbers, as one JSON object.
 
-use crate::info::{Info, Part};
+use crate::info::{Info, PART, Part};
 use segment::StoreSpec;
 use serde_json::{Map, Value};
 use std::alloc::{AllocError, Global};
@@ -141,6 +141,10 @@ impl Info {
                 let word = kind_at(place);
                 kinds.insert(String::from_str(alloc, word)?, Value::from(count))?;
             }
+        }
+        let parts = self.lone_parts();
+        if parts > 0 {
+            kinds.insert(String::from_str(alloc, PART)?, Value::from(parts))?;
         }
         Ok(Value::Object(kinds))
     }

@@ -1,6 +1,6 @@
 //! A trace in numbers, as text for a person.
 
-use crate::info::{Info, Part};
+use crate::info::{Info, PART, Part};
 use segment::{SegHeader, StoreSpec};
 use std::fmt;
 use trace_places::Shown;
@@ -96,7 +96,10 @@ fn tell_words<W: fmt::Write>(f: &mut fmt::Formatter<W>, info: &Info) -> fmt::Res
             writeln!(f, "{word}: {count}")?;
         }
     }
-    Ok(())
+    match info.lone_parts() {
+        0 => Ok(()),
+        parts => writeln!(f, "{PART}: {parts}"),
+    }
 }
 
 fn tell_stamps<W: fmt::Write>(f: &mut fmt::Formatter<W>, info: &Info) -> fmt::Result {
