@@ -29,7 +29,7 @@ _dbgrec() {
             offered="$commands --help --version"
         elif [[ $word == -* ]]; then
             case ${COMP_WORDS[1]} in
-            import) offered="$readers $new --flush --keep-open --skip --help" ;;
+            import) offered="$readers $new --flush --keep-open --skip --longest --help" ;;
             record) offered="$readers $new --help" ;;
             list) offered="$readers $chosen --follow --salvage --help" ;;
             export) offered="$readers --salvage --help" ;;

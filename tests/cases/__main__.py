@@ -23,6 +23,7 @@ import faults
 import following
 import foreign
 import forms
+import fragments
 import images
 import importing
 import info
@@ -51,7 +52,7 @@ import wording
 from cases import Skipped
 from program import Program
 
-GROUPS = (rows, scripts, emitting, readings, listing, pretty, long_messages, forms, choosing, json_listing, recording, importing, info, foreign, absent, keeping, telling, crashes, images, machine, faults, locking, replacing, live, following, windows, salvage, large, wording, installing, memory, libraries, reaching)
+GROUPS = (rows, scripts, emitting, readings, listing, pretty, long_messages, fragments, forms, choosing, json_listing, recording, importing, info, foreign, absent, keeping, telling, crashes, images, machine, faults, locking, replacing, live, following, windows, salvage, large, wording, installing, memory, libraries, reaching)
 
 
 def words():

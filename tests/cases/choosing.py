@@ -7,7 +7,7 @@ import struct
 import subprocess
 
 from cases import STREAMS, group
-from entries import drop, kept, message, split
+from entries import drop, joined, kept, message, split
 from program import PATIENCE, same
 from telling import damaged
 from terms import AnyReader, OTHER_WORDS, Unread, Writer, kind, name_text, short_atom, text
@@ -71,14 +71,15 @@ class Asked:
         return (self.kinds, self.process, self.function) != (None, None, None)
 
     def lets(self, number, shown, found):
-        """Whether the line of an entry is shown: its number, the word of its kind, and what its message tells."""
+        """Whether the line of an entry is shown: its number, the word of its kind, and what its message tells. A part of a
+        message is chosen as an opaque one."""
         if self.last is not None and self.last < number:
             return False
         if shown == "drop":
             return True
         if self.first is not None and number < self.first:
             return False
-        if self.kinds is not None and shown not in self.kinds:
+        if self.kinds is not None and ("opaque" if shown == "part" else shown) not in self.kinds:
             return False
         if self.process is not None and found.process != self.process:
             return False
@@ -94,12 +95,17 @@ def chosen(listing, entries, asked):
             found.append(line)
             continue
         shown = line.split(" ")[1].rstrip()
-        told = Told() if shown in ("drop", "opaque") else told_by(entries[int(number)])
+        told = Told() if shown in ("drop", "opaque", "part") else told_by(entries[int(number)])
         if asked.lets(int(number), shown, told):
             found.append(line)
         if asked.last is not None and asked.last <= int(number):
             break
     return "".join(found).encode()
+
+
+def put_together(entries):
+    """The entries of a readable listing by their numbers: a long message stands where its first fragment does."""
+    return {number: message(what) if word == "message" else what for number, word, what in joined(entries)}
 
 
 class Listed:
@@ -119,8 +125,9 @@ class Listed:
     def listings(self, style):
         """The words of each listing in a style, what they read, and the entries that are listed."""
         stored = kept(self.stream)
-        yield ("list", *style, "file"), b"", stored
-        yield ("list", *style, "wrap"), b"", stored
+        listed = put_together(stored) if style else stored
+        yield ("list", *style, "file"), b"", listed
+        yield ("list", *style, "wrap"), b"", listed
         if style or stored == split(self.stream):
             yield ("stream", *style), self.stream, split(self.stream)
 

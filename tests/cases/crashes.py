@@ -10,7 +10,7 @@ import termios
 import time
 
 from cases import group, stored
-from entries import drop, entry_line, example_line, kept, lost_in, message
+from entries import LONGEST, drop, entry_line, example_line, kept, lost_in, message
 from program import Program, read_some, same
 from segments import is_foreign
 
@@ -23,9 +23,12 @@ RUNS = 4
 
 WRAP = ("--kind", "wrap", "--count", "3")
 
+# what is too long for an entry is passed over: fragments.py kills imports that keep it
+PASSING = ("--longest", str(LONGEST))
+
 
 def stream(chance, most):
-    """Entries that all differ, of many sizes, of which some are Drops and some too long to be kept."""
+    """Entries that all differ, of many sizes, of which some are Drops and some too long for one."""
     found, size_of_all = [], 0
     while size_of_all < most:
         number = len(found)
@@ -55,7 +58,7 @@ class Expected:
     """What a trace is to show of each prefix of a stream, in one file or in a wrap of runs by size."""
 
     def __init__(self, given, size=None, count=3):
-        entries = kept(b"".join(given))
+        entries = kept(b"".join(given), LONGEST)
         self.total = len(entries)
         self.count = count
         self.entries = Parts(entries)
@@ -165,7 +168,7 @@ def kill_imports(program, words, seed, size=None):
     total, seen = 0, set()
     for turn in range(KILLS // RUNS):
         flush = chance.choice(("always", "paused", "paused", "never"))
-        with program.start("import", "t", *words, "--flush", flush) as importer:
+        with program.start("import", "t", *words, *PASSING, "--flush", flush) as importer:
             found = resumed(importer.opens(data.between(total, expected.total)[:1]))
             same(found, total)
             give_some(importer, chance, data.between(found, expected.total), longest)
@@ -174,8 +177,8 @@ def kill_imports(program, words, seed, size=None):
         assert total >= found, f"turn {turn}: {total} entries, and {found} were covered"
         seen.add(total)
         if total > expected.total * 3 // 4 or turn == KILLS // RUNS - 1:
-            told = program.good("import", "t", *words, stdin=data.between(total, expected.total)).decode()
-            same(told, f"resumed {total}\nsealed {expected.total}\n")
+            outcome = program.run("import", "t", *words, *PASSING, stdin=data.between(total, expected.total))
+            same((outcome.status, outcome.output), (0, f"resumed {total}\nsealed {expected.total}\n".encode()))
             same(left_by(program, expected), expected.total)
             same(program.good("wipe", "t"), b"ok\n")
             total = 0

@@ -8,7 +8,7 @@ import subprocess
 import time
 
 from cases import STREAMS, Skipped, group, stored
-from entries import EXAMPLE, drop, example_line, goes_on, kept, listing, listing_of, lost_in, message, split, window
+from entries import EXAMPLE, LONGEST, drop, example_line, exported, goes_on, kept, listing, listing_of, lost_in, message, split, window
 from preloading import with_library
 from program import PATIENCE, Outcome, same
 
@@ -29,7 +29,7 @@ def stream_of(name):
 
 def imports(program, stream, *words):
     """Imports a stream whole into a new trace."""
-    count = len(split(stream))
+    count = len(kept(stream))
     same(program.good("import", "t", *words, stdin=stream), f"created\nsealed {count}\n".encode())
 
 
@@ -132,20 +132,70 @@ def streams_of_otp_come_back_byte_for_byte(program):
         expected = kept(stream)
         for kind in ((), WRAP):
             imports(program, stream, *kind, *(("--size", "4294967295") if kind else ()))
-            same(program.good("export", "t", *kind), b"".join(expected))
+            same(program.good("export", "t", *kind), stream)
             listed = program.good("list", "t", *kind)
             same(listed, program.good("stream", stdin=b"".join(expected)))
             same(listed, listing_of(expected))
             same(program.good("wipe", "t", *kind), b"ok\n")
 
 
+TOO_LONG = {
+    1: "dbgrec: 1 message is longer than --longest {}: a drop record of 1 stands instead\n",
+    2: "dbgrec: 2 messages are longer than --longest {}: a drop record of 1 stands instead of each\n",
+}
+
+
 @case
 def a_message_that_is_too_long_is_a_drop_of_1(program):
-    expected = kept(stream_of("node"))
+    expected = kept(stream_of("node"), LONGEST)
     same([number for number, entry in enumerate(expected) if entry == drop(1)], [71, 72, 373, 374])
-    longest, longer = message(bytes(65_531)), message(bytes(65_532))
-    imports(program, longest + longer + longest + drop(7) + longer)
+    longest, longer = message(bytes(LONGEST)), message(bytes(LONGEST + 1))
+    stream = longest + longer + longest + drop(7) + longer
+    outcome = program.run("import", "t", "--longest", "65531", stdin=stream)
+    same(outcome, Outcome(0, b"created\nsealed 5\n", TOO_LONG[2].format(LONGEST).encode()))
     same(program.good("export", "t"), longest + drop(1) + longest + drop(7) + drop(1))
+    program.good("wipe", "t")
+    for words, most in ((("--longest", "65532"), 65_532), (("--longest=64K",), 1 << 16), (("--longest", "1m"), 1 << 20), ((), 16 << 20)):
+        stream = message(bytes(most)) + message(bytes(most + 1)) + longer
+        told = f"created\nsealed {len(kept(stream, most))}\n".encode()
+        same(program.run("import", "t", *words, stdin=stream), Outcome(0, told, TOO_LONG[1].format(most).encode()))
+        same(program.good("export", "t") == message(bytes(most)) + drop(1) + longer, True)
+        program.good("wipe", "t")
+    # it is told of a stream that breaks, too, and of what this import passed over alone
+    outcome = program.run("import", "t", "--longest", "65531", stdin=drop(3) + longer + longer + b"\2")
+    place = len(drop(3) + longer + longer)
+    errors = f"{TOO_LONG[2].format(LONGEST)}dbgrec: refused 4 BadOp at {place}\n{goes_on(3, place)}"
+    same(outcome, Outcome(1, b"created\nkept 3\n", errors.encode()))
+    same(program.run("import", "t", "--longest", "65531", stdin=longer), Outcome(0, b"resumed 3\nsealed 4\n", TOO_LONG[1].format(LONGEST).encode()))
+
+
+@case
+def a_long_message_is_kept_as_its_fragments(program):
+    sizes = (65_532, 65_512 + 65_513, 65_513 + 65_513, 1_000_000)
+    stream = b"".join(drop(3) + message(bytes(range(256)) * (size // 256) + bytes(size % 256)) for size in sizes)
+    for kind in ((), (*WRAP, "--size", "4294967295")):
+        for flush in ("always", "paused", "never"):
+            imports(program, stream, *kind, "--flush", flush)
+            same(program.good("list", "t", *kind[:2]), listing_of(kept(stream)))
+            same(program.good("export", "t", *kind[:2]), stream)
+            program.good("wipe", "t", *kind[:2])
+    # one that isn't there whole leaves no fragment
+    for cut in (1, 65_531, 999_999):
+        stops(program.run("import", "t", "--keep-open", stdin=stream[:-cut]), f"refused 3 Truncated at {len(stream) - 1_000_005}", f"created\nkept {len(kept(stream[:-1_000_005]))}\n")
+        same(program.good("list", "t"), listing_of(kept(stream[:-1_000_005])))
+        program.good("wipe", "t")
+
+
+@case
+def a_longest_of_an_import_that_is_none_is_refused(program):
+    for value in ("257M", "256.5M", "-1", "x", "", "4G", "16 M", "268435457", "0", "63k", "65530"):
+        says = f"error: invalid value '{value}' for '--longest <SIZE>': a number of bytes, from 65531 to 268435456; k, M and G after it stand for powers of 1,024, as in 64M\n\nFor more information, try '--help'."
+        program.refused("import", "t", f"--longest={value}", stdin=drop(1), status=2, says=says)
+    same(stored(program.folder), {})
+    for value in ("65531", "64k", "256M", "268435456"):
+        same(program.run("import", f"t{value}", "--longest", value, stdin=drop(1)), Outcome(0, b"created\nsealed 1\n", b""))
+    for command in ("list", "export", "info", "wipe", "record"):
+        same(program.run(command, "t65531", "--longest", "1M").status, 2)
 
 
 @case
@@ -162,8 +212,8 @@ def a_stream_in_small_pieces_is_the_same_stream(program):
                     break
             outcome = importer.end()
         same((outcome.status, outcome.errors), (0, b""))
-        same(outcome.output, f"created\nsealed {len(split(stream))}\n".encode())
-        same(program.good("export", "t", *kind[:2]), b"".join(kept(stream)))
+        same(outcome.output, f"created\nsealed {len(kept(stream))}\n".encode())
+        same(program.good("export", "t", *kind[:2]), stream)
 
 
 @case
@@ -192,7 +242,7 @@ def a_wrap_keeps_the_last_runs_of_a_stream(program):
     for size, count in ((0, 1), (100, 3), (2_000, 4), (65_536, 2), (131_072, 8)):
         imports(program, stream, *WRAP, "--size", str(size), "--count", str(count))
         first, left = window(entries, size, count)
-        same(program.good("export", "t", *WRAP, "--count", str(count)), b"".join(left))
+        same(program.good("export", "t", *WRAP, "--count", str(count)), exported(left))
         listed = program.good("list", "t", *WRAP, "--count", str(count))
         same(listed, listing_of(left, first, lost_in(entries[:first])))
         program.good("wipe", "t", *WRAP, "--count", str(count))
@@ -219,13 +269,13 @@ def stops(outcome, fault, output):
 def a_cut_or_broken_stream_is_kept_up_to_its_fault_and_gone_on_with(program):
     for number, (good, bad, fault) in enumerate(broken_streams()):
         for kind in ((), (*WRAP, "--size", "4294967295")):
-            name, read, count = f"t{number}-{len(kind)}", kind[:2], len(split(good))
+            name, read, count = f"t{number}-{len(kind)}", kind[:2], len(kept(good))
             stops(program.run("import", name, *kind, stdin=good + bad), f"refused {fault} at {len(good)}", f"created\nkept {count}\n")
-            same(program.good("export", name, *read), b"".join(kept(good)))
+            same(program.good("export", name, *read), good)
             # the same command once more
             told = program.good("import", name, *kind, stdin=drop(5))
             same(told, f"resumed {count}\nsealed {count + 1}\n".encode())
-            same(program.good("export", name, *read), b"".join(kept(good)) + drop(5))
+            same(program.good("export", name, *read), good + drop(5))
 
 
 @case
@@ -289,7 +339,7 @@ def what_is_told_as_kept_is_skipped_and_nothing_is_doubled(program):
     chance = random.Random(7)
     entries = [message(bytes([number % 256]) * chance.choice((1, 40, 3_000))) for number in range(300)]
     entries[150:151] = [message(bytes(65_532)), drop(4)]
-    stream, whole = b"".join(entries), b"".join(kept(b"".join(entries)))
+    stream = b"".join(entries)
     for kind in ((), (*WRAP, "--size", "9000", "--count", "200")):
         name, read = f"t{len(kind)}", kind[:2] + kind[4:]
         place, total = 0, 0
@@ -303,9 +353,9 @@ def what_is_told_as_kept_is_skipped_and_nothing_is_doubled(program):
                 continue
             count, then = kept_of(outcome)
             place, total = max(place, then), total + count
-            same(program.good("export", name, *read), b"".join(kept(stream[:place])))
-        same(program.good("import", name, *kind, "--skip", str(place), stdin=stream), f"resumed {total}\nsealed {len(entries)}\n".encode())
-        same(program.good("export", name, *read), whole)
+            same(program.good("export", name, *read), stream[:place])
+        same(program.good("import", name, *kind, "--skip", str(place), stdin=stream), f"resumed {total}\nsealed {len(kept(stream))}\n".encode())
+        same(program.good("export", name, *read), stream)
 
 
 @case
@@ -419,7 +469,7 @@ def wait_for(what):
 
 @case
 def what_a_pausing_writer_wrote_is_covered(program):
-    entries = kept(stream_of("node"))
+    entries, stored_entries = split(stream_of("node")), kept(stream_of("node"))
     for kind in ((), (*WRAP, "--size", "65536", "--count", "20")):
         name = f"t{len(kind)}"
         read = kind[:2] + kind[4:]
@@ -435,8 +485,8 @@ def what_a_pausing_writer_wrote_is_covered(program):
                 wait_for(lambda: program.run("export", name, *read).output == expected)
             importer.write(message(EXAMPLE)[:20])
             importer.kill()
-        same(program.good("list", name, *read), listing_of(entries))
-        same(program.good("record", name, *kind), f"resumed {len(entries)}\n".encode())
+        same(program.good("list", name, *read), listing_of(stored_entries))
+        same(program.good("record", name, *kind), f"resumed {len(stored_entries)}\n".encode())
 
 
 @case

@@ -3,8 +3,9 @@
 import json
 import struct
 
+import terms
 from cases import STREAMS, group, stored
-from entries import EXAMPLE, drop, message, split
+from entries import EXAMPLE, drop, kept, message, split
 from importing import stream_of
 from program import Outcome, same
 from segments import FILE_HEADER, STORED, batch, segment, wrap_header
@@ -29,10 +30,10 @@ def moment(mega, second, micro):
     return bytes.fromhex("6803") + b"".join(b"\x62" + struct.pack(">i", each) for each in (mega, second, micro))
 
 
-def counted(program, *words):
-    """How many lines of each word the readable listing has, in the order in which they are told."""
-    lines = program.good("list", "-p", *words).decode().splitlines()
-    found = [line.split(" ", 2)[1] for line in lines if line[0].isdigit()]
+def counted(entries):
+    """How many messages there are of each word of the readable listing, in the order in which they are told. Each entry is
+    one: a fragment of a long message is opaque."""
+    found = [terms.told(entry[5:]).split(" ")[0] for entry in entries if entry[0] == 0]
     return {word: found.count(word) for word in WORDS if word in found}
 
 
@@ -79,10 +80,10 @@ def each_line_of_a_node_is_counted(program):
     for name in ("node", "plain", "stamped", "mono"):
         stream = stream_of(name)
         program.good("import", name, stdin=stream)
-        entries = split(program.good("export", name))
+        entries = kept(stream)
         lines = ["kind: file", "version: 2", "state: sealed", f"entries: {len(entries)} (0 to {len(entries) - 1})", *numbers(entries)]
         lines.append(f"file {name}: entries {len(entries)}, bytes {len(b''.join(entries))}")
-        words = counted(program, name)
+        words = counted(entries)
         same(sum(words.values()), len([entry for entry in entries if entry[0] == 0]))
         lines += [f"{word}: {count}" for word, count in words.items()]
         said = program.good("info", name).decode().splitlines()
@@ -140,7 +141,7 @@ def a_wrap_of_a_node_has_its_newest_file_last(program):
     same(generations, sorted(generations))
     same(sum(int(line.split("entries ")[1].split(",")[0]) for line in files), len(entries))
     assert set(numbers(entries)) <= set(said), said
-    same({line.split(": ")[0]: int(line.split(": ")[1]) for line in said if line.split(":")[0] in WORDS}, counted(program, "t"))
+    same({line.split(": ")[0]: int(line.split(": ")[1]) for line in said if line.split(":")[0] in WORDS}, counted(entries))
 
 
 @case

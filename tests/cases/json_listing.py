@@ -46,6 +46,9 @@ def object_of(line, entries):
     if len(words) == 1:
         return {"kind": words[0]}
     number, kind, rest = int(words[0]), words[1], words[2]
+    if kind == "part":
+        part, _, count, _, _, _, _, size, _ = rest.split(" ")
+        return {"n": number, "kind": kind, "part": int(part), "of": int(count), "size": int(size)}
     if kind in COUNTED:
         return {"n": number, "kind": kind, COUNTED[kind]: int(rest)}
     return {"n": number, "kind": kind} | told_of_message(kind, rest, entries[number])

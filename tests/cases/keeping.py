@@ -7,7 +7,7 @@ import subprocess
 import time
 
 from cases import STREAMS, group, stored
-from entries import EXAMPLE, drop, goes_on, kept, listing_of, message, split, window
+from entries import EXAMPLE, drop, exported, goes_on, kept, listing_of, message, split, window
 from program import PATIENCE, Outcome, same
 
 CASES, case = group()
@@ -35,9 +35,9 @@ def broken_streams():
 def is_kept(program, words, good, bad, fault, opened="created", before=0):
     """Fails unless the import of a broken stream keeps what came, and says that it can be gone on with."""
     outcome = program.run("import", *words, stdin=good + bad)
-    total = before + len(split(good))
-    errors = f"dbgrec: refused {fault} at {len(good)}\n{goes_on(len(split(good)), len(good))}".encode()
-    same(outcome, Outcome(1, f"{opened}\nkept {total}\n".encode(), errors))
+    count = len(kept(good))
+    errors = f"dbgrec: refused {fault} at {len(good)}\n{goes_on(count, len(good))}".encode()
+    same(outcome, Outcome(1, f"{opened}\nkept {before + count}\n".encode(), errors))
 
 
 @case
@@ -48,7 +48,7 @@ def a_broken_stream_is_kept_and_the_trace_is_gone_on_with(program):
             is_kept(program, (name, *kind), good, bad, fault)
             entries = kept(good)
             first, left = window(entries, 200, 3) if kind else (0, entries)
-            same(program.good("export", name), b"".join(left))
+            same(program.good("export", name), exported(left))
             told = f"resumed {len(entries)}\nsealed {len(entries) + 1}\n".encode()
             same(program.good("import", name, *kind, stdin=drop(2)), told)
             assert program.good("export", name).endswith(drop(2)), first
@@ -62,7 +62,7 @@ def a_trace_is_gone_on_with_behind_each_of_many_breaks(program):
         for number, (good, bad, fault) in enumerate(broken_streams()):
             keep = ("--keep-open",) if number % 2 else ()
             is_kept(program, (name, *kind, *keep), good, bad, fault, opened, count)
-            count += len(split(good))
+            count += len(kept(good))
             opened = f"resumed {count}"
         same(program.good("record", name, *kind), f"resumed {count}\n".encode())
         program.refused("import", name, *kind, stdin=drop(1), says=SEALED.format(name))

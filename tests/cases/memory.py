@@ -208,6 +208,23 @@ def a_resumed_import_that_is_refused_memory_is_gone_on_with(program):
 
 
 @case
+def an_import_of_long_messages_that_is_refused_memory_is_gone_on_with(program):
+    # none of them is left in part
+    entries = [ENTRIES[0], message(LONGER), ENTRIES[5], message(bytes(140_000)), ENTRIES[1]]
+    Kept(program, "file").imports(entries, "--flush", "always")
+    Kept(program, "wrap").imports(entries, *WRAP)
+
+
+@case
+def a_listing_of_long_messages_that_is_refused_memory_is_a_beginning(program):
+    for kind in KINDS[:2]:
+        kept = Kept(program, kind[-1])
+        kept.program.good("import", "t", *kind, stdin=b"".join([ENTRIES[0], message(LONGER), ENTRIES[5], message(LONGER)]))
+        for words in (("list", "-p"), ("list", "--json"), ("list", "--only", "other"), ("export",), ("list",)):
+            kept.reads(*words, "t")
+
+
+@case
 def a_wipe_that_is_refused_memory_is_done_by_the_next(program):
     for kind in KINDS[:2]:
         kept = Kept(program, kind[-1])

@@ -6,9 +6,9 @@ import sys
 import time
 
 from cases import STREAMS, group
-from entries import EXAMPLE, example_line, listing, listing_of, message, split
+from entries import EXAMPLE, example_line, kept, listing, listing_of, message, split
 from program import same
-from terms import LONGEST_MESSAGE, OTHER_WORDS, Writer, fun_with, short_atom, told
+from terms import LONGEST_MESSAGE, OTHER_WORDS, Writer, fun_with, short_atom, stored_lines, told
 
 CASES, case = group()
 
@@ -52,7 +52,13 @@ def each_stored_term_of_otp_is_listed_as_otp_prints_it(program):
     lines = (STREAMS / "every_term.txt").read_bytes().splitlines()
     same(too_long(stream), [(86, 140_007)])
     same((len(lines), lines[86]), (693, b"86 opaque 140007"))
+    whole = told(split(stream)[86][5:], LONGEST_OF_STREAM)
     program.good("import", "t", stdin=stream)
+    # the long one stands in three entries, and those after it have numbers that are greater by two
+    after = [f"{number} {line.decode().split(' ', 1)[1]}" for number, line in enumerate(lines[87:-1], 89)]
+    same(program.good("list", "-p", "t").decode().splitlines(), [*(line.decode() for line in lines[:86]), f"86 {whole}", *after, "end_of_trace"])
+    program.good("wipe", "t")
+    same(program.run("import", "t", "--longest", "65531", stdin=stream).status, 0)
     same(program.good("list", "-p", "t").splitlines(), [*lines[:86], b"86 drop 1", *lines[87:]])
 
 
@@ -63,9 +69,9 @@ def each_stored_message_of_a_nodes_own_trace_has_its_term(program):
     same(long, [71, 72, 373, 374])
     program.good("import", "t", stdin=stream)
     listed = program.good("list", "-p", "t").decode().splitlines()
-    entries = split(stream)
-    same(listed, [f"{number} {'drop 1' if number in long else told(entry[5:])}" for number, entry in enumerate(entries)] + ["end_of_trace"])
-    same([line for line in listed if line.split()[1:2] == ["opaque"]], [])
+    same([line.split(" ", 1)[1] for line in listed[:-1]], [told(entry[5:], LONGEST_OF_STREAM) for entry in split(stream)])
+    same(listed, [*stored_lines(kept(stream)), "end_of_trace"])
+    same([line for line in listed if line.split()[1:2] in (["opaque"], ["part"])], [])
 
 
 @case

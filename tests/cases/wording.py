@@ -19,7 +19,7 @@ OF_NEW_FILES = OF_FILES | {"--size", "--time"}
 OF_LISTINGS = {"--pretty", "--json", "--from", "--to", "--only", "--pid", "--mfa"}
 
 COMMANDS = {
-    "import": OF_NEW_FILES | {"--flush", "--keep-open", "--skip", "--after-failure"},
+    "import": OF_NEW_FILES | {"--flush", "--keep-open", "--skip", "--longest", "--after-failure"},
     "record": OF_NEW_FILES | {"--after-failure"},
     "list": OF_FILES | OF_LISTINGS | {"--follow", "--salvage"},
     "export": OF_FILES | {"--salvage"},

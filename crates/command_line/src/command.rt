@@ -13,11 +13,14 @@ use std::alloc::{AllocError, Global};
 use std::convert::AsStr;
 use trace_text::{Choice, is_kind};
 
-/// The most bytes of a message that a listing of a stream shows in full, unless the command line says so.
+/// The most bytes of a message that `stream` shows in full and `import` keeps, unless the command line says so.
 const DEFAULT_LONGEST: u32 = 16 << 20;
 
 /// The most that the command line may say.
 const GREATEST_LONGEST: u32 = 256 << 20;
+
+/// The least that it may say of an import, which keeps what an entry holds in any case.
+const LEAST_KEPT: u32 = 65_531;
 
 /// An option with a value.
 fn option<'a>(alloc: Global, name: &'a str, value: &'a str, about: &'a str) -> Arg<'a> {
@@ -162,7 +165,11 @@ fn import<'a>(alloc: Global, command: Command<'a>) -> Result<Command<'a>, AllocE
     )?
     .arg(flush(alloc))?
     .arg(keep_open(alloc))?
-    .arg(skip(alloc))
+    .arg(skip(alloc))?
+    .arg(longest(
+        alloc,
+        "Keeps messages of up to so many bytes, from 65531 to 256M; a drop record of 1 stands instead of a longer one [default: 16M]",
+    ))
 }
 
 /// The command that records what a script says.
@@ -285,19 +292,17 @@ fn wipe<'a>(alloc: Global, command: Command<'a>) -> Result<Command<'a>, AllocErr
     ))
 }
 
-fn longest<'a>(alloc: Global) -> Arg<'a> {
-    option(
-        alloc,
-        "longest",
-        "SIZE",
-        "Shows messages of up to so many bytes in full, up to 256M, as --pretty does [default: 16M]",
-    )
+fn longest<'a>(alloc: Global, help: &'a str) -> Arg<'a> {
+    option(alloc, "longest", "SIZE", help)
 }
 
 fn stream<'a>(alloc: Global, command: Command<'a>) -> Result<Command<'a>, AllocError> {
     let command = command
         .after_help("Example: nc HOST 4711 | dbgrec stream -p")
-        .arg(longest(alloc))?;
+        .arg(longest(
+            alloc,
+            "Shows messages of up to so many bytes in full, up to 256M, as --pretty does [default: 16M]",
+        ))?;
     with_choice(alloc, command)
 }
 
@@ -417,7 +422,7 @@ fn wanted_in<'a>(matches: &ArgMatches<'a>) -> Result<Wanted<'a>, Misuse<'a>> {
 }
 
 /// How an import goes.
-fn rules_in(matches: &ArgMatches<'_>) -> Rules {
+fn rules_in<'a>(matches: &ArgMatches<'a>) -> Result<Rules, Misuse<'a>> {
     let flushing = match matches.get_str("flush") {
         Some("always") => Flushing::Always,
         Some("never") => Flushing::Never,
@@ -428,12 +433,12 @@ fn rules_in(matches: &ArgMatches<'_>) -> Rules {
     } else {
         Ending::Seal
     };
-    Rules {
+    Ok(Rules {
         skip: matches.get_one::<u64>("skip").unwrap_or(0),
-        longest: 0,
+        longest: longest_kept(matches)?,
         flushing,
         ending,
-    }
+    })
 }
 
 /// The kinds that are shown, if each word is one.
@@ -503,14 +508,27 @@ fn choice_in<'a>(alloc: Global, matches: &ArgMatches<'a>) -> Result<Option<Choic
     Ok(if choice.is_all() { None } else { Some(choice) })
 }
 
+/// A number of bytes, as a command line says it. None where it isn't one from the least to the greatest of a message.
+fn longest_in(text: &str, least: u32) -> Option<u32> {
+    match bytes_in(text) {
+        Some(size) if least <= size && size <= GREATEST_LONGEST => Some(size),
+        _ => None,
+    }
+}
+
 /// How many bytes the longest message has that a listing of a stream shows in full.
-fn longest_in<'a>(matches: &ArgMatches<'a>) -> Result<u32, Misuse<'a>> {
+fn longest_shown<'a>(matches: &ArgMatches<'a>) -> Result<u32, Misuse<'a>> {
     match matches.get_str("longest") {
         None => Ok(DEFAULT_LONGEST),
-        Some(text) => match bytes_in(text) {
-            Some(size) if size <= GREATEST_LONGEST => Ok(size),
-            _ => Err(Misuse::Longest(text)),
-        },
+        Some(text) => longest_in(text, 0).ok_or(Misuse::LongestShown(text)),
+    }
+}
+
+/// How many bytes the longest message has that an import keeps.
+fn longest_kept<'a>(matches: &ArgMatches<'a>) -> Result<u32, Misuse<'a>> {
+    match matches.get_str("longest") {
+        None => Ok(DEFAULT_LONGEST),
+        Some(text) => longest_in(text, LEAST_KEPT).ok_or(Misuse::LongestKept(text)),
     }
 }
 
@@ -563,7 +581,7 @@ fn trace_request_in<'a>(
         "record" => Some(TraceRequest::Record(wanted_in(matches)?)),
         "import" => Some(TraceRequest::Import {
             wanted: wanted_in(matches)?,
-            rules: rules_in(matches),
+            rules: rules_in(matches)?,
         }),
         "list" => Some(list_in(matches)),
         "export" => Some(export_in(matches)),
@@ -599,7 +617,7 @@ fn request_in<'a>(alloc: Global, matches: &ArgMatches<'a>) -> Result<Request<'a>
         Some(request) => Request::OfTrace(request),
         None if name == "stream" => Request::Stream {
             is_pretty: is_pretty(matches),
-            longest: longest_in(matches)?,
+            longest: longest_shown(matches)?,
             shown: shown_in(alloc, matches)?,
         },
         None => Request::Sim,

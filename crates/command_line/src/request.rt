@@ -60,7 +60,7 @@ pub enum Ending {
 pub struct Rules {
     /// The bytes of its input that it passes over first.
     pub skip: u64,
-    /// The most bytes of a message that is kept in fragments; any that an entry holds is kept.
+    /// The most bytes of a message that is kept.
     pub longest: u32,
     pub flushing: Flushing,
     pub ending: Ending,
@@ -177,8 +177,10 @@ pub enum Misuse<'a> {
     Form(Error),
     /// The value of `--size`.
     Size(&'a str),
-    /// The value of `--longest`.
-    Longest(&'a str),
+    /// The value of `--longest` of a listing.
+    LongestShown(&'a str),
+    /// The value of `--longest` of an import.
+    LongestKept(&'a str),
     /// A word of `--only` that is no kind.
     Kind(&'a str),
     /// The value of `--pid`.

@@ -15,9 +15,13 @@ use std::process::ExitCode;
 const A_SIZE: &str =
     "a number of bytes, at most 4294967295; k, M and G after it stand for powers of 1,024, as in 64k, and 4G for the most";
 
-/// What may stand for the number of `--longest`.
+/// What may stand for the number of `--longest` of a listing.
 const A_LONGEST: &str =
     "a number of bytes, at most 268435456; k, M and G after it stand for powers of 1,024, as in 64M";
+
+/// What may stand for that of an import.
+const A_LONGEST_KEPT: &str =
+    "a number of bytes, from 65531 to 268435456; k, M and G after it stand for powers of 1,024, as in 64M";
 
 /// What may stand for the kinds of `--only`.
 const KINDS: &str =
@@ -100,7 +104,8 @@ pub fn correct(rt: &(impl Print + Eprint), alloc: Global, misuse: Misuse<'_>) ->
         Misuse::NotText => refuse_bytes(rt),
         Misuse::Form(error) => correct_form(rt, alloc, &error),
         Misuse::Size(text) => refuse(rt, text, "--size <BYTES>", A_SIZE),
-        Misuse::Longest(text) => refuse(rt, text, "--longest <SIZE>", A_LONGEST),
+        Misuse::LongestShown(text) => refuse(rt, text, "--longest <SIZE>", A_LONGEST),
+        Misuse::LongestKept(text) => refuse(rt, text, "--longest <SIZE>", A_LONGEST_KEPT),
         Misuse::Kind(word) => refuse(rt, word, "--only <KIND[,KIND..]>", KINDS),
         Misuse::Process(text) => refuse(rt, text, "--pid <PID>", A_PROCESS),
         Misuse::Function(text) => refuse(rt, text, "--mfa <M[:F[/A]]>", A_FUNCTION),
