@@ -11,6 +11,7 @@ from cases import STREAMS, group, stored
 from choosing import Asked, Listed, misused, put_together
 from crashes import resumed, unread
 from entries import EXAMPLE, HEAD, LOAD, LONGEST, drop, example_line, exported, fragments, goes_on, joined, kept, listing, listing_of, lost_in, message, split, window
+from info import counted, words_of
 from json_listing import check_all, objects_of
 from long_messages import LIMITED, MEGABYTE, PID, atom, binary, integer, of_size, string
 from program import Outcome, Program, same
@@ -123,12 +124,12 @@ def long_messages_of_each_size_are_listed_whole(program):
 
 
 @case
-def plain_listings_simulations_and_listings_that_follow_show_the_entries(program):
+def plain_listings_and_simulations_show_the_entries(program):
     data, _ = term(150_000)
     parts = fragments(data)
     program.good("import", "t", stdin=message(data) + message(EXAMPLE))
     lines = ["0 opaque 65531", "1 opaque 65531", f"2 opaque {len(parts[2]) - 5}", example_line(3)]
-    for words in (("list",), ("list", "--follow"), ("list", "-p", "--follow")):
+    for words in (("list",), ("list", "--follow")):
         same((words, program.good(*words, "t")), (words, listing(0, 0, lines)))
     script = ["create file 999999", *(f"put {entry[5:].hex()}" for entry in (*parts, message(EXAMPLE))), "close", "list"]
     told_so = ["ok", *(f"entry {number}" for number in range(4)), "closed", *lines, "end_of_trace"]
@@ -145,8 +146,31 @@ def the_numbers_of_a_trace_are_those_of_its_entries(program):
     entries = kept(stream)
     size = len(b"".join(entries))
     lines = ["kind: file", "version: 2", "state: sealed", "entries: 7 (0 to 6)", "drop records: 1, messages lost: 4", f"bytes: {size}"]
-    lines += [f"file t: entries 7, bytes {size}", "receive: 1", "opaque: 5"]
+    lines += [f"file t: entries 7, bytes {size}", "receive: 1", "other: 2"]
     same(program.good("info", "t").decode().splitlines(), lines)
+
+
+def sealed(data):
+    """A file that ends at a gate, sealed there."""
+    return data[:-1] + b"\2"
+
+
+@case
+def a_listing_that_follows_puts_long_messages_together(program):
+    parts, data = fragments(term(200_000)[0]), term(70_000)[0]
+    whole = [message(EXAMPLE), *parts, drop(2), *fragments(data), message(EXAMPLE)]
+    for number, entries in enumerate((whole, whole[:3], [*parts[:2], *whole], parts[1:], [*parts, parts[0]])):
+        (program.folder / f"t{number}").write_bytes(sealed(segment(FILE_HEADER, *entries)))
+        lines = listing(0, 0, stored_lines(entries))
+        for words in (("list", "-p"), ("list", "-p", "-f")):
+            same((words, program.good(*words, f"t{number}")), (words, lines))
+        same(words_of(program.good("info", f"t{number}").decode().splitlines()), counted(entries))
+    # of a wrap that is read as a whole first, each file of which begins within a message
+    sizes = {"size": 65_000, "count": 4}
+    for file, entry in enumerate(parts):
+        data = segment(wrap_header(file, before=file, **sizes), entry)
+        (program.folder / f"w{file}").write_bytes(sealed(data) if file + 1 == len(parts) else data)
+    same(program.good("list", "-p", "-f", "w"), listing(0, 0, stored_lines(parts)))
 
 
 # ---- choices
@@ -315,10 +339,9 @@ def fragments_that_are_out_of_order_or_lie_are_parts_or_opaque(program):
         # and so they are where a stream has them
         same(program.good("import", f"u{number}", stdin=b"".join(entries)), f"created\nsealed {len(entries)}\n".encode())
         check(program, entries, f"u{number}", before=LIMITED)
-        count = sum(told(entry[5:]).startswith("opaque ") for entry in entries if entry[0] == 0)
         outcome = program.run("info", f"u{number}", before=LIMITED)
         same((outcome.status, outcome.errors), (0, b""))
-        assert f"\nopaque: {count}\n".encode() in outcome.output, outcome
+        same(words_of(outcome.output.decode().splitlines()), counted(entries))
 
 
 @case

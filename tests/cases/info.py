@@ -5,7 +5,7 @@ import struct
 
 import terms
 from cases import STREAMS, group, stored
-from entries import EXAMPLE, drop, kept, message, split
+from entries import EXAMPLE, drop, joined, kept, message, split
 from importing import stream_of
 from program import Outcome, same
 from segments import FILE_HEADER, STORED, batch, segment, wrap_header
@@ -18,7 +18,7 @@ WRAP = ("--kind", "wrap")
 WORDS = (
     "call return exception return_to send send_lost receive spawn spawned exit register unregister link unlink "
     "getting_linked getting_unlinked in in_exiting out out_exiting out_exited gc_minor_start gc_minor_end "
-    "gc_major_start gc_major_end gc_max_heap_size open closed seq_trace opaque other"
+    "gc_major_start gc_major_end gc_max_heap_size open closed seq_trace opaque other part"
 ).split()
 
 # a message with a time stamp: {trace_ts,<nonode@nohost.80.0.0>,'receive',ok,STAMP}
@@ -31,10 +31,15 @@ def moment(mega, second, micro):
 
 
 def counted(entries):
-    """How many messages there are of each word of the readable listing, in the order in which they are told. Each entry is
-    one: a fragment of a long message is opaque."""
-    found = [terms.told(entry[5:]).split(" ")[0] for entry in entries if entry[0] == 0]
+    """How many messages there are of each word of the readable listing, in the order in which they are told, and then how many
+    parts of long ones."""
+    found = [terms.told_of_stored(word, what).split(" ")[0] for _, word, what in joined(entries)]
     return {word: found.count(word) for word in WORDS if word in found}
+
+
+def words_of(said):
+    """The same of the lines that were told."""
+    return {line.split(": ")[0]: int(line.split(": ")[1]) for line in said if line.split(":")[0] in WORDS}
 
 
 def numbers(entries):
@@ -84,7 +89,7 @@ def each_line_of_a_node_is_counted(program):
         lines = ["kind: file", "version: 2", "state: sealed", f"entries: {len(entries)} (0 to {len(entries) - 1})", *numbers(entries)]
         lines.append(f"file {name}: entries {len(entries)}, bytes {len(b''.join(entries))}")
         words = counted(entries)
-        same(sum(words.values()), len([entry for entry in entries if entry[0] == 0]))
+        same(sum(words.values()), len([word for _, word, what in joined(entries) if word == "message" or what[0] == 0]))
         lines += [f"{word}: {count}" for word, count in words.items()]
         said = program.good("info", name).decode().splitlines()
         same(said[: len(lines)], lines)
@@ -141,7 +146,7 @@ def a_wrap_of_a_node_has_its_newest_file_last(program):
     same(generations, sorted(generations))
     same(sum(int(line.split("entries ")[1].split(",")[0]) for line in files), len(entries))
     assert set(numbers(entries)) <= set(said), said
-    same({line.split(": ")[0]: int(line.split(": ")[1]) for line in said if line.split(":")[0] in WORDS}, counted(entries))
+    same(words_of(said), counted(entries))
 
 
 @case
