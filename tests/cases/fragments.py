@@ -152,7 +152,7 @@ def the_numbers_of_a_trace_are_those_of_its_entries(program):
 
 def sealed(data):
     """A file that ends at a gate, sealed there."""
-    return data[:-1] + b"\2"
+    return data[:-1] + b"\1" + bytes(4)
 
 
 @case
