@@ -275,6 +275,10 @@ def damage_within_a_long_message_leaves_its_first_fragments_as_parts(program):
         data = b"\1" + FILE_HEADER + batch(message(b"x")) + batch(b"".join(entries[:count]) + b"\2") + b"\0"
         (program.folder / "u").write_bytes(data)
         is_cut(program, [message(b"x"), *entries[:count]], "u", 1 + len(FILE_HEADER) + len(batch(message(b"x"))))
+    # a line stands for each entry of a long message
+    for words in (("list", "-p"), ("list", "--json"), ("list",)):
+        outcome = program.run(*words, "u")
+        same(outcome.errors.split(b"\n")[1], f"u is damaged there: the {1 + len(entries)} entries before it are listed".encode())
     # of a wrap one file is damaged, in which a long message goes on
     sizes = {"size": 65_000, "count": 4}
     (program.folder / "w0").write_bytes(segment(wrap_header(0, **sizes), message(EXAMPLE) + first))
