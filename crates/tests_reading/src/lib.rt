@@ -1,5 +1,5 @@
-//! Tests of stores, of recovery, of the text of entries and of the client that lists a trace, through what each crate offers to
-//! others. They stand on no port and on no desk. What is read of segments is shown by `tests/cases/readings.py`.
+//! Tests of stores, of recovery and of the client that lists a trace, through what each crate offers to others. They stand on no
+//! port and on no desk. What is read of segments is shown by `tests/cases/readings.py`.
 #![tactic(auto)]
 
 #[cfg(test)]

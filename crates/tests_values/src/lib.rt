@@ -1,6 +1,6 @@
 //! Tests of terms, of their External Term Format, of trace messages, of entries, and of a tracee's intake, through what each
-//! crate offers to others; and what tests of more than one crate begin with. Its calls are made once more where memory is
-//! refused.
+//! crate offers to others; and what tests of more than one crate begin with. In `refused_memory_terms` calls are refused memory,
+//! and made again.
 #![tactic(auto)]
 
 #[cfg(test)]

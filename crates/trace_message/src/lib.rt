@@ -1,4 +1,12 @@
-//! The messages of a trace: the terms that stand for events, and which event a term stands for.
+//! The messages of a trace (`erlang:trace/3`): the terms that stand for events, and which event a term stands for.
+//!
+//! `message` makes the term of an `Event`, with the time stamp that the `Flags` ask for, and answers None where they don't ask
+//! for the event (`message_of`). `classify` answers the kind of event that a term tells of, by its shape alone, and None exactly
+//! where that is the shape of no kind (`IsMessage`). No term is a message of two kinds (`one_kind`), and the message of an event
+//! is of the event's kind (`messages_have_their_kind`). A `Glance` is enough of a term that isn't held in memory to tell its kind
+//! (`a_glance_tells_the_kind`).
+//!
+//! The kinds (`Seen`) are those of calls, returns, exceptions, and messages sent or received; other trace messages have none.
 #![tactic(auto)]
 
 mod event;
