@@ -1,4 +1,13 @@
-//! A port that is held for the lines of a script, alone or at a desk: what each line asks of it, what is answered, and how it is given up.
+//! A port that is held for the lines of a script: what each line asks of it, how that is answered, and how it is given up.
+//!
+//! A port takes the entries of one trace and keeps them in a store. `hold_file` and `hold_wrap` make one over an opening, which
+//! says what was found or begun in the store, of a trace in one file or in several used in turn, a wrap; they run lines on it
+//! until it is given up, and drop it (`WasHeld`). `record_file` and `record_wrap` do so at a desk, where traced processes hand it
+//! their messages, `run_desk` at a desk that is there. Each line that the script gives is done once, in order (`AreTheLines`); it
+//! asks what it says and nothing else (`IsAsked`), and what is written tells how that was answered (`Tells`). Where the store
+//! follows the disk model, a crash at any moment leaves a prefix of what was accepted, of a wrap the last files of one, with all
+//! that was flushed before that moment's line (`IsHeld`). `SimFault` is what ends a run; its `status` is 2 exactly for a line
+//! that isn't a command. No trace is opened here.
 #![tactic(auto)]
 
 mod answer;

@@ -1,5 +1,12 @@
-//! How a listing is shown: as it is, or up to an empty line, at which it ends; and where: standard output, the clock, and
-//! standard error.
+//! How a listing is shown, whole or up to the last entry that is chosen, and where: standard output, standard error, the clock.
+//!
+//! `show` shows what can be listed (`Listable`), by the entries that are chosen (`Shows`): as it is; or, where it may end behind
+//! one of them (`may_end`), what stands before its first empty line, which a listing has there (`UpToEnd`). It is then told as
+//! done, unless it can't be written out (`IsToldBy`). Of whole lines, none empty, all is shown (law
+//! `ends_at_the_first_empty_line`). `Outlet` is standard output, `Inlet` standard input; each keeps why the system refused a
+//! call. A terminal gets each line when it is written. `Console` is the clock, and standard error, where it shows how far a long
+//! run is. Of their bytes nothing is known, so a clause on what is shown says something for other readers and writers alone; none
+//! says what stands on standard error. Which lines a listing has is said where it is made.
 #![tactic(auto)]
 
 mod console;

@@ -1,4 +1,12 @@
-//! The lines of a script, as docs/FORMATS.md has them, read one at a time.
+//! The lines of a script, which says what is done with a trace or with a store in memory, read one at a time.
+//!
+//! `parse` answers the line that a text spells, or None where it spells none (`Spells`, by the table in docs/FORMATS.md). No text
+//! spells two lines that say different things (law `one_line`). A line is within limits (`IsWithinLimits`), so that the entry
+//! that it puts may be stored. `Script::next_line` passes over empty lines and remarks, and answers the next line, the end, or
+//! why neither comes, and its contract says which bytes it took off the reader for that (`TellsNext`). A line is refused, with
+//! its number, where it has more than 300,000 bytes, isn't UTF-8, or spells no line that may stand there (`IsRefused`). A script
+//! for a desk, where traced processes hand their messages to one port, has lines for that alone (`IsOfRecord`). A script of more
+//! than 1,099,511,627,776 bytes is too long (`TellsRoom`). No line is run here.
 #![tactic(auto)]
 
 mod arguments;

@@ -1,6 +1,13 @@
-//! What a listing has of an entry: a line, with the text of the term that a message is, plain or readable, or a JSON object. Which
-//! entries are listed: a choice looks at the number of an entry and at its term (`chooses`), and its lines are those of the whole
-//! listing whose entries are chosen (`chosen_lines_are_kept`).
+//! The text of a listing: what stands in it for each entry, a line of text or a JSON object, and which entries have one.
+//!
+//! An entry is one message, or a drop record, which says how many messages were lost at its place. `put_line` puts what a listing
+//! in a `Style` has of it (`IsLine`): its number, and the kind and text of the term that the message spells, plainly, of terms
+//! that events are made of (`IsPlainTold`), or of any term as a node's shell shows it (`IsPrettyTold`); or an object of these
+//! (`IsObject`), whose text reads back as that object (law `objects_read_back`). A message that spells no such term is opaque:
+//! its size stands there. `IsListing` is a whole listing, with the lines that `put_before` and `put_end` put. A `Choice` asks for
+//! entries by their numbers and terms (`chooses`): its listing has the lines of the whole one whose entries it asks for, in
+//! order, and an empty line where it ends (law `chosen_lines_are_kept`). Where memory runs out, nothing is said of the text.
+//! Nothing is read or written out here, and no message is put together from several entries.
 #![tactic(auto)]
 
 mod any_laws;
