@@ -18,6 +18,7 @@ import traceback
 import absent
 import choosing
 import crashes
+import documents
 import emitting
 import faults
 import following
@@ -52,7 +53,7 @@ import wording
 from cases import Skipped
 from program import Program
 
-GROUPS = (rows, scripts, emitting, readings, listing, pretty, long_messages, fragments, forms, choosing, json_listing, recording, importing, info, foreign, absent, keeping, telling, crashes, images, machine, faults, locking, replacing, live, following, windows, salvage, large, wording, installing, memory, libraries, reaching)
+GROUPS = (rows, scripts, emitting, readings, listing, pretty, long_messages, fragments, forms, choosing, json_listing, recording, importing, info, foreign, absent, keeping, telling, crashes, images, machine, faults, locking, replacing, live, following, windows, salvage, large, wording, documents, installing, memory, libraries, reaching)
 
 
 def words():
