@@ -12,6 +12,7 @@ pub struct Inlet<'a> {
 }
 
 impl<'a> Inlet<'a> {
+    /// Standard input of the process. A read that fails replaces the reason that is noted there; one that succeeds leaves it.
     pub fn over(rt: &HostRuntime, reason: &'a Cell<Option<io::Error>>) -> Inlet<'a> {
         Inlet {
             inner: rt.stdin(),

@@ -41,7 +41,7 @@ impl Word {
         text == self.text().as_bytes()
     }
 
-    /// The word of this text.
+    /// The word of this text, if it is one.
     #[tactic(auto, unfolding(crate::specs::Words::word_named))]
     #[inline(never)]
     pub fn spelled(text: &[u8]) -> Option<Word>
