@@ -17,7 +17,7 @@ use trace_reader::{Host, ReadFault, TraceSummary, Watched};
 /// How often a trace that isn't whole is read again at most, while another process writes it.
 const AGAIN: u32 = 4;
 
-/// What its files were found to hold, together, and whether another process has the trace.
+/// Makes an `Info`: names the files, asks whether another process has the trace's lock, and adds what was found in each.
 fn gathered(files: &Files<'_>, summary: TraceSummary) -> Result<Info, AllocError>
     ensures { IfOk result (λ info. info.outlined ≡ summary.outlined) }
 {

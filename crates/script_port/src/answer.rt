@@ -54,7 +54,7 @@ pub enum Answer {
 }
 
 impl Answer {
-    /// How a port was opened whose trace has so many entries.
+    /// The answer that tells how a port was opened whose trace has `accepted` entries.
     pub fn opened(origin: Origin, accepted: u64) -> Answer
         ensures { result ≡ told.opened_answer origin accepted }
     {

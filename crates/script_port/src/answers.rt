@@ -79,7 +79,7 @@ impl<'w, W: Write> Answers<'w, W> {
         }
     }
 
-    /// Answers for somebody who waits for them.
+    /// Answers that are each written out at once.
     pub fn at_once(writer: &'w mut W) -> Answers<'w, W>
         ensures name { result.writer.ghost_name ≡ writer.entry.ghost_name }
         ensures now { result.writer.now ≡ writer.entry.now }
@@ -90,7 +90,7 @@ impl<'w, W: Write> Answers<'w, W> {
         }
     }
 
-    /// A line with the answer. After a fault a part of it is written, or all or nothing.
+    /// Writes a line with the answer. After a fault a part of it is written, or all or nothing.
     pub fn tell(&mut self, answer: Answer) -> Result<(), SimFault>
         ensures name { self.new.writer.ghost_name ≡ self.old.writer.ghost_name }
         ensures text { OnOk result (Appends (W.contents self.old.writer.now) (W.contents self.new.writer.now) (line_of answer)) }
@@ -109,7 +109,7 @@ impl<'w, W: Write> Answers<'w, W> {
         Ok(())
     }
 
-    /// A file with its length and, unless it is empty, its first byte.
+    /// Writes the line of a file, with its length and, unless it is empty, its first byte.
     pub fn file(&mut self, file: u32, length: u64, gate: Option<u8>) -> Result<(), SimFault>
         ensures name { self.new.writer.ghost_name ≡ self.old.writer.ghost_name }
         ensures text { Writes (W.contents self.old.writer.now) (W.contents self.new.writer.now) result (state_text file length gate) }

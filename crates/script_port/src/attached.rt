@@ -18,7 +18,7 @@ pub struct Attached {
 impl Attached {
     ghost use Rattle.std.specs.Prelude.{[], nat_eq, pos, position};
 
-    /// No tracee yet, at the moment 0.
+    /// A list of no tracees, at the moment 0.
     pub fn new(alloc: Global) -> Attached
         ensures moment { result.moment ≡ record { mega = 0; sec = 0; micro = 0; mono = pos 0 } }
         ensures none { result.traced.items ≡ [] }
@@ -55,7 +55,7 @@ impl Attached {
         self.moment.mono = mono;
     }
 
-    /// The place of the tracee of this number.
+    /// The index of the tracee with this number; None where none is attached.
     pub fn place(&self, number: u32) -> Option<usize>
         ensures { result ≡ position (λ traced. nat_eq traced.tracee.number number) self.now.traced.items }
     {
@@ -65,7 +65,7 @@ impl Attached {
     }
 }
 
-/// The process of a tracee of this number.
+/// The pid of the process that a tracee with this number stands for.
 fn pid(alloc: Global, number: u32) -> Result<Pid, TraceeFault>
     requires { number ≤ 999 }
     ensures pid { IfOk result (λ pid. pid ≡ record { node = codes "nonode@nohost"; id = 80 + number; serial = 0; creation = 0 }) }
@@ -83,7 +83,7 @@ fn pid(alloc: Global, number: u32) -> Result<Pid, TraceeFault>
     }
 }
 
-/// A tracee to which nothing has come.
+/// A new tracee, to which no event has come; Err where its capacity or limit is bad, or memory is refused.
 pub fn new_tracee(
     alloc: Global,
     number: u32,

@@ -21,7 +21,8 @@ use trace_port::TracePort;
 use trace_script::{DeskLine, Line, Script, TraceeLine};
 use tracees::{Desk, PlainBook, Traced};
 
-/// Runs lines at a desk until its port is given up. No tracee is attached at first, and the moment is 0.
+/// Runs lines at a desk until one gives its port up, and answers how; None where they end before. No tracee is attached at first,
+/// and the moment is 0.
 pub fn run_desk<P: TracePort, R: BufRead, W: Write>(
     alloc: Global,
     desk: &mut Desk<'_, P, PlainBook>,
@@ -45,7 +46,7 @@ pub fn run_desk<P: TracePort, R: BufRead, W: Write>(
     Err(SimFault::Read)
 }
 
-/// Asks a desk, or its port, what the line says, and lets go of the line.
+/// Asks a desk, or its port, what the line says, and drops the line.
 fn ask_owned<P: TracePort>(
     alloc: Global,
     desk: &mut Desk<'_, P, PlainBook>,
@@ -131,7 +132,7 @@ fn ask_desk<P: TracePort>(
     }
 }
 
-/// Attaches a new tracee.
+/// Attaches a new tracee; `OutOfOrder` where one with this number is attached.
 fn attach<P: TracePort>(
     alloc: Global,
     desk: &mut Desk<'_, P, PlainBook>,

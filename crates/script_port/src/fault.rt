@@ -84,7 +84,7 @@ pub enum SimFault {
 }
 
 impl SimFault {
-    /// Whether the stream that came in ended it, or lack of memory for that.
+    /// Whether the input ended the run: it couldn't be read, an entry of it is bad, or memory was refused.
     pub fn is_of_stream(&self) -> bool
         ensures { IsTrue result ↔ IsOfStream self.now }
     {

@@ -1,4 +1,4 @@
-//! A port that is held for the lines of a script: what each line asks of it, how that is answered, and how it is given up.
+//! Runs a script's lines on a port until one gives it up. `SimFault` is the fault of every command, `import` and `list` too.
 //!
 //! A port takes the entries of one trace and keeps them in a store. `hold_file` and `hold_wrap` make one over an opening, which
 //! says what was found or begun in the store, of a trace in one file or in several used in turn, a wrap; they run lines on it

@@ -7,7 +7,7 @@ use crate::fault::SimFault;
 use std::io::BufRead;
 use trace_script::{Line, Script};
 
-/// Whether the line names a file that isn't one of so many.
+/// Whether the line names a file beyond the `files` that there are.
 fn is_beyond(line: &Line, files: u32) -> bool
     ensures beyond { result ≡ true → IsOfFiles files line.now → ⊥ }
     ensures within { result ≡ false → IsOfFiles files line.now }
@@ -18,7 +18,8 @@ fn is_beyond(line: &Line, files: u32) -> bool
     }
 }
 
-/// The next line that isn't empty or a remark. One that names a file that isn't one of so many is a bad command.
+/// The next line that isn't empty or a remark; None at the end. Err where one is bad, or names a file beyond the `files` that
+/// there are.
 pub fn next_line<R: BufRead>(
     script: &mut Script<'_, R>,
     files: u32,

@@ -24,7 +24,7 @@ pub enum HandRefusal {
 }
 
 impl HandRefusal {
-    /// What a fault tells.
+    /// The refusal that a fault is told as.
     pub fn of(fault: &HandFault) -> HandRefusal
         ensures { result ≡ told.hand_refusal fault.now }
     {

@@ -37,7 +37,7 @@ pub struct Console {
 }
 
 impl Console {
-    /// Where nothing is to be shown, `is_quiet`.
+    /// A console whose clock begins now; it shows nothing where `is_quiet` is true, or standard error is no terminal.
     pub fn new(rt: HostRuntime, is_quiet: bool) -> Console
         ensures { result.observed.notes ≡ [] }
     {

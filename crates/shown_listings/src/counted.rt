@@ -68,7 +68,7 @@ impl fmt::Display for Sight {
     }
 }
 
-/// What stands behind the number of an entry, in its line or its object; None where a line has no number.
+/// What follows the number of an entry in its line or its object; None where a line has no number.
 fn kind_in(head: &[u8]) -> Option<&[u8]> {
     let numbered = head.strip_prefix(OBJECT).unwrap_or(head);
     let end = numbered.iter().position(|byte| !byte.is_ascii_digit())?;
@@ -104,7 +104,7 @@ impl Tally {
         }
     }
 
-    /// Counts the entry of the line that ends, if it is one's.
+    /// Counts the entry of the line that ends, if it is one's; an empty line ends the listing.
     fn end_line(&mut self) {
         let head = &self.head[..self.length.min(HEAD)];
         self.is_over = self.is_over || head.is_empty();
@@ -127,7 +127,7 @@ impl Tally {
         }
     }
 
-    /// Takes what was written.
+    /// Counts the entries whose lines end in these bytes.
     fn note(&mut self, bytes: &[u8]) {
         let mut is_new = false;
         for part in bytes.split(|byte| *byte == b'\n') {
@@ -188,7 +188,7 @@ pub struct Counted<S> {
 }
 
 impl<S: Listable> Counted<S> {
-    /// The entries that are chosen are counted.
+    /// A listing whose chosen entries are counted where `is_on` is true.
     pub fn new(rt: &HostRuntime, listing: S, is_on: bool) -> Counted<S>
         ensures { result.listing ≡ listing }
     {

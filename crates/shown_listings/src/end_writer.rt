@@ -24,7 +24,7 @@ pub struct EndWriter<W: Write> {
     pub ghost held: { Appends given.start (W.contents out) (before_empty true given.bytes) } by { Appends-prop given.start (W.contents out) (before_empty true given.bytes) },
 }
 
-/// How many bytes stand before the line feed of an empty line; None where there is none.
+/// How many bytes come before the line feed of the first empty line; None where no empty line ends in these bytes.
 fn find_end(is_fresh: bool, bytes: &[u8]) -> Option<usize>
     ensures { MatchOption result (has_empty is_fresh bytes.now ≡ false) (λ count. (count < length bytes.now) × (take count bytes.now ≡ before_empty is_fresh bytes.now) × (has_empty is_fresh bytes.now ≡ true)) }
 {
@@ -39,7 +39,7 @@ fn find_end(is_fresh: bool, bytes: &[u8]) -> Option<usize>
     None
 }
 
-/// Whether what comes behind these bytes begins a line.
+/// Whether the byte that follows these begins a line.
 fn is_fresh_after(is_fresh: bool, bytes: &[u8]) -> bool
     ensures { result ≡ is_fresh_behind is_fresh bytes.now }
 {
@@ -50,7 +50,7 @@ fn is_fresh_after(is_fresh: bool, bytes: &[u8]) -> bool
 }
 
 impl<W: Write> EndWriter<W> {
-    /// Hands on to this writer.
+    /// A writer that hands on to `out`.
     pub fn new(out: W) -> EndWriter<W>
         ghost start: { Option (List ℕ) }
         requires { start ≡ W.contents out }
@@ -66,7 +66,7 @@ impl<W: Write> EndWriter<W> {
         }
     }
 
-    /// Takes the line feed of an empty line.
+    /// Notes the line feed of an empty line, which isn't handed on.
     fn end(&mut self)
         requires fresh { self.old.is_fresh ≡ true }
         requires goes_on { self.old.is_ended ≡ false }

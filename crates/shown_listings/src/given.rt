@@ -17,7 +17,7 @@ impl Model for Given {
 }
 
 impl Given {
-    /// Nothing was given yet.
+    /// A note that nothing was given.
     pub fn new() -> Given
         ghost start: { Option (List ℕ) }
         ensures { (result.start ≡ start) × (result.bytes ≡ []) }
@@ -27,7 +27,7 @@ impl Given {
         }
     }
 
-    /// These bytes are given.
+    /// Notes that these bytes were given.
     pub fn note(&mut self, _bytes: &[u8])
         ensures { self.new ≡ record self.old { bytes = self.old.bytes ++ _bytes.now } }
     {}

@@ -1,4 +1,5 @@
-//! How a listing is shown, whole or up to the last entry that is chosen, and where: standard output, standard error, the clock.
+//! Standard input, output and error of the commands; and `show`, which writes a listing out. With `--to`, a listing marks its end
+//! by an empty line; `show` writes only what stands before that.
 //!
 //! `show` shows what can be listed (`Listable`), by the entries that are chosen (`Shows`): as it is; or, where it may end behind
 //! one of them (`may_end`), what stands before its first empty line, which a listing has there (`UpToEnd`). It is then told as

@@ -42,7 +42,7 @@ impl<W: Output> Output for EndWriter<W> {
     }
 }
 
-/// The writer below, which ends.
+/// The writer to which `lines` hands on.
 fn out_of<W: Write>(lines: EndWriter<W>) -> W
     ensures { result ≡ lines.out }
 {
@@ -60,7 +60,7 @@ fn write_out<W: Write>(output: &mut W) -> Result<(), Complaint>
     }
 }
 
-/// How a listing ended; or whether what is shown is written out, where it ended at an empty line.
+/// How a listing ended; where that was at an empty line, whether what came before it could be written out.
 fn told_of<W: Write>(
     done: Result<(), Complaint>,
     is_ended: bool,
@@ -85,7 +85,7 @@ fn may_end(choice: &Option<Choice>) -> bool
     }
 }
 
-/// Lists up to an empty line.
+/// Lists what comes before the first empty line of a listing.
 fn list_to_end<S: Listable, R: Wait, I: Read + Drop, W: Output>(
     alloc: Global,
     waiter: &R,
@@ -104,7 +104,7 @@ fn list_to_end<S: Listable, R: Wait, I: Read + Drop, W: Output>(
     (told, left)
 }
 
-/// Lists it, up to an empty line where there may be one.
+/// Lists what is shown: up to an empty line, where the listing may have one (`may_end`), else all.
 fn list_shown<S: Listable, R: Wait, I: Read + Drop, W: Output>(
     alloc: Global,
     waiter: &R,

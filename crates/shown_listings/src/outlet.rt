@@ -15,11 +15,11 @@ const TERMINAL_BUFFER: usize = 1;
 /// What is written to. It can be taken from where it is lent, so that its owner knows what it holds then: what a call did to a
 /// struct that was lent a writer is known of the struct's value, and not that it still has the same writer.
 pub trait Output: Write + Drop {
-    /// One that refuses each byte, to be left in its place.
+    /// A stand-in that refuses every byte; `taken` leaves it where the writer was.
     fn none(alloc: Global) -> Self;
 }
 
-/// Takes it, and leaves one that refuses each byte.
+/// Takes the writer out of `output`, and leaves one there that refuses each byte.
 pub fn taken<W: Output>(alloc: Global, output: &mut W) -> W
     ensures { result ≡ output.old }
 {
@@ -48,7 +48,7 @@ impl Outlet {
         })
     }
 
-    /// Why the last write that failed did so.
+    /// Why the last write or flush that failed did so; None where none failed.
     pub fn reason(&self) -> Option<io::Error> {
         self.reason
     }
@@ -82,6 +82,7 @@ impl Write for Outlet {
 }
 
 impl Output for Outlet {
+    /// Without standard output: a write fails, a flush succeeds.
     fn none(_alloc: Global) -> Outlet {
         Outlet {
             inner: None,

@@ -77,7 +77,8 @@ fn first_of(done: Result<(), SimFault>, flushed: Result<(), SimFault>) -> Result
     }
 }
 
-/// Runs lines while no port is held.
+/// Runs the lines that a script has left, up to its end or the first fault. A line that makes a port takes those after it, until
+/// that is given up.
 pub fn run_lines<R: BufRead, W: Write>(
     alloc: Global,
     store: &mut MemStore,
@@ -95,7 +96,7 @@ pub fn run_lines<R: BufRead, W: Write>(
     Err(SimFault::Read)
 }
 
-/// Runs a line with the lines that its port takes, and answers how that was left.
+/// Runs a line with the lines that its port takes, and writes how that port was left.
 fn run_whole<R: BufRead, W: Write>(
     alloc: Global,
     store: &mut MemStore,
@@ -112,7 +113,7 @@ fn run_whole<R: BufRead, W: Write>(
     finish(store, left, answers)
 }
 
-/// Runs a line and, where it makes a port, the lines after it until that is given up.
+/// Runs a line and, where it makes a port, the lines after it until one gives that up; answers how, None where none does.
 fn run_line<R: BufRead, W: Write>(
     alloc: Global,
     store: &mut MemStore,
@@ -151,7 +152,7 @@ fn no_wrap() -> Stop
     Stop::Refused(Refusal::Create(CreateFault::BadSpec))
 }
 
-/// Runs a line that makes no port, as a line whose port is no more.
+/// Runs a line that makes no port, and answers None; Err where that ends the run.
 fn run_alone<W: Write>(
     alloc: Global,
     store: &mut MemStore,
@@ -168,7 +169,7 @@ fn run_alone<W: Write>(
     }
 }
 
-/// What comes of a line whose port was run.
+/// How a line's port was left; a fault of its run stops the script.
 fn ended(left: Result<Option<Leave>, SimFault>) -> Result<Option<Leave>, Stop>
     ensures { result ≡ ended_so left }
 {
@@ -313,7 +314,7 @@ fn cleared(store: &mut MemStore) -> Answer
     }
 }
 
-/// Puts a blank store instead of this one.
+/// Replaces the store by a blank one of `files` files.
 fn set_store(alloc: Global, store: &mut MemStore, files: u32) -> Answer
     requires { (1 ≤ files) × (files ≤ 1001) }
     ensures { Does store.old store.new (lines.Store files) (line_of result) }
@@ -327,7 +328,7 @@ fn set_store(alloc: Global, store: &mut MemStore, files: u32) -> Answer
     }
 }
 
-/// Puts a store instead of this one, in which this file holds these bytes.
+/// Replaces the store by one with these bytes in this file, and nothing unsynced.
 fn set_bytes(alloc: Global, store: &mut MemStore, file: u32, bytes: &Vec<u8>) -> Answer
     requires { file < length (reads_of store.old) }
     ensures { Does store.old store.new (lines.Bytes file bytes.now) (line_of result) }
@@ -341,7 +342,7 @@ fn set_bytes(alloc: Global, store: &mut MemStore, file: u32, bytes: &Vec<u8>) ->
     }
 }
 
-/// Lets the store's device calls fail after so many.
+/// Makes the store's device calls fail after the next `calls`.
 fn set_fuse(store: &mut MemStore, calls: u64) -> Answer
     ensures { Does store.old store.new (lines.Fuse calls) (line_of result) }
 {
@@ -349,7 +350,7 @@ fn set_fuse(store: &mut MemStore, calls: u64) -> Answer
     Answer::Done
 }
 
-/// Lets one of the store's device calls fail, after so many.
+/// Makes one of the store's device calls fail, the one after the next `calls`.
 fn set_fail_once(store: &mut MemStore, calls: u64) -> Answer
     ensures { Does store.old store.new (lines.FailOnce calls) (line_of result) }
 {
@@ -357,7 +358,7 @@ fn set_fail_once(store: &mut MemStore, calls: u64) -> Answer
     Answer::Done
 }
 
-/// Answers how a line's port was left, which has been dropped, or why there is none.
+/// Writes the answer to how a line's port, which was dropped, was left, or why none was made.
 fn finish<W: Write>(
     store: &mut MemStore,
     left: Result<Option<Leave>, Stop>,

@@ -1,5 +1,5 @@
-//! Stores of numbered files: one in memory, with every image that a crash may leave, and one over the files of a folder. Each is
-//! a `Store` of `trace_store`, which has the model of a disk.
+//! Stores of numbered files: one in memory, with every image that a crash may leave, and one over real files, by their names.
+//! Each is a `Store` of `trace_store`, which has the model of a disk.
 //!
 //! `MemStore` follows the model always. `crash` leaves the image that is picked, and refuses exactly one that no crash leaves
 //! (`IsPossible`); `fuse` and `fail_once` make later calls fail (`FailsAt`). `FolderStore` makes each call once on a file of the

@@ -4,7 +4,7 @@ ghost use Rattle.trace_script.specs.Spellings.{IsFound, IsNumber, IsNumberIn, So
 
 use crate::spelling::{number, within};
 
-/// The first word, and those after it.
+/// The first word, and those after it; None where there is no word.
 pub fn first<'w, 't>(words: &'w [&'t str]) -> Option<(&'t str, &'w [&'t str])>
     ensures { MatchOption result (texts words.now ≡ []) (λ x. texts words.now ≡ x.0.now ∷ texts x.1.now) }
 {
@@ -14,7 +14,7 @@ pub fn first<'w, 't>(words: &'w [&'t str]) -> Option<(&'t str, &'w [&'t str])>
     Some((first, rest))
 }
 
-/// The only word.
+/// The only word; None where there are none or more.
 pub fn one<'t>(words: &[&'t str]) -> Option<&'t str>
     ensures { MatchOption result (length (texts words.now) ≢ 1) (λ w. texts words.now ≡ w.now ∷ []) }
 {
@@ -24,7 +24,7 @@ pub fn one<'t>(words: &[&'t str]) -> Option<&'t str>
     Some(a)
 }
 
-/// The two words that there are.
+/// The two words; None where there are fewer or more.
 pub fn two<'t>(words: &[&'t str]) -> Option<(&'t str, &'t str)>
     ensures { MatchOption result (length (texts words.now) ≢ 2) (λ w. texts words.now ≡ w.0.now ∷ w.1.now ∷ []) }
 {
@@ -34,7 +34,7 @@ pub fn two<'t>(words: &[&'t str]) -> Option<(&'t str, &'t str)>
     Some((a, b))
 }
 
-/// The three words that there are.
+/// The three words; None where there are fewer or more.
 pub fn three<'t>(words: &[&'t str]) -> Option<(&'t str, &'t str, &'t str)>
     ensures { MatchOption result (length (texts words.now) ≢ 3) (λ w. texts words.now ≡ w.0.now ∷ w.1.now ∷ w.2.now ∷ []) }
 {
@@ -44,14 +44,14 @@ pub fn three<'t>(words: &[&'t str]) -> Option<(&'t str, &'t str, &'t str)>
     Some((a, b, c))
 }
 
-/// The number that is the only word.
+/// The number that the only word spells; None where there isn't one word that spells one.
 pub fn sole_number(words: &[&str]) -> Option<u64>
     ensures { IsFound (Sole IsNumber (texts words.now)) result }
 {
     number(one(words)?)
 }
 
-/// The number from `least` to `most` that is the only word.
+/// The number from `least` to `most` that the only word spells; None where there isn't one word that spells one.
 pub fn sole_within(words: &[&str], least: u32, most: u32) -> Option<u32>
     ensures { IsFound (Sole (IsNumberIn least most) (texts words.now)) result }
 {

@@ -56,14 +56,14 @@ pub enum TraceeLine {
     Counts,
 }
 
-/// Any number of 32 bits.
+/// The number of at most 32 bits that a word spells; else None.
 fn word_number(word: &str) -> Option<u32>
     ensures { IsFound (IsLong word.now) result }
 {
     within(word, 0, u32::MAX)
 }
 
-/// The number of a tracee.
+/// The number of a tracee that a word spells, 0 to 999; else None.
 fn tracee_number(word: &str) -> Option<u32>
     ensures { IsFound (IsTracee word.now) result }
 {
@@ -103,7 +103,7 @@ fn flags_named(letters: &[u8]) -> Flags
     }
 }
 
-/// The flags of these letters, of which none stands there twice.
+/// The flags of these letters; None where one names no flag, or comes twice.
 fn flags_among(letters: &[u8]) -> Option<Flags>
     ensures { IsFound (HasLetters letters.now) result }
 {
@@ -114,7 +114,7 @@ fn flags_among(letters: &[u8]) -> Option<Flags>
     None
 }
 
-/// The flags of these letters, or none for `-`.
+/// The flags that a word's letters name, none for `-`; None where the word is empty, or a letter names no flag or comes twice.
 fn flags_of(word: &str) -> Option<Flags>
     ensures { IsFound (IsFlags word.now) result }
 {
@@ -127,7 +127,7 @@ fn flags_of(word: &str) -> Option<Flags>
     flags_among(word.as_bytes())
 }
 
-/// The line of a moment.
+/// Parses the words of a `stamp` line; None where they aren't its three numbers.
 fn stamp(words: &[&str]) -> Option<DeskLine>
     ensures { IsFound (DeskRow keywords.Stamp (texts words.now)) result }
 {
@@ -138,7 +138,7 @@ fn stamp(words: &[&str]) -> Option<DeskLine>
     Some(DeskLine::Stamp { mega, sec, micro })
 }
 
-/// The line of the monotonic time.
+/// Parses the word of a `mono` line; None where it isn't one number, of nanoseconds.
 fn mono(words: &[&str]) -> Option<DeskLine>
     ensures { IsFound (DeskRow keywords.Mono (texts words.now)) result }
 {
@@ -146,7 +146,7 @@ fn mono(words: &[&str]) -> Option<DeskLine>
     Some(DeskLine::Mono(nanos))
 }
 
-/// The room of a new tracee, its limit of drops, and its flags.
+/// Parses the capacity of a new tracee, its limit of drops, and its flags; None where the words are none.
 fn tracee_fields(words: &[&str]) -> Option<(u32, u32, Flags)>
     ensures { IsFound (λ x. Three IsLong IsLong IsFlags (texts words.now) x.0 x.1 x.2) result }
 {
@@ -157,7 +157,7 @@ fn tracee_fields(words: &[&str]) -> Option<(u32, u32, Flags)>
     Some((capacity, drop_limit, flags))
 }
 
-/// The line of a new tracee.
+/// Parses the words of a `tracee` line; None where they are none.
 fn tracee(words: &[&str]) -> Option<DeskLine>
     ensures { IsFound (DeskRow keywords.Tracee (texts words.now)) result }
 {
@@ -172,7 +172,7 @@ fn tracee(words: &[&str]) -> Option<DeskLine>
     })
 }
 
-/// The line for a tracee that hands over at most so many entries.
+/// Parses the words of a `hand` line, a tracee and how many entries it hands over at most; None where they are none.
 fn hand(words: &[&str]) -> Option<DeskLine>
     ensures { IsFound (DeskRow keywords.Hand (texts words.now)) result }
 {
@@ -182,14 +182,14 @@ fn hand(words: &[&str]) -> Option<DeskLine>
     Some(DeskLine::OfTracee(number, TraceeLine::Hand(limit)))
 }
 
-/// The number of a tracee that is the only word.
+/// The number of a tracee that the only word spells; else None.
 fn sole_tracee(words: &[&str]) -> Option<u32>
     ensures { IsFound (Sole IsTracee (texts words.now)) result }
 {
     tracee_number(one(words)?)
 }
 
-/// The line of an event of a tracee.
+/// Parses the words of an `emit` line, a tracee and its event; None where they are none.
 fn emit(alloc: Global, words: &[&str]) -> Result<Option<DeskLine>, AllocError>
     ensures { IfOk result (IsFound (DeskRow keywords.Emit (texts words.now))) }
 {
@@ -205,7 +205,7 @@ fn emit(alloc: Global, words: &[&str]) -> Result<Option<DeskLine>, AllocError>
     Ok(Some(DeskLine::OfTracee(number, TraceeLine::Emit(event))))
 }
 
-/// The line for a desk that begins with this keyword, where it has no event.
+/// Parses a keyword and the words after it as a line for a desk other than `emit`; None where they are none.
 fn plain_desk_line(keyword: Keyword, words: &[&str]) -> Option<DeskLine>
     requires { keyword ≢ keywords.Emit }
     ensures { IsFound (DeskRow keyword (texts words.now)) result }
@@ -221,7 +221,7 @@ fn plain_desk_line(keyword: Keyword, words: &[&str]) -> Option<DeskLine>
     }
 }
 
-/// The line for a desk that begins with this keyword.
+/// Parses a keyword and the words after it as a line for a desk; None where they are none.
 pub fn desk_line(
     alloc: Global,
     keyword: Keyword,

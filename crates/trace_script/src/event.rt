@@ -17,7 +17,7 @@ use trace_message::Event;
 use trace_terms::{Atom, AtomFault, Term};
 use trace_text::is_plain;
 
-/// The term that these bytes are one spelling of.
+/// The term that these bytes spell, all of them; None where they spell none.
 fn whole_term(alloc: Global, bytes: &[u8]) -> Result<Option<Term>, AllocError>
     ensures { IfOk result (IsFoundAs view (λ t. SpellsTerm t bytes.now)) }
 {
@@ -29,7 +29,7 @@ fn whole_term(alloc: Global, bytes: &[u8]) -> Result<Option<Term>, AllocError>
     }
 }
 
-/// The term of these digits, which are one spelling of it and nothing more.
+/// The term whose bytes these hexadecimal digits are; None where they are no term's.
 fn term(alloc: Global, hex: &str) -> Result<Option<Term>, AllocError>
     ensures { IfOk result (IsFoundAs view (IsTerm hex.now)) }
 {
@@ -39,7 +39,7 @@ fn term(alloc: Global, hex: &str) -> Result<Option<Term>, AllocError>
     whole_term(alloc, &bytes)
 }
 
-/// The members of the list of these digits.
+/// The members of the list whose bytes these hexadecimal digits are; None where they are no list's.
 fn members(alloc: Global, hex: &str) -> Result<Option<Vec<Term>>, AllocError>
     ensures { IfOk result (IsFoundAs (λ ts. map view ts.items) (IsArguments hex.now)) }
 {
@@ -52,7 +52,7 @@ fn members(alloc: Global, hex: &str) -> Result<Option<Vec<Term>>, AllocError>
     }
 }
 
-/// An atom that a listing writes without quotes.
+/// The atom of a word that a listing writes without quotes; None for any other word.
 fn atom(alloc: Global, word: &str) -> Result<Option<Atom>, AllocError>
     ensures { IfOk result (IsFound (IsAtom word.now)) }
 {
@@ -66,14 +66,14 @@ fn atom(alloc: Global, word: &str) -> Result<Option<Atom>, AllocError>
     }
 }
 
-/// How many arguments a function has.
+/// The number of a function's arguments that a word spells, 0 to 255; else None.
 fn arity(word: &str) -> Option<u8>
     ensures { IsFound (IsArity word.now) result }
 {
     u8::try_from(within(word, 0, u32::from(u8::MAX))?).ok()
 }
 
-/// A call of a function with these arguments.
+/// Parses the words of a call, module, function and arguments; None where they are none.
 fn call(alloc: Global, words: &[&str]) -> Result<Option<Event>, AllocError>
     ensures { IfOk result (IsFoundAs event_view (IsEvent keywords.Call (texts words.now))) }
 {
@@ -96,7 +96,7 @@ fn call(alloc: Global, words: &[&str]) -> Result<Option<Event>, AllocError>
     }))
 }
 
-/// The words after the name of a returning function's module.
+/// Parses a returning function's name, number of arguments and value; None where the words are none.
 fn returned(alloc: Global, words: &[&str]) -> Result<Option<(Atom, u8, Term)>, AllocError>
     ensures { IfOk result (IsFoundAs {X = List ℕ × ℕ × Data} (λ x. (x.0, x.1, view x.2)) (λ x. Three IsAtom IsArity IsTerm (texts words.now) x.0 x.1 x.2)) }
 {
@@ -115,7 +115,7 @@ fn returned(alloc: Global, words: &[&str]) -> Result<Option<(Atom, u8, Term)>, A
     Ok(Some((fun_name, arity, value)))
 }
 
-/// A return of a value from a function of so many arguments.
+/// Parses the words of a return from a function; None where they are none.
 fn return_from(alloc: Global, words: &[&str]) -> Result<Option<Event>, AllocError>
     ensures { IfOk result (IsFoundAs event_view (IsEvent keywords.Return (texts words.now))) }
 {
@@ -136,7 +136,7 @@ fn return_from(alloc: Global, words: &[&str]) -> Result<Option<Event>, AllocErro
     }))
 }
 
-/// How many arguments a function has, and the class and the value of its exception.
+/// Parses the number of a function's arguments, and its exception's class and value; None where the words are none.
 fn thrown(alloc: Global, words: &[&str]) -> Result<Option<(u8, Atom, Term)>, AllocError>
     ensures { IfOk result (IsFoundAs {X = ℕ × List ℕ × Data} (λ x. (x.0, x.1, view x.2)) (λ x. Three IsArity IsAtom IsTerm (texts words.now) x.0 x.1 x.2)) }
 {
@@ -155,7 +155,7 @@ fn thrown(alloc: Global, words: &[&str]) -> Result<Option<(u8, Atom, Term)>, All
     Ok(Some((arity, kind, value)))
 }
 
-/// An exception out of a function of so many arguments: its class, and the value of that.
+/// Parses the words of an exception out of a function; None where they are none.
 fn exception_from(alloc: Global, words: &[&str]) -> Result<Option<Event>, AllocError>
     ensures { IfOk result (IsFoundAs event_view (IsEvent keywords.Exception (texts words.now))) }
 {
@@ -183,7 +183,7 @@ fn exception_from(alloc: Global, words: &[&str]) -> Result<Option<Event>, AllocE
     }))
 }
 
-/// The terms of two words.
+/// The two terms that two words spell; None where they spell none.
 fn terms(alloc: Global, words: &[&str]) -> Result<Option<(Term, Term)>, AllocError>
     ensures { IfOk result (IsFoundAs {X = Data × Data} (λ x. (view x.0, view x.1)) (λ x. Two IsTerm IsTerm (texts words.now) x.0 x.1)) }
 {
@@ -208,7 +208,7 @@ fn send(alloc: Global, words: &[&str]) -> Result<Option<Event>, AllocError>
     Ok(Some(Event::Send { message, target }))
 }
 
-/// A send to a process that isn't there.
+/// Parses the words of a send to a process that isn't there; None where they are none.
 fn send_lost(alloc: Global, words: &[&str]) -> Result<Option<Event>, AllocError>
     ensures { IfOk result (IsFoundAs event_view (IsEvent keywords.SendLost (texts words.now))) }
 {
@@ -230,7 +230,7 @@ fn receive(alloc: Global, words: &[&str]) -> Result<Option<Event>, AllocError>
     Ok(Some(Event::Receive { message }))
 }
 
-/// The event that begins with this keyword.
+/// Parses a keyword and the words after it as an event; None where they are none.
 fn event_of(alloc: Global, keyword: Keyword, words: &[&str]) -> Result<Option<Event>, AllocError>
     ensures { IfOk result (IsFoundAs event_view (IsEvent keyword (texts words.now))) }
 {
@@ -245,7 +245,7 @@ fn event_of(alloc: Global, keyword: Keyword, words: &[&str]) -> Result<Option<Ev
     }
 }
 
-/// The event that these words spell.
+/// The event that these words spell; None where they spell none.
 pub fn event(alloc: Global, words: &[&str]) -> Result<Option<Event>, AllocError>
     ensures { IfOk result (IsFoundAs event_view (Behind IsEvent (texts words.now))) }
 {

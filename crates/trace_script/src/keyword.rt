@@ -45,7 +45,7 @@ pub enum Keyword {
 }
 
 impl Keyword {
-    /// The keyword of this text.
+    /// The keyword that this text is; None where it is none.
     #[tactic(auto, unfolding(crate::specs::Keywords::keyword_among))]
     pub fn named(text: &str) -> Option<Keyword>
         ensures { result ≡ keyword_among all_keywords text.now }
@@ -93,7 +93,7 @@ impl Keyword {
     }
 }
 
-/// The keyword that the words begin with, and the words after it.
+/// The keyword that the words begin with, and the words after it; None where they begin with none.
 pub fn keyword_behind<'w, 't>(words: &'w [&'t str]) -> Option<(Keyword, &'w [&'t str])>
     ensures { IsFoundAs {X = Keyword × List (List ℕ)} (λ x. (x.0, texts x.1.now)) (λ x. texts words.now ≡ text_of x.0 ∷ x.1) result }
 {

@@ -1,4 +1,4 @@
-//! The lines of a script, which says what is done with a trace or with a store in memory, read one at a time.
+//! The script language of `dbgrec record` and `dbgrec sim`: reads the lines of a script one at a time.
 //!
 //! `parse` answers the line that a text spells, or None where it spells none (`Spells`, by the table in docs/FORMATS.md). No text
 //! spells two lines that say different things (law `one_line`). A line is within limits (`IsWithinLimits`), so that the entry

@@ -74,7 +74,7 @@ impl Line {
     ghost use Rattle.std.specs.Prelude.{◌↔◌, IsTrue};
     ghost use Rattle.trace_script.specs.Lines.{IsOfRecord};
 
-    /// Whether it stands in a script for a desk alone.
+    /// Whether the line may stand in a script for a desk, such as `dbgrec record` reads.
     pub fn is_of_desk(&self) -> bool
         ensures { IsTrue result ↔ IsOfRecord self.now }
     {
@@ -85,7 +85,7 @@ impl Line {
     }
 }
 
-/// The line, where no word follows.
+/// `line`, where no word follows; else None.
 fn alone(words: &[&str], line: Line) -> Option<Line>
     ensures { IsFound (IsAlone (texts words.now) line) result }
 {
@@ -95,7 +95,7 @@ fn alone(words: &[&str], line: Line) -> Option<Line>
     None
 }
 
-/// The size or time of a wrap, and how many runs it keeps, of any that their types have.
+/// The size or time of a wrap, and its count, as two words spell them; None where these aren't numbers of 32 and 16 bits.
 fn wrap_numbers(words: &[&str]) -> Option<(u32, u16)>
     ensures { IsFound (λ found. Two IsLong IsShort (texts words.now) found.0 found.1) result }
 {
@@ -105,7 +105,7 @@ fn wrap_numbers(words: &[&str]) -> Option<(u32, u16)>
     Some((most, count))
 }
 
-/// What is created.
+/// Parses what a `create` line creates; None where the words are none.
 fn created(kind: Keyword, words: &[&str]) -> Option<Line>
     ensures { IsFound (Creates kind (texts words.now)) result }
 {
@@ -130,7 +130,7 @@ fn create(words: &[&str]) -> Option<Line>
     created(kind, others)
 }
 
-/// What is resumed.
+/// Parses what a `resume` line resumes; None where the words are none.
 fn resumed(kind: Keyword, words: &[&str]) -> Option<Line>
     ensures { IsFound (Resumes kind (texts words.now)) result }
 {
@@ -148,14 +148,14 @@ fn resume(words: &[&str]) -> Option<Line>
     resumed(kind, others)
 }
 
-/// The byte that is the only word.
+/// The byte that the only word spells; else None.
 fn sole_byte(words: &[&str]) -> Option<u8>
     ensures { IsFound (Sole IsByte (texts words.now)) result }
 {
     byte(one(words)?.as_bytes())
 }
 
-/// What a crash leaves.
+/// Parses what a `crash` line leaves; None where the words are none.
 fn left(kind: Keyword, words: &[&str]) -> Option<Line>
     ensures { IsFound (Crashes kind (texts words.now)) result }
 {
@@ -186,7 +186,7 @@ fn crash(words: &[&str]) -> Option<Line>
     left(kind, others)
 }
 
-/// Bytes for a file, if a store may have a file of this number.
+/// Parses the words of a `bytes` line; None where no store has that file, or the second spells no bytes.
 fn file_bytes(alloc: Global, words: &[&str]) -> Result<Option<Line>, AllocError>
     ensures { IfOk result (IsFound (HeldRow keywords.Bytes (texts words.now))) }
 {
@@ -202,7 +202,7 @@ fn file_bytes(alloc: Global, words: &[&str]) -> Result<Option<Line>, AllocError>
     Ok(Some(Line::Bytes(file, found)))
 }
 
-/// A message, if an entry may hold it.
+/// Parses the word of a `put` line; None where it spells no bytes that an entry may hold.
 fn message(alloc: Global, words: &[&str]) -> Result<Option<Line>, AllocError>
     ensures { IfOk result (IsFound (HeldRow keywords.Put (texts words.now))) }
 {
@@ -219,7 +219,7 @@ fn message(alloc: Global, words: &[&str]) -> Result<Option<Line>, AllocError>
     Ok(Some(Line::Put(entry)))
 }
 
-/// The line that begins with this keyword, where it holds no bytes and isn't for a desk.
+/// Parses a keyword and its words as a line without bytes that isn't for a desk; None where they are none.
 fn plain_line(keyword: Keyword, words: &[&str]) -> Option<Line>
     ensures { IsFound (PlainRow keyword (texts words.now)) result }
 {
@@ -244,7 +244,7 @@ fn plain_line(keyword: Keyword, words: &[&str]) -> Option<Line>
     }
 }
 
-/// The line that begins with this keyword, where it holds bytes.
+/// Parses a keyword and its words as a `bytes` or `put` line; None where they are none.
 fn held_line(alloc: Global, keyword: Keyword, words: &[&str]) -> Result<Option<Line>, AllocError>
     ensures { IfOk result (IsFound (HeldRow keyword (texts words.now))) }
 {
@@ -255,7 +255,7 @@ fn held_line(alloc: Global, keyword: Keyword, words: &[&str]) -> Result<Option<L
     }
 }
 
-/// The line for a desk that begins with this keyword.
+/// Parses a keyword and its words as a line for a desk; None where they are none.
 fn at_desk(alloc: Global, keyword: Keyword, words: &[&str]) -> Result<Option<Line>, AllocError>
     ensures { IfOk result (IsFound (IsOfDesk keyword (texts words.now))) }
 {
@@ -265,7 +265,7 @@ fn at_desk(alloc: Global, keyword: Keyword, words: &[&str]) -> Result<Option<Lin
     }
 }
 
-/// The line that begins with this keyword.
+/// Parses a keyword and the words after it as any line; None where they are none.
 fn row(alloc: Global, keyword: Keyword, words: &[&str]) -> Result<Option<Line>, AllocError>
     ensures { IfOk result (IsFound (Row keyword (texts words.now))) }
 {

@@ -26,8 +26,8 @@ fn length_of_line(bytes: &[u8]) -> usize
     length
 }
 
-/// Puts after the text what the reader has at hand of the line, and no more than shows that it is too long. Whether
-/// the line or the reader ends there.
+/// Appends what the reader has buffered of the line, up to one byte more than a line may have; answers whether the line or the
+/// reader ends there.
 fn take_part<R: BufRead>(reader: &mut R, text: &mut Vec<u8>) -> Result<bool, ScriptFault>
     requires short { length text.old.items ≤ 300000 }
     ensures appends { StartsWith text.new.items text.old.items }
@@ -53,8 +53,8 @@ fn take_part<R: BufRead>(reader: &mut R, text: &mut Vec<u8>) -> Result<bool, Scr
     Ok(is_done)
 }
 
-/// Reads the next line in place of the text: with its line break, or what is left, or so much of it as shows that it is
-/// too long.
+/// Replaces `text` by the next line with its line break, without one at the end of the script; of a line that is too long, by one
+/// byte more than it may have.
 pub fn read_line<R: BufRead>(reader: &mut R, text: &mut Vec<u8>) -> Result<(), ScriptFault>
     ensures consumes { Consumes (R.remaining reader.old) (R.remaining reader.new) text.new.items }
     ensures line { OnOk result (IsReadLine (R.remaining reader.old) (R.remaining reader.new) text.new.items) }

@@ -30,8 +30,8 @@ pub struct Script<'r, R: BufRead> {
 impl<'r, R: BufRead> Script<'r, R> {
     ghost use Rattle.std.specs.Prelude.{◌≡◌, true};
 
-    /// A script of which nothing is read yet. Each of its lines is held in the text. In a script that `is_of_desk` each line
-    /// that isn't for a port in a desk is a bad command.
+    /// A script of which nothing is read yet. Each of its lines is read into `text`. In a script that `is_of_desk` each line that
+    /// isn't for a port in a desk is a bad command.
     pub fn new(
         alloc: Global,
         reader: &'r mut R,
@@ -61,7 +61,7 @@ impl<'r, R: BufRead> Script<'r, R> {
         ScriptFault::BadCommand { line: self.number }
     }
 
-    /// Whether there is a line more, whose text then is in `text`, as far as it was read.
+    /// Reads the next line into `text`, without its line break; false at the end of the script.
     fn advance(&mut self) -> Result<bool, ScriptFault>
         ensures same { self.new.is_of_desk ≡ self.old.is_of_desk }
         ensures name { self.new.reader.ghost_name ≡ self.old.reader.ghost_name }
@@ -84,7 +84,7 @@ impl<'r, R: BufRead> Script<'r, R> {
         Ok(true)
     }
 
-    /// The line, where it may stand in this script.
+    /// `line`, where it may stand in this script; Err (`BadCommand`) where it may not, or is None.
     fn allowed(&self, line: Option<Line>) -> Result<Option<Line>, ScriptFault>
         requires limits { IfSome line IsWithinLimits }
         requires spelled { IsFound (λ it. Spells it self.now.text.now.items) line }
@@ -107,7 +107,7 @@ impl<'r, R: BufRead> Script<'r, R> {
         Err(self.bad_command())
     }
 
-    /// The line that the text spells; None where it is empty or a remark.
+    /// The line that the text spells; None where it is empty or a remark, Err where it is no line of this script.
     fn present(&self) -> Result<Option<Line>, ScriptFault>
         ensures sound { IfOk result (λ found. IfSome found IsWithinLimits) }
         ensures spells { IfOk result (λ found. IfSome found (λ line. Spells line self.now.text.now.items)) }
@@ -126,7 +126,7 @@ impl<'r, R: BufRead> Script<'r, R> {
         self.allowed(parse(self.alloc, text)?)
     }
 
-    /// The next line that isn't empty or a remark.
+    /// The next line that isn't empty or a remark; None at the end of the script.
     pub fn next_line(&mut self) -> Result<Option<Line>, ScriptFault>
         ensures sound { IfOk result (λ found. IfSome found IsWithinLimits) }
         ensures spells { IfOk result (λ found. IfSome found (λ line. Spells line self.new.text.now.items)) }

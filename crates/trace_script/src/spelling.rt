@@ -5,7 +5,7 @@ ghost use Rattle.trace_script.specs.Spellings.{IsFound, IsFoundAs, IsNumber, IsN
 
 use std::alloc::{AllocError, Global};
 
-/// The words of a text, which one blank parts from each other.
+/// The words of a text, split at each blank.
 pub fn words(alloc: Global, text: &str) -> Result<Vec<&str>, AllocError>
     ensures { IfOk result (λ found. texts found.items ≡ words text.now) }
 {
@@ -25,7 +25,7 @@ fn has_only_digits(word: &[u8]) -> bool
     word.iter().all(|digit| digit.is_ascii_digit())
 }
 
-/// A decimal number without a sign and leading zeros.
+/// The number that a word spells in decimal, without a sign and leading zeros; else None.
 pub fn number(word: &str) -> Option<u64>
     ensures { IsFound (IsNumber word.now) result }
 {
@@ -36,7 +36,7 @@ pub fn number(word: &str) -> Option<u64>
     word.parse::<u64>().ok()
 }
 
-/// A number from `least` to `most`.
+/// The number from `least` to `most` that a word spells; else None.
 pub fn within(word: &str, least: u32, most: u32) -> Option<u32>
     ensures { IsFound (IsNumberIn least most word.now) result }
 {
@@ -58,14 +58,14 @@ fn digit(letter: u8) -> Option<u8>
     }
 }
 
-/// The byte that two hexadecimal digits spell.
+/// The byte that two hexadecimal digits spell; None where one is no digit.
 fn pair(high: u8, low: u8) -> Option<u8>
     ensures { IsFound (λ b. IsDigit high (b / 16) × IsDigit low (b % 16)) result }
 {
     Some(digit(high)? * 16 + digit(low)?)
 }
 
-/// The byte of a word of two hexadecimal digits.
+/// The byte that a word of two hexadecimal digits spells; None for any other word.
 pub fn byte(word: &[u8]) -> Option<u8>
     ensures { IsFound (λ b. IsHex word.now (b ∷ [])) result }
 {

@@ -50,7 +50,7 @@ impl Choice {
         self.from.is_none_or(|first| first <= number)
     }
 
-    /// Whether it isn't above the last.
+    /// Whether the number isn't above the last that is asked for.
     pub fn is_not_later(&self, number: u64) -> bool
         ensures { result ≡ is_to (asks_of self.now).to number }
     {
@@ -89,7 +89,8 @@ impl Choice {
         self.pid.is_none() && self.module.is_none()
     }
 
-    /// Whether messages are asked for that aren't read.
+    /// Whether a message that can't be read suits the choice: its kinds, if it names some, have `opaque`, and it names no pid and
+    /// no function.
     pub fn suits_opaque(&self) -> bool
         ensures { result ≡ suits_opaque (asks_of self.now) }
     {
@@ -105,7 +106,7 @@ fn is_among(word: &[u8], words: &[u8]) -> bool
     words.split(|byte| *byte == b',').any(|one| one == word)
 }
 
-/// Whether a text is another one between two signs.
+/// Whether `shown` is `asked` between these two signs.
 #[inline(never)]
 fn is_between(opening: u8, closing: u8, asked: &[u8], shown: &[u8]) -> bool
     ensures { result ≡ bytes_eq shown.now (opening ∷ (asked.now ++ closing ∷ [])) }
@@ -119,7 +120,7 @@ fn is_between(opening: u8, closing: u8, asked: &[u8], shown: &[u8]) -> bool
     *first == opening && (middle == asked && *last == closing)
 }
 
-/// Whether a text is this one, or this one between two signs.
+/// Whether `shown` is `asked`, or `asked` between these two signs.
 #[inline(always)]
 pub fn is_text(opening: u8, closing: u8, asked: &[u8], shown: &[u8]) -> bool
     ensures { result ≡ is_text opening closing asked.now shown.now }
@@ -127,7 +128,7 @@ pub fn is_text(opening: u8, closing: u8, asked: &[u8], shown: &[u8]) -> bool
     shown == asked || is_between(opening, closing, asked, shown)
 }
 
-/// Whether so many bytes at the front of a text are this atom, with or without quotes.
+/// Whether the first `size` bytes of a text are this atom, with or without quotes.
 #[inline(always)]
 fn begins_so(asked: &[u8], text: &[u8], size: usize) -> bool
     ensures { (own rest : List ℕ) → text.now ≡ own ++ rest → size ≡ length own → result ≡ is_text 39 39 asked.now own }
@@ -142,7 +143,7 @@ fn begins_so(asked: &[u8], text: &[u8], size: usize) -> bool
     }
 }
 
-/// Whether an atom, whose text is so many bytes at the front of this one, is shown so, where one is asked for.
+/// Whether the atom that the first `size` bytes of `text` show is the one that is asked for; true where none is.
 #[inline(always)]
 pub fn is_name(asked: &Option<String>, text: &[u8], size: usize) -> bool
     ensures { (own rest : List ℕ) → text.now ≡ own ++ rest → size ≡ length own

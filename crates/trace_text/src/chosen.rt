@@ -12,7 +12,7 @@ use crate::line::put_opaque;
 use crate::pretty::{put_kind, read_message};
 use std::alloc::AllocError;
 
-/// Whether what is asked of a message holds of this one, which is put together apart.
+/// Whether a choice asks for a message, whose text is put together in `apart`.
 pub fn is_asked(apart: &mut Sighted, choice: &Choice, bytes: &[u8]) -> Result<bool, AllocError>
     ensures asked { IfOk result (λ is. is ≡ suits_if (asks_of choice.now) (term_in bytes.now)) }
     ensures memory { OnErr result (asks_no_text (asks_of choice.now) ≡ false) }
@@ -27,7 +27,7 @@ pub fn is_asked(apart: &mut Sighted, choice: &Choice, bytes: &[u8]) -> Result<bo
     }
 }
 
-/// What a message of any terms tells, where it is asked for; answers whether it is.
+/// Appends what a message tells, where a choice asks for it, and answers whether it does.
 pub fn put_asked(
     told: &mut Sighted,
     choice: &Choice,
@@ -49,7 +49,7 @@ pub fn put_asked(
     Ok(true)
 }
 
-/// What is told of a message that isn't read, where such are asked for; answers whether they are.
+/// Appends what is told of a message that isn't read, where a choice asks for such messages, and answers whether it does.
 fn put_unread(choice: &Choice, text: &mut Vec<u8>, size: usize) -> Result<bool, AllocError>
     ensures asked { IfOk result (λ is. is ≡ suits_opaque (asks_of choice.now)) }
     ensures told { IfOk result (λ is. IsTrue is → text.new.items ≡ text.old.items ++ (codes "opaque " ++ decimal size)) }

@@ -13,7 +13,7 @@ fn is_control(first: u8, second: u8) -> bool
     first == 194 && 128 <= second && second < 160
 }
 
-/// The number of such a character in octal, after a backslash.
+/// Appends a backslash and the number of a control character in octal.
 fn put_octal(line: &mut Vec<u8>, code: u8) -> Result<(), AllocError>
     ensures { OnOk result (line.new.items ≡ line.old.items ++ octal code) }
 {
@@ -25,7 +25,7 @@ fn put_octal(line: &mut Vec<u8>, code: u8) -> Result<(), AllocError>
     ])
 }
 
-/// Puts such a character by its number, or the first byte alone, and answers what is left.
+/// Appends the number of the control character that `first` begins, or `first` alone, and answers the bytes after that.
 fn put_next<'b>(line: &mut Vec<u8>, first: u8, behind: &'b [u8]) -> Result<&'b [u8], AllocError>
     ensures put { IfOk result (λ rest. line.new.items ++ without_controls rest.now ≡ line.old.items ++ without_controls (first ∷ behind.now)) }
     ensures less { IfOk result (λ rest. length rest.now ≤ length behind.now) }
@@ -52,7 +52,7 @@ fn put_each(line: &mut Vec<u8>, text: &[u8]) -> Result<(), AllocError>
     Ok(())
 }
 
-/// Puts the control characters by their numbers in what stands in a line from an offset on.
+/// Replaces the control characters in a line, from an offset on, by their numbers.
 pub fn hide_controls(line: &mut Vec<u8>, start: usize) -> Result<(), AllocError>
     ensures { OnOk result (line.new.items ≡ take start line.old.items ++ without_controls (drop start line.old.items)) }
 {

@@ -20,7 +20,7 @@ fn hexadecimal_digit(value: u8) -> u8
     }
 }
 
-/// A byte by its number, which is below 256.
+/// Appends a byte by its number, as `\u00` and two hexadecimal digits.
 fn put_by_number(out: &mut Vec<u8>, byte: u8) -> Result<(), AllocError>
     ensures { OnOk result (out.new.items ≡ out.old.items ++ 92 ∷ 117 ∷ 48 ∷ 48 ∷ digit_char (byte / 16) ∷ digit_char (byte % 16) ∷ []) }
 {
@@ -29,7 +29,7 @@ fn put_by_number(out: &mut Vec<u8>, byte: u8) -> Result<(), AllocError>
     out.extend_from_slice(&[b'\\', b'u', b'0', b'0', high, low])
 }
 
-/// A byte between quotes.
+/// Appends a byte as it stands between quotes.
 #[inline(never)]
 #[tactic(auto, unfolding(json::specs::Print::escape_byte))]
 fn put_escaped(out: &mut Vec<u8>, byte: u8) -> Result<(), AllocError>
@@ -48,7 +48,7 @@ fn put_escaped(out: &mut Vec<u8>, byte: u8) -> Result<(), AllocError>
     }
 }
 
-/// Whether a byte may be another one between quotes.
+/// Whether a byte is escaped between quotes.
 #[inline(always)]
 #[tactic(auto, unfolding(json::specs::Print::escape_byte))]
 fn is_escaped(byte: u8) -> bool
@@ -57,7 +57,7 @@ fn is_escaped(byte: u8) -> bool
     byte < 32 || byte == b'"' || byte == b'\\'
 }
 
-/// Whether one of these bytes may be another one between quotes. Each is looked at, so that several are at a time.
+/// Whether one of these bytes is escaped between quotes. All are looked at, so that the processor does several at a time.
 #[inline(always)]
 fn has_escaped(bytes: &[u8]) -> bool
     ensures { IsFalse result → escape bytes.now ≡ bytes.now }
@@ -69,7 +69,7 @@ fn has_escaped(bytes: &[u8]) -> bool
     found
 }
 
-/// How many bytes at the beginning of a text are put as they are, in blocks of several.
+/// How many bytes at the front of a text are put as they are, counted in whole blocks.
 fn plain_blocks(text: &[u8]) -> usize
     ensures within { result ≤ length text.now }
     ensures plain { escape (take result text.now) ≡ take result text.now }
@@ -84,7 +84,7 @@ fn plain_blocks(text: &[u8]) -> usize
     size
 }
 
-/// How many bytes at the beginning of a text are put as they are.
+/// How many bytes at the front of a text are put as they are.
 fn plain_size(text: &[u8]) -> usize
     ensures within { result ≤ length text.now }
     ensures plain { escape (take result text.now) ≡ take result text.now }
@@ -99,7 +99,7 @@ fn plain_size(text: &[u8]) -> usize
     size
 }
 
-/// Puts the bytes that are put as they are and the next one, and answers what is left.
+/// Appends the bytes at the front that are put as they are, and the next one escaped; answers the bytes after it.
 fn put_run<'b>(out: &mut Vec<u8>, text: &'b [u8]) -> Result<&'b [u8], AllocError>
     requires { 0 < length text.now }
     ensures put { IfOk result (λ rest. out.new.items ++ escape rest.now ≡ out.old.items ++ escape text.now) }
@@ -117,7 +117,7 @@ fn put_run<'b>(out: &mut Vec<u8>, text: &'b [u8]) -> Result<&'b [u8], AllocError
     }
 }
 
-/// A text that stands between quotes.
+/// Appends a text, escaped as between quotes.
 pub fn put_escapes(out: &mut Vec<u8>, text: &[u8]) -> Result<(), AllocError>
     ensures { OnOk result (out.new.items ≡ out.old.items ++ escape text.now) }
 {
@@ -128,7 +128,7 @@ pub fn put_escapes(out: &mut Vec<u8>, text: &[u8]) -> Result<(), AllocError>
     Ok(())
 }
 
-/// A text with its quotes.
+/// Appends a text, escaped, between quotes.
 pub fn put_quoted(out: &mut Vec<u8>, text: &[u8]) -> Result<(), AllocError>
     ensures { OnOk result (out.new.items ≡ out.old.items ++ quoted text.now) }
 {

@@ -46,7 +46,7 @@ const KINDS: [Kind; 29] = [
     Kind::SeqTrace,
 ];
 
-/// The word for the kind that is shown at this place: after those of the readable listing `opaque`, and then `other`.
+/// The word of the kind with this index: those of the readable listing, then `opaque`, and from there on `other`.
 pub fn kind_at(place: usize) -> &'static str
     ensures { result.now ≡ word_at place }
 {

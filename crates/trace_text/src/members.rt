@@ -7,7 +7,7 @@ use crate::escapes::{put_escapes, put_quoted};
 use crate::term_text::put_number;
 use std::alloc::AllocError;
 
-/// A name and its colon.
+/// Appends a member's name and its colon.
 fn put_name(out: &mut Vec<u8>, name: &[u8]) -> Result<(), AllocError>
     ensures { OnOk result (out.new.items ≡ out.old.items ++ (quoted name.now ++ 58 ∷ [])) }
 {
@@ -15,7 +15,7 @@ fn put_name(out: &mut Vec<u8>, name: &[u8]) -> Result<(), AllocError>
     Ok(out.push(b':')?)
 }
 
-/// A member that has a text.
+/// Appends a member that has a text.
 pub fn put_text(out: &mut Vec<u8>, name: &[u8], text: &[u8]) -> Result<(), AllocError>
     ensures { OnOk result (out.new.items ≡ out.old.items ++ member_text (of_text name.now text.now)) }
 {
@@ -23,7 +23,7 @@ pub fn put_text(out: &mut Vec<u8>, name: &[u8], text: &[u8]) -> Result<(), Alloc
     put_quoted(out, text)
 }
 
-/// A further member that has a number.
+/// Appends a comma, and a member that has a number.
 pub fn put_more_number(out: &mut Vec<u8>, name: &[u8], number: u64) -> Result<(), AllocError>
     ensures { OnOk result (out.new.items ≡ out.old.items ++ more_text (of_number name.now number ∷ [])) }
 {
@@ -32,7 +32,7 @@ pub fn put_more_number(out: &mut Vec<u8>, name: &[u8], number: u64) -> Result<()
     put_number(out, number)
 }
 
-/// The opening bracket of an entry's object, its number and its kind.
+/// Appends the opening bracket of an entry's object, its number and its kind.
 #[tactic(auto, unfolding(json::specs::Print::escape_byte))]
 pub fn put_head(out: &mut Vec<u8>, number: u64, kind: &[u8]) -> Result<(), AllocError>
     ensures { OnOk result (out.new.items ≡ out.old.items ++ 123 ∷ members_text (of_number (codes "n") number ∷ of_text (codes "kind") kind.now ∷ [])) }
@@ -43,7 +43,7 @@ pub fn put_head(out: &mut Vec<u8>, number: u64, kind: &[u8]) -> Result<(), Alloc
     put_quoted(out, kind)
 }
 
-/// The text of a message.
+/// Appends the member that has the text of a message.
 #[tactic(auto, unfolding(json::specs::Print::escape_byte))]
 pub fn put_term(out: &mut Vec<u8>, text: &[u8]) -> Result<(), AllocError>
     ensures { OnOk result (out.new.items ≡ out.old.items ++ more_text (of_text (codes "text") text.now ∷ [])) }
@@ -52,7 +52,7 @@ pub fn put_term(out: &mut Vec<u8>, text: &[u8]) -> Result<(), AllocError>
     put_quoted(out, text)
 }
 
-/// Who is traced.
+/// Appends the member that tells who is traced.
 #[tactic(auto, unfolding(json::specs::Print::escape_byte))]
 pub fn put_pid(out: &mut Vec<u8>, text: &[u8]) -> Result<(), AllocError>
     ensures { OnOk result (out.new.items ≡ out.old.items ++ more_text (of_text (codes "pid") text.now ∷ [])) }
@@ -61,7 +61,7 @@ pub fn put_pid(out: &mut Vec<u8>, text: &[u8]) -> Result<(), AllocError>
     put_quoted(out, text)
 }
 
-/// A function by its module and its name, but for what tells of its arguments, and for the closing quote.
+/// Appends the member of a function with its module and its name, but for its arguments and the closing quote.
 #[tactic(auto, unfolding(json::specs::Print::escape_byte))]
 pub fn put_names(out: &mut Vec<u8>, home: &[u8], name: &[u8]) -> Result<(), AllocError>
     ensures { OnOk result (out.new.items ≡ out.old.items ++ 44 ∷ ((quoted (codes "mfa") ++ 58 ∷ []) ++ 34 ∷ escape (home.now ++ codes ":" ++ name.now))) }

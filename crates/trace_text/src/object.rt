@@ -13,14 +13,14 @@ use crate::pretty::{read_message, word_of};
 use crate::sight::{Kind, Sight};
 use std::alloc::AllocError;
 
-/// The closing bracket of an object, and its line feed.
+/// Appends the closing bracket of an object, and its line feed.
 fn put_close(out: &mut Vec<u8>) -> Result<(), AllocError>
     ensures { OnOk result (out.new.items ≡ out.old.items ++ 125 ∷ 10 ∷ []) }
 {
     out.extend_from_slice(b"}\n")
 }
 
-/// A message that is read, with this text.
+/// Appends the object of a message that was read, with this text.
 fn put_message_object(
     out: &mut Vec<u8>,
     number: u64,
@@ -37,7 +37,7 @@ fn put_message_object(
     put_close(out)
 }
 
-/// An entry that tells nothing but a number of this name.
+/// Appends the object of an entry that tells nothing but a number of this name.
 fn put_number_object(
     out: &mut Vec<u8>,
     number: u64,
@@ -52,14 +52,14 @@ fn put_number_object(
     put_close(out)
 }
 
-/// A message of so many bytes that isn't read.
+/// Appends the object of a message of `size` bytes that isn't read.
 pub fn put_opaque_object(out: &mut Vec<u8>, number: u64, size: u64) -> Result<(), AllocError>
     ensures { OnOk result (out.new.items ≡ out.old.items ++ object_line (opaque_members number size)) }
 {
     put_number_object(out, number, b"opaque", b"size", size)
 }
 
-/// A part of a message of so many bytes that isn't there whole.
+/// Appends the object of a part of a message of `size` bytes that isn't whole.
 pub fn put_part_object(
     out: &mut Vec<u8>,
     number: u64,
@@ -76,14 +76,14 @@ pub fn put_part_object(
     put_close(out)
 }
 
-/// So many lost messages.
+/// Appends the object of `count` lost messages.
 pub fn put_drop_object(out: &mut Vec<u8>, number: u64, count: u32) -> Result<(), AllocError>
     ensures { OnOk result (out.new.items ≡ out.old.items ++ object_line (drop_members number count)) }
 {
     put_number_object(out, number, b"drop", b"count", u64::from(count))
 }
 
-/// Entries that aren't there, and messages that were lost there.
+/// Appends an object of this kind with the numbers of entries that aren't there, and of lost messages.
 pub fn put_counts_object(
     out: &mut Vec<u8>,
     kind: &[u8],
@@ -99,7 +99,7 @@ pub fn put_counts_object(
     put_close(out)
 }
 
-/// The last object.
+/// Appends the last object of a listing.
 pub fn put_end_object(out: &mut Vec<u8>) -> Result<(), AllocError>
     ensures { OnOk result (out.new.items ≡ out.old.items ++ object_line end_members) }
 {
@@ -108,7 +108,7 @@ pub fn put_end_object(out: &mut Vec<u8>) -> Result<(), AllocError>
     put_close(out)
 }
 
-/// A message.
+/// Appends the object of a message.
 pub fn put_object(
     told: &mut Sighted,
     out: &mut Vec<u8>,
@@ -123,7 +123,7 @@ pub fn put_object(
     }
 }
 
-/// A message that isn't read, where such are asked for; answers whether they are.
+/// Appends the object of a message that isn't read, where a choice asks for such messages, and answers whether it does.
 fn put_unread_object(
     choice: &Choice,
     out: &mut Vec<u8>,
@@ -142,7 +142,7 @@ fn put_unread_object(
     Ok(true)
 }
 
-/// A message that is asked for; nothing for any other. It is read once. Answers whether it is.
+/// Appends the object of a message that a choice asks for, and answers whether it does. The message is read once.
 pub fn put_asked_object(
     told: &mut Sighted,
     choice: &Choice,

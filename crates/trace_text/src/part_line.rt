@@ -13,7 +13,7 @@ use crate::style::Notation;
 use crate::term_text::put_number;
 use std::alloc::AllocError;
 
-/// Which part it is, of how many, and how many bytes the message has.
+/// Appends which part of a message one is, of how many, and how many bytes the message has.
 fn put_told(text: &mut Vec<u8>, part: u64, of: u64, size: u64) -> Result<(), AllocError>
     ensures { OnOk result (text.new.items ≡ text.old.items ++ part_told part of size) }
 {
@@ -26,7 +26,7 @@ fn put_told(text: &mut Vec<u8>, part: u64, of: u64, size: u64) -> Result<(), All
     text.extend_from_slice(b" bytes")
 }
 
-/// Its line of text.
+/// Appends the line of a part.
 fn put_text_line(
     text: &mut Vec<u8>,
     number: u64,
@@ -42,7 +42,7 @@ fn put_text_line(
     Ok(text.push(b'\n')?)
 }
 
-/// What stands for it.
+/// Appends the line or the object of a part.
 fn put_row(
     text: &mut Vec<u8>,
     notation: Notation,
@@ -59,7 +59,7 @@ fn put_row(
     }
 }
 
-/// What a listing by a choice has of it.
+/// Appends what a listing by a choice has of a part, and the mark where it may end there.
 fn put_chosen(
     text: &mut Vec<u8>,
     notation: Notation,
@@ -77,7 +77,7 @@ fn put_chosen(
     put_mark(text, choice, number)
 }
 
-/// What a listing has of it.
+/// Appends what a listing has of a part of a message that isn't whole.
 pub fn put_part_line(
     text: &mut Vec<u8>,
     apart: &Apart<'_>,

@@ -13,7 +13,7 @@ pub struct Told<S> {
 }
 
 impl<S> Told<S> {
-    /// Nothing was read yet.
+    /// Buffers into which nothing was read.
     pub fn new(alloc: Global) -> Told<S> {
         Told {
             text: Vec::new(alloc),

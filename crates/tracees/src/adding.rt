@@ -38,7 +38,7 @@ fn join<L: Ledger>(count: AccountCount<L>, joined: &mut Share<L>) -> u64
     count
 }
 
-/// Parts a count off again.
+/// Splits the share of this count off again.
 fn part<L: Ledger>(joined: &mut Share<L>, count: u64) -> AccountCount<L>
     requires parts { 0 < joined.old.parts }
     requires amount { count ≤ joined.old.amount }
@@ -76,7 +76,7 @@ fn join_all<F: Ledger, U: Ledger, D: Ledger, N: Ledger + Numbered>(
     }
 }
 
-/// Parts an account with these counts off again.
+/// Splits the shares of an account with these counts off again.
 fn part_all<F: Ledger, U: Ledger, D: Ledger, N: Ledger + Numbered>(
     joined: &mut Joined<F, U, D, N>,
     one: Counted,
@@ -161,7 +161,7 @@ fn add_up<F: Ledger, U: Ledger, D: Ledger, N: Ledger + Numbered>(
 }
 
 impl<F: Ledger, U: Ledger, D: Ledger, N: Ledger + Numbered> LedgerBook<F, U, D, N> {
-    /// No shares yet.
+    /// Empty shares of the book's ledgers.
     fn none_joined(&mut self) -> Joined<F, U, D, N>
         ensures book { (self.new.flushed.count ≡ self.old.flushed.count) × (self.new.unflushed.count ≡ self.old.unflushed.count) × (self.new.drops.count ≡ self.old.drops.count) × (self.new.accounts.count ≡ self.old.accounts.count) }
         ensures amounts { (result.flushed.amount ≡ 0) × (result.unflushed.amount ≡ 0) × (result.drops.amount ≡ 0) × (result.accounts.amount ≡ 0) }

@@ -15,7 +15,7 @@ pub struct Mismatch {
     pub number: u64,
 }
 
-/// Whether an entry of this number agrees with the window.
+/// Whether an entry agrees with a window: it is older, equals the one there, or is past its end and not covered.
 fn agrees(window: &Recovered, covered: u64, number: u64, entry: &Entry) -> bool
     ensures { IsTrue result ↔ Agrees window.now.first (views window.now.entries.items) covered number (view entry.now) }
 {
@@ -29,7 +29,7 @@ fn agrees(window: &Recovered, covered: u64, number: u64, entry: &Entry) -> bool
     }
 }
 
-/// The number of the first entry of a receipt that doesn't agree with the window.
+/// The number of the first entry of a receipt that doesn't agree with the window; None where each does.
 fn first_mismatch(window: &Recovered, receipt: &Receipt) -> Option<u64>
     ensures agreed { result ≡ None → IsAgreed window.now.first (views window.now.entries.items) receipt.now }
     ensures differs { IfSome result (λ number. Differs window.now.first (views window.now.entries.items) receipt.now number) }

@@ -56,7 +56,7 @@ pub trait Bookkeeping: Send + Drop {
         ensures attached { attached_of self.new ≡ attached_of self.old }
         ensures within { IsTrue shared → IsWithin (sums_of slip.old) (totals_of self.old) };
 
-    /// All messages of the account are flushed.
+    /// Counts all messages of the account as flushed.
     fn flush_account(&mut self, slip: &mut Self::Slip)
         ensures messages { (totals_of self.new).messages ≡ (totals_of self.old).messages }
         ensures drops { (totals_of self.new).drops ≡ (totals_of self.old).drops }

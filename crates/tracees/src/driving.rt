@@ -15,7 +15,7 @@ use trace_message::{Event, Stamp};
 use trace_port::TracePort;
 use trace_terms::NoMemory;
 
-/// The index of a tracee's desk, where both are there.
+/// The index of a tracee's desk; None where there is no such tracee or desk.
 fn desk_of<P: TracePort, K: Bookkeeping>(
     desks: &[Desk<'_, P, K>],
     traced: &[Traced<K>],
@@ -35,7 +35,7 @@ fn desk_of<P: TracePort, K: Bookkeeping>(
     Some(desk)
 }
 
-/// A hand-over of at most `limit` entries from a tracee into its desk.
+/// Hands over at most `limit` entries of a tracee to its desk; `Unknown` where either isn't there.
 fn hand_over<P: TracePort, K: Bookkeeping>(
     alloc: Global,
     desks: &mut [Desk<'_, P, K>],
@@ -52,7 +52,7 @@ fn hand_over<P: TracePort, K: Bookkeeping>(
     Reply::from(desks[desk].hand_over(alloc, &mut traced[tracee as usize], limit))
 }
 
-/// A flush for a tracee.
+/// Hands over all entries of a tracee to its desk, and flushes that; `Unknown` where either isn't there.
 fn flush_for<P: TracePort, K: Bookkeeping>(
     alloc: Global,
     desks: &mut [Desk<'_, P, K>],
@@ -68,7 +68,7 @@ fn flush_for<P: TracePort, K: Bookkeeping>(
     Reply::from(desks[desk].flush_for(alloc, &mut traced[tracee as usize]))
 }
 
-/// A flush of a desk.
+/// Flushes a desk's port; `Unknown` where there is no such desk.
 fn flush<P: TracePort, K: Bookkeeping>(desks: &mut [Desk<'_, P, K>], desk: u32) -> Reply
     ensures step { KeepAllLoans P.TracePort K.Bookkeeping desks.old desks.new ((tracees : List Seat) → IsStep P.told (places_with P.TracePort K.Bookkeeping desks.old tracees) (places_with P.TracePort K.Bookkeeping desks.new tracees) (steps.Flush desk) result) }
 {
@@ -79,7 +79,7 @@ fn flush<P: TracePort, K: Bookkeeping>(desks: &mut [Desk<'_, P, K>], desk: u32) 
     Reply::from(desks[place].flush())
 }
 
-/// The end of a desk's trace.
+/// Ends the trace of a desk's port; `Unknown` where there is no such desk.
 fn seal<P: TracePort, K: Bookkeeping>(desks: &mut [Desk<'_, P, K>], desk: u32) -> Reply
     ensures step { KeepAllLoans P.TracePort K.Bookkeeping desks.old desks.new ((tracees : List Seat) → IsStep P.told (places_with P.TracePort K.Bookkeeping desks.old tracees) (places_with P.TracePort K.Bookkeeping desks.new tracees) (steps.Seal desk) result) }
 {
@@ -90,7 +90,7 @@ fn seal<P: TracePort, K: Bookkeeping>(desks: &mut [Desk<'_, P, K>], desk: u32) -
     Reply::from(desks[place].seal())
 }
 
-/// A desk's port is told the time.
+/// Tells a desk's port the time; `Unknown` where there is no such desk.
 fn tick<P: TracePort, K: Bookkeeping>(desks: &mut [Desk<'_, P, K>], desk: u32, now: u64) -> Reply
     ensures step { KeepAllLoans P.TracePort K.Bookkeeping desks.old desks.new ((tracees : List Seat) → IsStep P.told (places_with P.TracePort K.Bookkeeping desks.old tracees) (places_with P.TracePort K.Bookkeeping desks.new tracees) (steps.Tick desk now) result) }
 {
@@ -101,7 +101,7 @@ fn tick<P: TracePort, K: Bookkeeping>(desks: &mut [Desk<'_, P, K>], desk: u32, n
     Reply::from(desks[place].tick(now))
 }
 
-/// One step.
+/// Takes one step, and answers what came of it.
 fn act<P: TracePort, K: Bookkeeping>(
     alloc: Global,
     desks: &mut [Desk<'_, P, K>],

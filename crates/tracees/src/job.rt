@@ -54,7 +54,7 @@ pub trait Gate: Sync {
     fn before(&self, tracee: u32, act: u32) -> bool
         ensures answered { answers self.now tracee act result };
 
-    /// The act was let through, and then done or refused.
+    /// Is told that an act, which was let through, was done or refused.
     fn after(&self, tracee: u32, act: u32)
         requires passed { answers self.now tracee act true }
         ensures told { told self.now tracee act };

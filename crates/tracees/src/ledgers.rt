@@ -39,7 +39,7 @@ pub(crate) struct AccountCount<L: Ledger> {
 }
 
 impl<L: Ledger> BookCount<L> {
-    /// Nothing is counted, and no account has a part.
+    /// A number that is 0, of which no account has a part.
     fn new(blank: Blank) -> BookCount<L>
         requires name { blank.name ≡ L.name }
         requires parts { blank.parts ≡ L.parts }
@@ -65,7 +65,7 @@ impl<L: Ledger> BookCount<L> {
         AccountCount { count: 0, share }
     }
 
-    /// Counts so much more in the book and in the account.
+    /// Adds `amount` to the number in the book and in the account.
     fn add(&mut self, account: &mut AccountCount<L>, amount: u64)
         requires { self.old.count + amount < 2 ^ 64 }
         ensures count { self.new.count ≡ self.old.count + amount }
@@ -81,7 +81,7 @@ impl<L: Ledger> BookCount<L> {
         *mine += amount;
     }
 
-    /// Takes all that the account counts out of the book and of the account.
+    /// Subtracts all that the account counts from the book and the account, and answers how much that was.
     fn take(&mut self, account: &mut AccountCount<L>) -> u64
         ensures result { result ≡ account.old.count }
         ensures count { self.new.count + account.old.count ≡ self.old.count }
@@ -98,7 +98,7 @@ impl<L: Ledger> BookCount<L> {
         amount
     }
 
-    /// What is counted.
+    /// The number in the book.
     pub(crate) fn count(&self) -> u64
         ensures { result ≡ self.now.count }
     {

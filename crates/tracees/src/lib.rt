@@ -1,13 +1,13 @@
-//! Desks: many traced processes hand over what waits of their messages into one port, and know by receipts what it took.
+//! A desk takes the waiting messages of many traced processes into one port, in steps or on threads, and answers each delivery
+//! with a receipt of what the port took. No command of `dbgrec` uses `drive`, `run_threads`, `settle` or `audit`.
 //!
 //! `Desk::hand_over` moves entries into the desk's port, and its receipt names exactly those (`HandsOver`); `flush_for` moves all
 //! that waits and then flushes the port (`FlushesFor`). `drive` takes steps over any number of desks and tracees: it answers what
 //! one step after another may answer (`Run`), and at each moment of it the desks' stores keep what was flushed (`EachMoment`).
-//! `run_threads` does jobs on threads that share a desk (`HasRun`); that it returns isn't said.
-//!
-//! A desk's book counts what went into its port, and an account what one tracee gave: `settle` tells whether these accounts are
-//! all, and so add up to the book (`AddUp`). `audit` names the first entry of receipts that a store doesn't have as it should
-//! (`FirstDiffers`). What is recovered of a port's store is a prefix of what the port accepted (`recovered_is_a_prefix`).
+//! `run_threads` does jobs on threads that share a desk (`HasRun`); that it returns isn't said. A desk's book counts what went
+//! into its port, and an account what one tracee gave: `settle` tells whether these accounts are all, and so add up to the book
+//! (`AddUp`). `audit` names the first entry of receipts that a store doesn't have as it should (`FirstDiffers`). What is
+//! recovered of a port's store is a prefix of what the port accepted (`recovered_is_a_prefix`).
 #![tactic(auto)]
 
 mod accepting;

@@ -20,8 +20,8 @@ pub enum SettleFault<'p, P: TracePort, K: Bookkeeping> {
     },
 }
 
-/// Adds the accounts of a desk up. Where they are all that were attached, what they count together is what the desk's
-/// book counts, and it is told.
+/// Adds up the accounts of a desk. Where they are all that were attached, answers what the desk's book counts, and so they do;
+/// else Err (`Missing`), with all of them.
 pub fn settle<'p, P: TracePort, K: SharedBook>(
     mut desk: Desk<'p, P, K>,
     mut accounts: Vec<Account<K>>,

@@ -8,7 +8,7 @@ use crate::book::{Bookkeeping, Totals};
 
 /// A book of which each account is a share by its type, so that threads may have its accounts.
 pub trait SharedBook: Bookkeeping {
-    /// What the book counts.
+    /// The sums in the book.
     fn totals(&self) -> Totals
         ensures { result ≡ Self.totals_of self.now };
 

@@ -40,7 +40,7 @@ fn run_each<P: TracePort, K: SharedBook, G: Gate, R: Threads + Wait + Sync>(
     );
 }
 
-/// Makes room for the receipts of a job.
+/// Reserves memory for the receipts of a job.
 fn reserve<K: Bookkeeping>(job: &mut Job<K>) -> Result<(), AllocError>
     ensures same { IsSameJob job.old job.new }
     ensures room { OnOk result (IsReserved job.new) }
@@ -49,7 +49,7 @@ fn reserve<K: Bookkeeping>(job: &mut Job<K>) -> Result<(), AllocError>
     job.receipts.reserve(count)
 }
 
-/// Makes room for the receipts of all jobs.
+/// Reserves memory for the receipts of all jobs.
 fn reserve_all<K: Bookkeeping>(jobs: &mut [Job<K>]) -> Result<(), AllocError>
     ensures same { (place : ℕ) (d : _) → place < length jobs.old → IsSameJob (slice_index_or jobs.old place d) (slice_index_or jobs.new place d) }
     ensures room { OnOk result ((place : ℕ) (d : _) → place < length jobs.old → IsReserved (slice_index_or jobs.new place d)) }
@@ -60,7 +60,7 @@ fn reserve_all<K: Bookkeeping>(jobs: &mut [Job<K>]) -> Result<(), AllocError>
     Ok(())
 }
 
-/// Runs jobs, where there are any, once there is room for the receipts of all.
+/// Runs jobs, where there are any, once memory is reserved for the receipts of all.
 fn run_jobs<P: TracePort, K: SharedBook, G: Gate, R: Threads + Wait + Sync>(
     rt: &R,
     alloc: Global,
