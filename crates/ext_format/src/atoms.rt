@@ -72,7 +72,8 @@ fn as_short(text: &[u8]) -> Option<&[u8]>
 pub fn short_at(tag: Tag, bytes: &[u8]) -> Option<(&[u8], &[u8])>
     ensures bytes { IfSome result (λ x. spelt_at tag bytes.now ≡ Ok (x.0.now, x.1.now)) }
     ensures short { IfSome result (λ x. length x.0.now ≤ 255) }
-    ensures text { IfSome result (λ x. IsAscii x.0.now → text_at tag bytes.now ≡ Ok (x.0.now, x.1.now)) }
+    ensures text { IfSome result (λ x. IsAscii x.0.now
+        → text_at tag bytes.now ≡ Ok (x.0.now, x.1.now)) }
 {
     match tag {
         Tag::SmallAtomUtf8Ext | Tag::SmallAtomExt => {

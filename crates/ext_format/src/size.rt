@@ -65,7 +65,8 @@ pub fn arity_size(arity: usize) -> usize
 
 /// The integer, if it is one from 0 to 255.
 pub(crate) fn byte_in(term: &Term) -> Option<u8>
-    ensures { MatchOption result (is_byte (view term.now) ≡ false) (λ byte. (is_byte (view term.now) ≡ true) × (byte_value (view term.now) ≡ byte)) }
+    ensures { MatchOption result (is_byte (view term.now) ≡ false)
+        (λ byte. (is_byte (view term.now) ≡ true) × (byte_value (view term.now) ≡ byte)) }
 {
     match term {
         Term::Int(number) => u8::try_from(*number).ok(),
@@ -113,7 +114,8 @@ pub fn room_after(room: usize, term: &Term) -> Option<usize>
 /// The room that is left after a list of these members, if it suffices.
 #[cycle(size)]
 pub fn room_after_list(room: usize, members: &Vec<Term>) -> Option<usize>
-    ensures { LeavesRoom result room (length (canonical_form (list (members_view members.now.items)))) }
+    ensures { LeavesRoom result room (length
+        (canonical_form (list (members_view members.now.items)))) }
 {
     if members.is_empty() {
         room.checked_sub(1)

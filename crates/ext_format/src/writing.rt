@@ -87,7 +87,8 @@ pub fn put_atom(out: &mut Vec<u8>, text: &str) -> Result<(), AllocError>
 
 /// A pid: NEW_PID_EXT.
 pub fn put_pid(out: &mut Vec<u8>, pid: &Pid) -> Result<(), AllocError>
-    ensures written { OnOk result (out.new.items ≡ out.old.items ++ canonical_form (pid_data pid.now)) }
+    ensures written { OnOk result (out.new.items
+        ≡ out.old.items ++ canonical_form (pid_data pid.now)) }
     ensures fits { OnOk result (FitsPidFields pid.now) }
 {
     out.push(NEW_PID_EXT)?;
@@ -123,7 +124,8 @@ fn put_binary(out: &mut Vec<u8>, bytes: &[u8]) -> Result<(), AllocError>
 /// The integers from 0 to 255, a byte each.
 fn put_bytes(out: &mut Vec<u8>, members: &Vec<Term>) -> Result<(), AllocError>
     requires { are_bytes (members_view members.now.items) ≡ true }
-    ensures { OnOk result (out.new.items ≡ out.old.items ++ byte_values (members_view members.now.items)) }
+    ensures { OnOk result (out.new.items
+        ≡ out.old.items ++ byte_values (members_view members.now.items)) }
 {
     for member in members {
         let Some(byte) = byte_in(member) else {
@@ -138,7 +140,8 @@ fn put_bytes(out: &mut Vec<u8>, members: &Vec<Term>) -> Result<(), AllocError>
 #[cycle(writing)]
 pub fn put_form(out: &mut Vec<u8>, term: &Term) -> Result<(), AllocError>
     requires { length (canonical_form (view term.now)) < 2 ^ 16 }
-    ensures written { OnOk result (out.new.items ≡ out.old.items ++ canonical_form (view term.now)) }
+    ensures written { OnOk result (out.new.items
+        ≡ out.old.items ++ canonical_form (view term.now)) }
     ensures fits { OnOk result (Fits (view term.now)) }
 {
     match term {
@@ -159,7 +162,8 @@ pub fn put_form(out: &mut Vec<u8>, term: &Term) -> Result<(), AllocError>
 #[cycle(writing)]
 pub fn put_list(out: &mut Vec<u8>, members: &Vec<Term>) -> Result<(), AllocError>
     requires { length (canonical_form (list (members_view members.now.items))) < 2 ^ 16 }
-    ensures written { OnOk result (out.new.items ≡ out.old.items ++ canonical_form (list (members_view members.now.items))) }
+    ensures written { OnOk result (out.new.items
+        ≡ out.old.items ++ canonical_form (list (members_view members.now.items))) }
     ensures fits { OnOk result (AllFit (members_view members.now.items)) }
 {
     if members.is_empty() {
@@ -180,7 +184,8 @@ pub fn put_list(out: &mut Vec<u8>, members: &Vec<Term>) -> Result<(), AllocError
 #[cycle(writing)]
 fn put_forms(out: &mut Vec<u8>, members: &Vec<Term>) -> Result<(), AllocError>
     requires { length (canonical_forms (members_view members.now.items)) < 2 ^ 16 }
-    ensures written { OnOk result (out.new.items ≡ out.old.items ++ canonical_forms (members_view members.now.items)) }
+    ensures written { OnOk result (out.new.items
+        ≡ out.old.items ++ canonical_forms (members_view members.now.items)) }
     ensures fits { OnOk result (AllFit (members_view members.now.items)) }
 {
     for member in members {

@@ -93,8 +93,10 @@ impl<'w, W: Write> Answers<'w, W> {
     /// Writes a line with the answer. After a fault a part of it is written, or all or nothing.
     pub fn tell(&mut self, answer: Answer) -> Result<(), SimFault>
         ensures name { self.new.writer.ghost_name ≡ self.old.writer.ghost_name }
-        ensures text { OnOk result (Appends (W.contents self.old.writer.now) (W.contents self.new.writer.now) (line_of answer)) }
-        ensures cut { OnErr result (AppendsPrefix (W.contents self.old.writer.now) (W.contents self.new.writer.now) (line_of answer)) }
+        ensures text { OnOk result (Appends (W.contents self.old.writer.now)
+            (W.contents self.new.writer.now) (line_of answer)) }
+        ensures cut { OnErr result (AppendsPrefix (W.contents self.old.writer.now)
+            (W.contents self.new.writer.now) (line_of answer)) }
         ensures fault { IfErr result (λ fault. fault ≡ faults.Write) }
     {
         let Ok(line) = line(answer) else {
@@ -112,7 +114,8 @@ impl<'w, W: Write> Answers<'w, W> {
     /// Writes the line of a file, with its length and, unless it is empty, its first byte.
     pub fn file(&mut self, file: u32, length: u64, gate: Option<u8>) -> Result<(), SimFault>
         ensures name { self.new.writer.ghost_name ≡ self.old.writer.ghost_name }
-        ensures text { Writes (W.contents self.old.writer.now) (W.contents self.new.writer.now) result (state_text file length gate) }
+        ensures text { Writes (W.contents self.old.writer.now)
+            (W.contents self.new.writer.now) result (state_text file length gate) }
         ensures fault { IfErr result (λ fault. fault ≡ faults.Write) }
     {
         let Ok(head) = head(file, length) else {

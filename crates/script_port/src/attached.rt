@@ -36,7 +36,8 @@ impl Attached {
 
     /// Sets the moment, but for its monotonic time.
     pub fn set_moment(&mut self, mega: u32, sec: u32, micro: u32)
-        ensures moment { self.new.moment ≡ record { mega = mega; sec = sec; micro = micro; mono = self.old.moment.mono } }
+        ensures moment { self.new.moment ≡ record { mega = mega; sec = sec; micro = micro; mono =
+            self.old.moment.mono } }
         ensures traced { self.new.traced ≡ self.old.traced }
     {
         self.moment = Stamp {
@@ -57,7 +58,8 @@ impl Attached {
 
     /// The index of the tracee with this number; None where none is attached.
     pub fn place(&self, number: u32) -> Option<usize>
-        ensures { result ≡ position (λ traced. nat_eq traced.tracee.number number) self.now.traced.items }
+        ensures { result ≡ position (λ traced. nat_eq traced.tracee.number number)
+            self.now.traced.items }
     {
         self.traced
             .iter()
@@ -68,7 +70,8 @@ impl Attached {
 /// The pid of the process that a tracee with this number stands for.
 fn pid(alloc: Global, number: u32) -> Result<Pid, TraceeFault>
     requires { number ≤ 999 }
-    ensures pid { IfOk result (λ pid. pid ≡ record { node = codes "nonode@nohost"; id = 80 + number; serial = 0; creation = 0 }) }
+    ensures pid { IfOk result (λ pid. pid
+        ≡ record { node = codes "nonode@nohost"; id = 80 + number; serial = 0; creation = 0 }) }
     ensures fault { OnErr result (result ≡ Err TraceeFault.NoMemory) }
 {
     match Atom::new(alloc, "nonode@nohost") {

@@ -30,8 +30,10 @@ pub fn run_desk<P: TracePort, R: BufRead, W: Write>(
     script: &mut Script<'_, R>,
     answers: &mut Answers<'_, W>,
 ) -> Result<Option<Leave>, SimFault>
-    ensures run { RunsLines R.Read W.Write script.old script.new answers.old answers.new (λ over was now. KeepsDesk P.TracePort desk.old desk.new (Ran P.told (AtDesk (first_side (desk_seen P.TracePort desk.old)))
-        files over result (IsAtDesk (desk_seen P.TracePort desk.new)) [] (λ text. Appends was now text))) }
+    ensures run { RunsLines R.Read W.Write script.old script.new answers.old answers.new
+        (λ over was now. KeepsDesk P.TracePort desk.old desk.new
+        (Ran P.told (AtDesk (first_side (desk_seen P.TracePort desk.old))) files over result
+        (IsAtDesk (desk_seen P.TracePort desk.new)) [] (λ text. Appends was now text))) }
 {
     let mut attached = Attached::new(alloc);
     for _line in 0..u64::MAX {
@@ -54,7 +56,9 @@ fn ask_owned<P: TracePort>(
     line: Line,
 ) -> Reply
     requires { IsWithinLimits line }
-    ensures step { KeepsDesk P.TracePort desk.old desk.new ((did : Effect) × IsAsked P.told (AtDesk (side_seen P.TracePort desk.old attached.old)) (AtDesk (side_seen P.TracePort desk.new attached.new)) line result did) }
+    ensures step { KeepsDesk P.TracePort desk.old desk.new ((did : Effect)
+        × IsAsked P.told (AtDesk (side_seen P.TracePort desk.old attached.old))
+        (AtDesk (side_seen P.TracePort desk.new attached.new)) line result did) }
 {
     let reply = ask(alloc, desk, attached, &line);
     drop(line);
@@ -69,7 +73,9 @@ fn ask<P: TracePort>(
     line: &Line,
 ) -> Reply
     requires { IsWithinLimits line.now }
-    ensures step { KeepsDesk P.TracePort desk.old desk.new ((did : Effect) × IsAsked P.told (AtDesk (side_seen P.TracePort desk.old attached.old)) (AtDesk (side_seen P.TracePort desk.new attached.new)) line.now result did) }
+    ensures step { KeepsDesk P.TracePort desk.old desk.new ((did : Effect)
+        × IsAsked P.told (AtDesk (side_seen P.TracePort desk.old attached.old))
+        (AtDesk (side_seen P.TracePort desk.new attached.new)) line.now result did) }
 {
     match line {
         Line::Flush => Reply::Told(Answer::of_flush(desk.flush())),
@@ -97,7 +103,9 @@ fn ask_desk<P: TracePort>(
     line: &DeskLine,
 ) -> Answer
     requires { IsNumbered line.now }
-    ensures step { KeepsDesk P.TracePort desk.old desk.new ((did : Effect) × IsAskedAtDesk P.told (side_seen P.TracePort desk.old attached.old) (side_seen P.TracePort desk.new attached.new) line.now result did) }
+    ensures step { KeepsDesk P.TracePort desk.old desk.new ((did : Effect)
+        × IsAskedAtDesk P.told (side_seen P.TracePort desk.old attached.old)
+        (side_seen P.TracePort desk.new attached.new) line.now result did) }
 {
     match line {
         DeskLine::Stamp { mega, sec, micro } => {
@@ -144,7 +152,9 @@ fn attach<P: TracePort>(
 ) -> Answer
     requires { number ≤ 999 }
     ensures port { desk.new.port.now ≡ desk.old.port.now }
-    ensures step { KeepsDesk P.TracePort desk.old desk.new (IsAskedAtDesk P.told (side_seen P.TracePort desk.old attached.old) (side_seen P.TracePort desk.new attached.new)
+    ensures step { KeepsDesk P.TracePort desk.old desk.new
+        (IsAskedAtDesk P.told (side_seen P.TracePort desk.old attached.old)
+        (side_seen P.TracePort desk.new attached.new)
         (DeskLine.Tracee number capacity drop_limit flags) result no_effect) }
 {
     if attached.place(number).is_some() {
@@ -172,7 +182,9 @@ fn ask_tracee<P: TracePort>(
     moment: Stamp,
     line: &TraceeLine,
 ) -> Answer
-    ensures step { KeepsDesk P.TracePort desk.old desk.new ((did : Effect) × IsAskedFor P.told (desk_seen P.TracePort desk.old) moment (seat_seen traced.old) (desk_seen P.TracePort desk.new) (seat_seen traced.new) line.now result did) }
+    ensures step { KeepsDesk P.TracePort desk.old desk.new ((did : Effect)
+        × IsAskedFor P.told (desk_seen P.TracePort desk.old) moment (seat_seen traced.old)
+        (desk_seen P.TracePort desk.new) (seat_seen traced.new) line.now result did) }
 {
     match line {
         TraceeLine::Emit(event) => Answer::of_emit(traced.emit(alloc, event, moment)),

@@ -27,7 +27,9 @@ pub fn next_line<R: BufRead>(
     ensures sound { IfOk result (λ found. IfSome found IsWithinLimits) }
     ensures of_desk { script.new.is_of_desk ≡ script.old.is_of_desk }
     ensures reader { script.new.reader.ghost_name ≡ script.old.reader.ghost_name }
-    ensures next { ComesNext script.old.is_of_desk files (progress script.old.number (R.remaining script.old.reader.now)) (progress script.new.number (R.remaining script.new.reader.now)) result }
+    ensures next { ComesNext script.old.is_of_desk files
+        (progress script.old.number (R.remaining script.old.reader.now))
+        (progress script.new.number (R.remaining script.new.reader.now)) result }
 {
     let Some(line) = script.next_line()? else {
         return Ok(None);

@@ -39,9 +39,11 @@ fn replace(contents: &mut Vec<Vec<u8>>, file: usize, own: Vec<u8>)
 
 /// What a read gives of each file.
 fn contents_of<S: Store>(alloc: Global, store: &mut S) -> Result<Vec<Vec<u8>>, Refusal>
-    ensures device { DeviceReads S.Store TellsRefusal store.old store.new result (S.clock_of store.new ≤ S.clock_of store.old + 2 * length (S.reads store.old)) }
+    ensures device { DeviceReads S.Store TellsRefusal store.old store.new result
+        (S.clock_of store.new ≤ S.clock_of store.old + 2 * length (S.reads store.old)) }
     ensures count { IfOk result (λ contents. length contents.items ≡ length (S.reads store.old)) }
-    ensures read { S.honest store.new → IfOk result (λ contents. contents_of contents.items ≡ S.reads store.old) }
+    ensures read { S.honest store.new → IfOk result
+        (λ contents. contents_of contents.items ≡ S.reads store.old) }
 {
     let mut contents = Vec::new(alloc);
     for file in 0..store.files() {
@@ -53,8 +55,10 @@ fn contents_of<S: Store>(alloc: Global, store: &mut S) -> Result<Vec<Vec<u8>>, R
 /// What a read gives of a file.
 pub fn bytes_of<S: Store>(alloc: Global, store: &mut S, file: u32) -> Result<Vec<u8>, Refusal>
     requires { file < length (S.reads store.old) }
-    ensures device { DeviceReads S.Store TellsRefusal store.old store.new result (S.clock_of store.new ≤ S.clock_of store.old + 2) }
-    ensures read { S.honest store.new → IfOk result (λ bytes. bytes.items ≡ file_of (S.reads store.old) file) }
+    ensures device { DeviceReads S.Store TellsRefusal store.old store.new result
+        (S.clock_of store.new ≤ S.clock_of store.old + 2) }
+    ensures read { S.honest store.new → IfOk result
+        (λ bytes. bytes.items ≡ file_of (S.reads store.old) file) }
 {
     let length = store.len(file)?;
     let mut bytes = vec![in alloc; 0; length as usize]?;

@@ -36,7 +36,8 @@ pub fn run_sim<R: BufRead, W: Write>(
     reader: &mut R,
     writer: &mut W,
 ) -> Result<(), SimFault>
-    ensures { IsRun (R.remaining reader.old) (R.remaining reader.new) (W.contents writer.old) (W.contents writer.new) result }
+    ensures { IsRun (R.remaining reader.old) (R.remaining reader.new) (W.contents writer.old)
+        (W.contents writer.new) result }
 {
     let mut text = Vec::new(alloc);
     let mut script = Script::new(alloc, reader, &mut text, false);
@@ -52,7 +53,8 @@ fn run_script<R: BufRead, W: Write>(
     requires any { script.old.is_of_desk ≡ false }
     requires first { script.old.number ≡ 0 }
     ensures reader { script.new.reader.ghost_name ≡ script.old.reader.ghost_name }
-    ensures run { IsRun (R.remaining script.old.reader.now) (R.remaining script.new.reader.now) (W.contents writer.old) (W.contents writer.new) result }
+    ensures run { IsRun (R.remaining script.old.reader.now) (R.remaining script.new.reader.now)
+        (W.contents writer.old) (W.contents writer.new) result }
 {
     let Ok(mut store) = MemStore::blank(alloc, 1) else {
         return Err(SimFault::NoMemory);
@@ -85,7 +87,8 @@ pub fn run_lines<R: BufRead, W: Write>(
     script: &mut Script<'_, R>,
     answers: &mut Answers<'_, W>,
 ) -> Result<(), SimFault>
-    ensures simulates { RunsLines R.Read W.Write script.old script.new answers.old answers.new (λ over was now. Simulates store.old store.new over was now result) }
+    ensures simulates { RunsLines R.Read W.Write script.old script.new answers.old answers.new
+        (λ over was now. Simulates store.old store.new over was now result) }
 {
     for _line in 0..u64::MAX {
         let Some(line) = next_line(script, store.files())? else {
@@ -106,7 +109,8 @@ fn run_whole<R: BufRead, W: Write>(
 ) -> Result<(), SimFault>
     requires sound { IsWithinLimits line }
     requires file { IsOfFiles (length (reads_of store.old)) line }
-    ensures run { RunsLines R.Read W.Write script.old script.new answers.old answers.new (λ over was now. IsRunWhole line store.old store.new over result was now) }
+    ensures run { RunsLines R.Read W.Write script.old script.new answers.old answers.new
+        (λ over was now. IsRunWhole line store.old store.new over result was now) }
 {
     let left = run_line(alloc, &mut *store, &line, script, &mut *answers);
     drop(line);
@@ -123,7 +127,9 @@ fn run_line<R: BufRead, W: Write>(
 ) -> Result<Option<Leave>, Stop>
     requires sound { IsWithinLimits line.now }
     requires file { IsOfFiles (length (reads_of store.old)) line.now }
-    ensures runs { RunsLines R.Read W.Write script.old script.new answers.old answers.new (λ over was now. Runs line.now store.old store.new over result (λ text. Appends was now text)) }
+    ensures runs { RunsLines R.Read W.Write script.old script.new answers.old answers.new
+        (λ over was now. Runs line.now store.old store.new over result
+        (λ text. Appends was now text)) }
 {
     match line {
         Line::CreateFile(limit) => create_file(alloc, store, *limit, script, answers),
@@ -161,7 +167,8 @@ fn run_alone<W: Write>(
 ) -> Result<Option<Leave>, Stop>
     requires sound { IsWithinLimits line.now }
     requires file { IsOfFiles (length (reads_of store.old)) line.now }
-    ensures does { Answering W.Write answers.old answers.new (λ was now. DoesAlone line.now store.old store.new result (λ text. Appends was now text)) }
+    ensures does { Answering W.Write answers.old answers.new
+        (λ was now. DoesAlone line.now store.old store.new result (λ text. Appends was now text)) }
 {
     match run_store_line(alloc, store, line, &mut *answers) {
         Ok(()) => Ok(None),
@@ -189,7 +196,9 @@ fn hold<R: BufRead, W: Write>(
     answers: &mut Answers<'_, W>,
 ) -> Result<Option<Leave>, Stop>
     requires fits { FitsStore ⟦<MemStore as Store>⟧ opening store.old }
-    ensures held { RunsLines R.Read W.Write script.old script.new answers.old answers.new (λ over was now. (left : Result (Option Leave) SimFault) × (result ≡ ended_so left) × RanOn opening origin store.old store.new over left (λ text. Appends was now text)) }
+    ensures held { RunsLines R.Read W.Write script.old script.new answers.old answers.new
+        (λ over was now. (left : Result (Option Leave) SimFault) × (result ≡ ended_so left)
+        × RanOn opening origin store.old store.new over left (λ text. Appends was now text)) }
 {
     match opening {
         AnyOpening::File(opening) => {
@@ -209,7 +218,9 @@ fn create_file<R: BufRead, W: Write>(
     script: &mut Script<'_, R>,
     answers: &mut Answers<'_, W>,
 ) -> Result<Option<Leave>, Stop>
-    ensures comes { RunsLines R.Read W.Write script.old script.new answers.old answers.new (λ over was now. ComesOf Created File limit store.old store.new over result (λ text. Appends was now text)) }
+    ensures comes { RunsLines R.Read W.Write script.old script.new answers.old answers.new
+        (λ over was now. ComesOf Created File limit store.old store.new over result
+        (λ text. Appends was now text)) }
     ensures why_not { SaysWhyNotCreated store.old store.new result }
 {
     match begin_create(alloc, &mut *store, limit) {
@@ -229,7 +240,9 @@ fn resume_file<R: BufRead, W: Write>(
     script: &mut Script<'_, R>,
     answers: &mut Answers<'_, W>,
 ) -> Result<Option<Leave>, Stop>
-    ensures comes { RunsLines R.Read W.Write script.old script.new answers.old answers.new (λ over was now. ComesOf Resumed File limit store.old store.new over result (λ text. Appends was now text)) }
+    ensures comes { RunsLines R.Read W.Write script.old script.new answers.old answers.new
+        (λ over was now. ComesOf Resumed File limit store.old store.new over result
+        (λ text. Appends was now text)) }
     ensures why_not { SaysWhyNotResumed store.old store.new result }
 {
     match begin_resume(alloc, &mut *store, limit) {
@@ -248,7 +261,10 @@ fn resume_wrap<R: BufRead, W: Write>(
     script: &mut Script<'_, R>,
     answers: &mut Answers<'_, W>,
 ) -> Result<Option<Leave>, Stop>
-    ensures comes { RunsLines R.Read W.Write script.old script.new answers.old answers.new (λ over was now. (spec : Spec) → ComesOf Resumed spec greatest_limit store.old store.new over result (λ text. Appends was now text)) }
+    ensures comes { RunsLines R.Read W.Write script.old script.new answers.old answers.new
+        (λ over was now. (spec : Spec)
+        → ComesOf Resumed spec greatest_limit store.old store.new over result
+        (λ text. Appends was now text)) }
     ensures why_not { SaysWhyNoWrap store.old store.new result }
 {
     match wrap_port::begin_resume(alloc, &mut *store) {
@@ -268,7 +284,10 @@ fn create_wrap<R: BufRead, W: Write>(
     script: &mut Script<'_, R>,
     answers: &mut Answers<'_, W>,
 ) -> Result<Option<Leave>, Stop>
-    ensures comes { RunsLines R.Read W.Write script.old script.new answers.old answers.new (λ over was now. ComesOf Created (wrap_seen spec) greatest_limit store.old store.new over result (λ text. Appends was now text)) }
+    ensures comes { RunsLines R.Read W.Write script.old script.new answers.old answers.new
+        (λ over was now. ComesOf Created
+        (wrap_seen spec) greatest_limit store.old store.new over result
+        (λ text. Appends was now text)) }
     ensures why_not { SaysWhyNotCreated store.old store.new result }
 {
     match wrap_port::begin_create(alloc, &mut *store, spec) {
@@ -289,7 +308,9 @@ fn run_store_line<W: Write>(
 ) -> Result<(), SimFault>
     requires sound { IsWithinLimits line.now }
     requires file { IsOfFiles (length (reads_of store.old)) line.now }
-    ensures does { Answering W.Write answers.old answers.new (λ was now. DoesOrFails line.now store.old store.new result (λ text. Appends was now text)) }
+    ensures does { Answering W.Write answers.old answers.new
+        (λ was now. DoesOrFails line.now store.old store.new result
+        (λ text. Appends was now text)) }
 {
     match line {
         Line::Store(files) => answers.tell(set_store(alloc, store, *files)),
@@ -364,7 +385,8 @@ fn finish<W: Write>(
     left: Result<Option<Leave>, Stop>,
     answers: &mut Answers<'_, W>,
 ) -> Result<(), SimFault>
-    ensures over { Answering W.Write answers.old answers.new (λ was now. IsFinished store.old store.new (λ text. Appends was now text) left result) }
+    ensures over { Answering W.Write answers.old answers.new
+        (λ was now. IsFinished store.old store.new (λ text. Appends was now text) left result) }
 {
     match left {
         Ok(Some(Leave::Abandoned)) => answers.tell(Answer::Done),

@@ -18,7 +18,9 @@ pub fn serve_sim<R: Read + Drop, W: Write>(
     input: R,
     output: &mut W,
 ) -> Result<(), Complaint>
-    ensures { (done : Result Unit SimFault) × (has : Option (List ℕ)) × IsRun (R.remaining input) has (W.contents output.old) (W.contents output.new) done × IsToldAs done result }
+    ensures { (done : Result Unit SimFault) × (has : Option (List ℕ))
+        × IsRun (R.remaining input) has (W.contents output.old) (W.contents output.new) done
+        × IsToldAs done result }
 {
     let Ok(mut reader) = BufReader::with_capacity(alloc, BUFFER, input) else {
         return told(Err(SimFault::NoMemory));

@@ -106,7 +106,8 @@ impl FixedCounts {
     fn count<T: Drop>(&mut self, answer: Option<T>) -> Result<T, DeviceFault>
         ensures clock { self.new.clock ≡ next_count self.old.clock }
         ensures later { self.old.clock ≤ self.new.clock }
-        ensures failures { MatchResult result (λ _. self.new.failures ≡ self.old.failures) (λ _. self.new.failures ≡ next_count self.old.failures) }
+        ensures failures { MatchResult result (λ _. self.new.failures ≡ self.old.failures)
+            (λ _. self.new.failures ≡ next_count self.old.failures) }
         ensures last { self.old.clock ≡ 2 ^ 64 - 1 → IsErr result }
     {
         let has_number = self.clock < u64::MAX;

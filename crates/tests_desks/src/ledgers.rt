@@ -82,10 +82,13 @@ fn work_over<
     drops: Blank,
     accounts: Blank,
 ) -> Told
-    requires flushed { (flushed.name ≡ F.name) × (flushed.parts ≡ F.parts) × (flushed.parts ≡ PARTS) }
-    requires unflushed { (unflushed.name ≡ U.name) × (unflushed.parts ≡ U.parts) × (unflushed.parts ≡ PARTS) }
+    requires flushed { (flushed.name ≡ F.name) × (flushed.parts ≡ F.parts)
+        × (flushed.parts ≡ PARTS) }
+    requires unflushed { (unflushed.name ≡ U.name) × (unflushed.parts ≡ U.parts)
+        × (unflushed.parts ≡ PARTS) }
     requires drops { (drops.name ≡ D.name) × (drops.parts ≡ D.parts) × (drops.parts ≡ PARTS) }
-    requires accounts { (accounts.name ≡ N.name) × (accounts.parts ≡ N.parts) × (accounts.parts ≡ PARTS) }
+    requires accounts { (accounts.name ≡ N.name) × (accounts.parts ≡ N.parts)
+        × (accounts.parts ≡ PARTS) }
     requires number { N.number ≡ 7 }
     requires fits { KeepsMeaning (P.told port.old) }
 {

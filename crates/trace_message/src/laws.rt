@@ -15,7 +15,8 @@ pub fn one_kind()
 
 /// Each term is a message of some kind, or of none.
 pub fn some_kind_or_none()
-    ensures { (term : Data) → (found : Option TheSeen) × ((seen : TheSeen) → (found ≡ Some seen) ↔ IsMessage seen term) }
+    ensures { (term : Data) → (found : Option TheSeen)
+        × ((seen : TheSeen) → (found ≡ Some seen) ↔ IsMessage seen term) }
 {}
 
 /// The message of an event is of the event's kind.
@@ -26,5 +27,6 @@ pub fn messages_have_their_kind()
 
 /// A glance at a term tells the kind of message that it is.
 pub fn a_glance_tells_the_kind()
-    ensures { (term : Data) (seen : TheSeen) → ((glance term).kind ≡ Some seen) ↔ IsMessage seen term }
+    ensures { (term : Data) (seen : TheSeen) → ((glance term).kind ≡ Some seen)
+        ↔ IsMessage seen term }
 {}

@@ -45,7 +45,8 @@ pub fn has_bytes(rt: &HostRuntime, name: &str) -> bool {
 
 /// The name of the first wrap file that is there and isn't empty.
 pub fn first_wrap_file(rt: &HostRuntime, asked: Asked<'_>) -> Result<Option<String>, AllocError>
-    ensures { IfOk result (λ file. IfSome file (λ name. IsWrapFile asked.entry (string_bytes name))) }
+    ensures { IfOk result (λ file. IfSome file
+        (λ name. IsWrapFile asked.entry (string_bytes name))) }
 {
     let place = Place::of_wrap(&asked, Some(MOST_RUNS));
     for k in 0..place.files() {

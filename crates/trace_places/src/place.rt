@@ -127,7 +127,8 @@ impl Place<'_> {
 
     /// The name of file `k`.
     pub fn name(&self, alloc: Global, k: u32) -> Result<String, AllocError>
-        ensures { IfOk result (λ name. string_bytes name ≡ name_of self.now.kind self.now.base.now self.now.suffix.now k) }
+        ensures { IfOk result (λ name. string_bytes name
+            ≡ name_of self.now.kind self.now.base.now self.now.suffix.now k) }
     {
         match self.kind {
             Kind::File => String::from_str(alloc, self.base),

@@ -6,7 +6,8 @@ use crate::spelling::{number, within};
 
 /// The first word, and those after it; None where there is no word.
 pub fn first<'w, 't>(words: &'w [&'t str]) -> Option<(&'t str, &'w [&'t str])>
-    ensures { MatchOption result (texts words.now ≡ []) (λ x. texts words.now ≡ x.0.now ∷ texts x.1.now) }
+    ensures { MatchOption result (texts words.now ≡ [])
+        (λ x. texts words.now ≡ x.0.now ∷ texts x.1.now) }
 {
     let [first, rest @ ..] = words else {
         return None;
@@ -16,7 +17,8 @@ pub fn first<'w, 't>(words: &'w [&'t str]) -> Option<(&'t str, &'w [&'t str])>
 
 /// The only word; None where there are none or more.
 pub fn one<'t>(words: &[&'t str]) -> Option<&'t str>
-    ensures { MatchOption result (length (texts words.now) ≢ 1) (λ w. texts words.now ≡ w.now ∷ []) }
+    ensures { MatchOption result (length (texts words.now) ≢ 1)
+        (λ w. texts words.now ≡ w.now ∷ []) }
 {
     let [a] = words else {
         return None;
@@ -26,7 +28,8 @@ pub fn one<'t>(words: &[&'t str]) -> Option<&'t str>
 
 /// The two words; None where there are fewer or more.
 pub fn two<'t>(words: &[&'t str]) -> Option<(&'t str, &'t str)>
-    ensures { MatchOption result (length (texts words.now) ≢ 2) (λ w. texts words.now ≡ w.0.now ∷ w.1.now ∷ []) }
+    ensures { MatchOption result (length (texts words.now) ≢ 2)
+        (λ w. texts words.now ≡ w.0.now ∷ w.1.now ∷ []) }
 {
     let [a, b] = words else {
         return None;
@@ -36,7 +39,8 @@ pub fn two<'t>(words: &[&'t str]) -> Option<(&'t str, &'t str)>
 
 /// The three words; None where there are fewer or more.
 pub fn three<'t>(words: &[&'t str]) -> Option<(&'t str, &'t str, &'t str)>
-    ensures { MatchOption result (length (texts words.now) ≢ 3) (λ w. texts words.now ≡ w.0.now ∷ w.1.now ∷ w.2.now ∷ []) }
+    ensures { MatchOption result (length (texts words.now) ≢ 3)
+        (λ w. texts words.now ≡ w.0.now ∷ w.1.now ∷ w.2.now ∷ []) }
 {
     let [a, b, c] = words else {
         return None;

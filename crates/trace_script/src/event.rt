@@ -98,7 +98,9 @@ fn call(alloc: Global, words: &[&str]) -> Result<Option<Event>, AllocError>
 
 /// Parses a returning function's name, number of arguments and value; None where the words are none.
 fn returned(alloc: Global, words: &[&str]) -> Result<Option<(Atom, u8, Term)>, AllocError>
-    ensures { IfOk result (IsFoundAs {X = List ℕ × ℕ × Data} (λ x. (x.0, x.1, view x.2)) (λ x. Three IsAtom IsArity IsTerm (texts words.now) x.0 x.1 x.2)) }
+    ensures { IfOk result (IsFoundAs {X = List ℕ × ℕ
+        × Data} (λ x. (x.0, x.1, view x.2))
+        (λ x. Three IsAtom IsArity IsTerm (texts words.now) x.0 x.1 x.2)) }
 {
     let Some((fun_name, count, value)) = three(words) else {
         return Ok(None);
@@ -138,7 +140,9 @@ fn return_from(alloc: Global, words: &[&str]) -> Result<Option<Event>, AllocErro
 
 /// Parses the number of a function's arguments, and its exception's class and value; None where the words are none.
 fn thrown(alloc: Global, words: &[&str]) -> Result<Option<(u8, Atom, Term)>, AllocError>
-    ensures { IfOk result (IsFoundAs {X = ℕ × List ℕ × Data} (λ x. (x.0, x.1, view x.2)) (λ x. Three IsArity IsAtom IsTerm (texts words.now) x.0 x.1 x.2)) }
+    ensures { IfOk result (IsFoundAs {X = ℕ × List ℕ
+        × Data} (λ x. (x.0, x.1, view x.2))
+        (λ x. Three IsArity IsAtom IsTerm (texts words.now) x.0 x.1 x.2)) }
 {
     let Some((count, kind, value)) = three(words) else {
         return Ok(None);
@@ -185,7 +189,8 @@ fn exception_from(alloc: Global, words: &[&str]) -> Result<Option<Event>, AllocE
 
 /// The two terms that two words spell; None where they spell none.
 fn terms(alloc: Global, words: &[&str]) -> Result<Option<(Term, Term)>, AllocError>
-    ensures { IfOk result (IsFoundAs {X = Data × Data} (λ x. (view x.0, view x.1)) (λ x. Two IsTerm IsTerm (texts words.now) x.0 x.1)) }
+    ensures { IfOk result (IsFoundAs {X = Data
+        × Data} (λ x. (view x.0, view x.1)) (λ x. Two IsTerm IsTerm (texts words.now) x.0 x.1)) }
 {
     let Some((message, target)) = two(words) else {
         return Ok(None);

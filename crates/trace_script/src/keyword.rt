@@ -95,7 +95,8 @@ impl Keyword {
 
 /// The keyword that the words begin with, and the words after it; None where they begin with none.
 pub fn keyword_behind<'w, 't>(words: &'w [&'t str]) -> Option<(Keyword, &'w [&'t str])>
-    ensures { IsFoundAs {X = Keyword × List (List ℕ)} (λ x. (x.0, texts x.1.now)) (λ x. texts words.now ≡ text_of x.0 ∷ x.1) result }
+    ensures { IsFoundAs {X = Keyword × List (List ℕ)} (λ x. (x.0, texts x.1.now))
+        (λ x. texts words.now ≡ text_of x.0 ∷ x.1) result }
 {
     let [first, rest @ ..] = words else {
         return None;

@@ -32,10 +32,13 @@ fn take_part<R: BufRead>(reader: &mut R, text: &mut Vec<u8>) -> Result<bool, Scr
     requires short { length text.old.items ≤ 300000 }
     ensures appends { StartsWith text.new.items text.old.items }
     ensures limit { length text.new.items ≤ 300001 }
-    ensures consumes { Consumes (R.remaining reader.old) (R.remaining reader.new) (appended_bytes text.old.items text.new.items) }
+    ensures consumes { Consumes (R.remaining reader.old) (R.remaining reader.new)
+        (appended_bytes text.old.items text.new.items) }
     ensures stops { StopsAt (appended_bytes text.old.items text.new.items) 10 }
-    ensures goes_on { result ≢ Ok true → All (λ b. b ≢ 10) (appended_bytes text.old.items text.new.items) }
-    ensures done { result ≡ Ok true → IsEmptyOrEndsWith (appended_bytes text.old.items text.new.items) 10 }
+    ensures goes_on { result ≢ Ok true
+        → All (λ b. b ≢ 10) (appended_bytes text.old.items text.new.items) }
+    ensures done { result ≡ Ok true → IsEmptyOrEndsWith
+        (appended_bytes text.old.items text.new.items) 10 }
     ensures end { result ≡ Ok true → length (appended_bytes text.old.items text.new.items) ≡ 0
         → IsUsedUp (R.remaining reader.old) (R.remaining reader.new) }
     ensures fault { IfErr result IsUnread }
@@ -57,7 +60,8 @@ fn take_part<R: BufRead>(reader: &mut R, text: &mut Vec<u8>) -> Result<bool, Scr
 /// byte more than it may have.
 pub fn read_line<R: BufRead>(reader: &mut R, text: &mut Vec<u8>) -> Result<(), ScriptFault>
     ensures consumes { Consumes (R.remaining reader.old) (R.remaining reader.new) text.new.items }
-    ensures line { OnOk result (IsReadLine (R.remaining reader.old) (R.remaining reader.new) text.new.items) }
+    ensures line { OnOk result (IsReadLine (R.remaining reader.old)
+        (R.remaining reader.new) text.new.items) }
     ensures fault { IfErr result IsUnread }
 {
     text.clear();

@@ -65,8 +65,11 @@ impl<'r, R: BufRead> Script<'r, R> {
     fn advance(&mut self) -> Result<bool, ScriptFault>
         ensures same { self.new.is_of_desk ≡ self.old.is_of_desk }
         ensures name { self.new.reader.ghost_name ≡ self.old.reader.ghost_name }
-        ensures advances { Advances (progress self.old.number (R.remaining self.old.reader.now)) (progress self.new.number (R.remaining self.new.reader.now)) self.new.text.now.items result }
-        ensures room { TellsRoom self.old.left self.new.left (R.remaining self.old.reader.now) (R.remaining self.new.reader.now) result }
+        ensures advances { Advances (progress self.old.number (R.remaining self.old.reader.now))
+            (progress self.new.number (R.remaining self.new.reader.now)) self.new.text.now.items
+            result }
+        ensures room { TellsRoom self.old.left self.new.left (R.remaining self.old.reader.now)
+            (R.remaining self.new.reader.now) result }
     {
         read_line(&mut *self.reader, &mut *self.text)?;
         if self.text.is_empty() {
@@ -92,9 +95,12 @@ impl<'r, R: BufRead> Script<'r, R> {
         requires short { length self.now.text.now.items ≤ 300000 }
         requires says { IsSilent self.now.text.now.items → ⊥ }
         ensures sound { IfOk result (λ found. IfSome found IsWithinLimits) }
-        ensures spells { IfOk result (λ found. IfSome found (λ line. Spells line self.now.text.now.items)) }
-        ensures of_desk { self.now.is_of_desk ≡ true → IfOk result (λ found. IfSome found IsOfRecord) }
-        ensures tells { TellsLine self.now.is_of_desk self.now.number self.now.text.now.items result }
+        ensures spells { IfOk result (λ found. IfSome found
+            (λ line. Spells line self.now.text.now.items)) }
+        ensures of_desk { self.now.is_of_desk ≡ true
+            → IfOk result (λ found. IfSome found IsOfRecord) }
+        ensures tells { TellsLine self.now.is_of_desk self.now.number self.now.text.now.items
+            result }
     {
         let is_allowed = match &line {
             Some(line) => !self.is_of_desk || line.is_of_desk(),
@@ -110,9 +116,12 @@ impl<'r, R: BufRead> Script<'r, R> {
     /// The line that the text spells; None where it is empty or a remark, Err where it is no line of this script.
     fn present(&self) -> Result<Option<Line>, ScriptFault>
         ensures sound { IfOk result (λ found. IfSome found IsWithinLimits) }
-        ensures spells { IfOk result (λ found. IfSome found (λ line. Spells line self.now.text.now.items)) }
-        ensures of_desk { self.now.is_of_desk ≡ true → IfOk result (λ found. IfSome found IsOfRecord) }
-        ensures tells { TellsLine self.now.is_of_desk self.now.number self.now.text.now.items result }
+        ensures spells { IfOk result (λ found. IfSome found
+            (λ line. Spells line self.now.text.now.items)) }
+        ensures of_desk { self.now.is_of_desk ≡ true
+            → IfOk result (λ found. IfSome found IsOfRecord) }
+        ensures tells { TellsLine self.now.is_of_desk self.now.number self.now.text.now.items
+            result }
     {
         if self.text.len() > LONGEST {
             return Err(self.bad_command());
@@ -129,13 +138,18 @@ impl<'r, R: BufRead> Script<'r, R> {
     /// The next line that isn't empty or a remark; None at the end of the script.
     pub fn next_line(&mut self) -> Result<Option<Line>, ScriptFault>
         ensures sound { IfOk result (λ found. IfSome found IsWithinLimits) }
-        ensures spells { IfOk result (λ found. IfSome found (λ line. Spells line self.new.text.now.items)) }
-        ensures of_desk { self.old.is_of_desk ≡ true → IfOk result (λ found. IfSome found IsOfRecord) }
+        ensures spells { IfOk result (λ found. IfSome found
+            (λ line. Spells line self.new.text.now.items)) }
+        ensures of_desk { self.old.is_of_desk ≡ true
+            → IfOk result (λ found. IfSome found IsOfRecord) }
         ensures same { self.new.is_of_desk ≡ self.old.is_of_desk }
         ensures name { self.new.reader.ghost_name ≡ self.old.reader.ghost_name }
-        ensures next { TellsNext self.old.is_of_desk (progress self.old.number (R.remaining self.old.reader.now)) (progress self.new.number (R.remaining self.new.reader.now)) result }
+        ensures next { TellsNext self.old.is_of_desk
+            (progress self.old.number (R.remaining self.old.reader.now))
+            (progress self.new.number (R.remaining self.new.reader.now)) result }
         // It is too long exactly where more came than the bytes that might.
-        ensures room { TellsRoom self.old.left self.new.left (R.remaining self.old.reader.now) (R.remaining self.new.reader.now) result }
+        ensures room { TellsRoom self.old.left self.new.left (R.remaining self.old.reader.now)
+            (R.remaining self.new.reader.now) result }
     {
         for _line in 0..u64::MAX {
             if !self.advance()? {

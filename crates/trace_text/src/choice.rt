@@ -59,7 +59,8 @@ impl Choice {
 
     /// Whether messages of this number are asked for.
     pub fn has_number(&self, number: u64) -> bool
-        ensures { result ≡ (is_to (asks_of self.now).to number && is_from (asks_of self.now).from number) }
+        ensures { result ≡ (is_to (asks_of self.now).to number
+            && is_from (asks_of self.now).from number) }
     {
         self.is_not_later(number) && self.is_not_before(number)
     }
@@ -84,7 +85,8 @@ impl Choice {
 
     /// Whether nothing is asked of a message but its number and its kind.
     pub fn has_no_part(&self) -> bool
-        ensures { result ≡ (is_none (asks_of self.now).pid && is_none (asks_of self.now).of_module) }
+        ensures { result ≡ (is_none (asks_of self.now).pid
+            && is_none (asks_of self.now).of_module) }
     {
         self.pid.is_none() && self.module.is_none()
     }
@@ -131,7 +133,8 @@ pub fn is_text(opening: u8, closing: u8, asked: &[u8], shown: &[u8]) -> bool
 /// Whether the first `size` bytes of a text are this atom, with or without quotes.
 #[inline(always)]
 fn begins_so(asked: &[u8], text: &[u8], size: usize) -> bool
-    ensures { (own rest : List ℕ) → text.now ≡ own ++ rest → size ≡ length own → result ≡ is_text 39 39 asked.now own }
+    ensures { (own rest : List ℕ) → text.now ≡ own ++ rest → size ≡ length own
+        → result ≡ is_text 39 39 asked.now own }
 {
     if size == asked.len() {
         match text.split_at_checked(size) {

@@ -10,17 +10,27 @@ ghost use Rattle.trace_text.specs.Lines.{AreLines, EachLine, HasRow, asks_in, en
 /// Without a choice a listing has a line, or an object, for each entry. Of these a listing by a choice has those of the entries that are asked for,
 /// in their order, and nothing else; behind the first entry at which it ends stands an empty line.
 pub fn chosen_lines_are_kept()
-    ensures each { (style : Style) (n : ℕ) (es : List Entry) (text : List ℕ) → asks_in style ≡ None → AreLines style n es text
-        → (lines : List (List ℕ)) × EachLine style.notation style.wording n es lines × (text ≡ flat_map (λ l. l) lines) }
-    ensures kept { (style : Style) (asks : Asks) (n : ℕ) (es : List Entry) (text : List ℕ) → asks_in style ≡ Some asks → AllByRecursion (HasRow style.notation style.wording) es
-        → ends_in asks n es ≡ false → AreLines style n es text
-        → (lines : List (List ℕ)) × EachLine style.notation style.wording n es lines × (text ≡ flat_map (λ l. l) (kept asks n es lines)) }
-    ensures last { (style : Style) (asks : Asks) (n : ℕ) (es : List Entry) (e : Entry) (text : List ℕ) → asks_in style ≡ Some asks → AllByRecursion (HasRow style.notation style.wording) (es ++ e ∷ [])
-        → ends_in asks n es ≡ false → ends asks (n + length es) ≡ true → AreLines style n (es ++ e ∷ []) text
-        → (lines : List (List ℕ)) × EachLine style.notation style.wording n (es ++ e ∷ []) lines × (text ≡ flat_map (λ l. l) (kept asks n (es ++ e ∷ []) lines) ++ 10 ∷ []) }
+    ensures each { (style : Style) (n : ℕ) (es : List Entry) (text : List ℕ) → asks_in style ≡ None
+        → AreLines style n es text → (lines : List (List ℕ))
+        × EachLine style.notation style.wording n es lines × (text ≡ flat_map (λ l. l) lines) }
+    ensures kept { (style : Style) (asks : Asks) (n : ℕ) (es : List Entry) (text : List ℕ)
+        → asks_in style ≡ Some asks → AllByRecursion (HasRow style.notation style.wording) es
+        → ends_in asks n es ≡ false → AreLines style n es text → (lines : List (List ℕ))
+        × EachLine style.notation style.wording n es lines
+        × (text ≡ flat_map (λ l. l) (kept asks n es lines)) }
+    ensures last { (style : Style) (asks : Asks) (n : ℕ) (es : List Entry) (e : Entry)
+        (text : List ℕ) → asks_in style ≡ Some asks
+        → AllByRecursion (HasRow style.notation style.wording) (es ++ e ∷ [])
+        → ends_in asks n es ≡ false → ends asks (n + length es) ≡ true
+        → AreLines style n (es ++ e ∷ []) text → (lines : List (List ℕ))
+        × EachLine style.notation style.wording n (es ++ e ∷ []) lines
+        × (text ≡ flat_map (λ l. l) (kept asks n (es ++ e ∷ []) lines) ++ 10 ∷ []) }
     // Each line may stand there.
-    ensures some { (style : Style) (asks : Asks) (n : ℕ) (es : List Entry) (lines : List (List ℕ)) → asks_in style ≡ Some asks → ends_in asks n es ≡ false
-        → EachLine style.notation style.wording n es lines → AreLines style n es (flat_map (λ l. l) (kept asks n es lines)) }
+    ensures some { (style : Style) (asks : Asks) (n : ℕ) (es : List Entry) (lines : List (List ℕ))
+        → asks_in style ≡ Some asks → ends_in asks n es ≡ false
+        → EachLine style.notation style.wording n es lines
+        → AreLines style n es (flat_map (λ l. l) (kept asks n es lines)) }
     // Behind an entry at which a listing ends none is asked for.
-    ensures over { (asks : Asks) (n m : ℕ) (e : Entry) → ends asks n ≡ true → n < m → chooses asks m e ≡ false }
+    ensures over { (asks : Asks) (n m : ℕ) (e : Entry) → ends asks n ≡ true → n < m
+        → chooses asks m e ≡ false }
 {}

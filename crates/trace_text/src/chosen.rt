@@ -35,9 +35,11 @@ pub fn put_asked(
     bytes: &[u8],
 ) -> Result<bool, AllocError>
     ensures asked { IfOk result (λ is. is ≡ suits_if (asks_of choice.now) (term_in bytes.now)) }
-    ensures told { IfOk result (λ is. IsTrue is → (told : List ℕ) × IsPrettyTold bytes.now told × (text.new.items ≡ text.old.items ++ told)) }
+    ensures told { IfOk result (λ is. IsTrue is → (told : List ℕ) × IsPrettyTold bytes.now told
+        × (text.new.items ≡ text.old.items ++ told)) }
     ensures other { IfOk result (λ is. IsFalse is → text.new.items ≡ text.old.items) }
-    ensures memory { OnErr result (longest_message < length bytes.now → suits_opaque (asks_of choice.now) ≡ true) }
+    ensures memory { OnErr result (longest_message < length bytes.now
+        → suits_opaque (asks_of choice.now) ≡ true) }
 {
     let Some(kind) = read_message(told, bytes)? else {
         return put_unread(choice, text, bytes.len());
@@ -52,7 +54,8 @@ pub fn put_asked(
 /// Appends what is told of a message that isn't read, where a choice asks for such messages, and answers whether it does.
 fn put_unread(choice: &Choice, text: &mut Vec<u8>, size: usize) -> Result<bool, AllocError>
     ensures asked { IfOk result (λ is. is ≡ suits_opaque (asks_of choice.now)) }
-    ensures told { IfOk result (λ is. IsTrue is → text.new.items ≡ text.old.items ++ (codes "opaque " ++ decimal size)) }
+    ensures told { IfOk result (λ is. IsTrue is
+        → text.new.items ≡ text.old.items ++ (codes "opaque " ++ decimal size)) }
     ensures other { IfOk result (λ is. IsFalse is → text.new.items ≡ text.old.items) }
     ensures memory { OnErr result (suits_opaque (asks_of choice.now) ≡ true) }
 {

@@ -27,7 +27,8 @@ fn put_octal(line: &mut Vec<u8>, code: u8) -> Result<(), AllocError>
 
 /// Appends the number of the control character that `first` begins, or `first` alone, and answers the bytes after that.
 fn put_next<'b>(line: &mut Vec<u8>, first: u8, behind: &'b [u8]) -> Result<&'b [u8], AllocError>
-    ensures put { IfOk result (λ rest. line.new.items ++ without_controls rest.now ≡ line.old.items ++ without_controls (first ∷ behind.now)) }
+    ensures put { IfOk result (λ rest. line.new.items ++ without_controls rest.now
+        ≡ line.old.items ++ without_controls (first ∷ behind.now)) }
     ensures less { IfOk result (λ rest. length rest.now ≤ length behind.now) }
 {
     match behind {
@@ -54,7 +55,8 @@ fn put_each(line: &mut Vec<u8>, text: &[u8]) -> Result<(), AllocError>
 
 /// Replaces the control characters in a line, from an offset on, by their numbers.
 pub fn hide_controls(line: &mut Vec<u8>, start: usize) -> Result<(), AllocError>
-    ensures { OnOk result (line.new.items ≡ take start line.old.items ++ without_controls (drop start line.old.items)) }
+    ensures { OnOk result (line.new.items
+        ≡ take start line.old.items ++ without_controls (drop start line.old.items)) }
 {
     let text = seen_since(line, start);
     if text.is_ascii() {

@@ -22,7 +22,9 @@ fn hexadecimal_digit(value: u8) -> u8
 
 /// Appends a byte by its number, as `\u00` and two hexadecimal digits.
 fn put_by_number(out: &mut Vec<u8>, byte: u8) -> Result<(), AllocError>
-    ensures { OnOk result (out.new.items ≡ out.old.items ++ 92 ∷ 117 ∷ 48 ∷ 48 ∷ digit_char (byte / 16) ∷ digit_char (byte % 16) ∷ []) }
+    ensures { OnOk result (out.new.items
+        ≡ out.old.items ++ 92 ∷ 117 ∷ 48 ∷ 48 ∷ digit_char (byte / 16) ∷ digit_char (byte % 16)
+        ∷ []) }
 {
     let high = hexadecimal_digit(byte / 16);
     let low = hexadecimal_digit(byte % 16);
@@ -102,7 +104,8 @@ fn plain_size(text: &[u8]) -> usize
 /// Appends the bytes at the front that are put as they are, and the next one escaped; answers the bytes after it.
 fn put_run<'b>(out: &mut Vec<u8>, text: &'b [u8]) -> Result<&'b [u8], AllocError>
     requires { 0 < length text.now }
-    ensures put { IfOk result (λ rest. out.new.items ++ escape rest.now ≡ out.old.items ++ escape text.now) }
+    ensures put { IfOk result (λ rest. out.new.items ++ escape rest.now
+        ≡ out.old.items ++ escape text.now) }
     ensures less { IfOk result (λ rest. length rest.now < length text.now) }
 {
     let size = plain_size(text);

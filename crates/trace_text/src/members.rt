@@ -17,7 +17,8 @@ fn put_name(out: &mut Vec<u8>, name: &[u8]) -> Result<(), AllocError>
 
 /// Appends a member that has a text.
 pub fn put_text(out: &mut Vec<u8>, name: &[u8], text: &[u8]) -> Result<(), AllocError>
-    ensures { OnOk result (out.new.items ≡ out.old.items ++ member_text (of_text name.now text.now)) }
+    ensures { OnOk result (out.new.items
+        ≡ out.old.items ++ member_text (of_text name.now text.now)) }
 {
     put_name(out, name)?;
     put_quoted(out, text)
@@ -25,7 +26,8 @@ pub fn put_text(out: &mut Vec<u8>, name: &[u8], text: &[u8]) -> Result<(), Alloc
 
 /// Appends a comma, and a member that has a number.
 pub fn put_more_number(out: &mut Vec<u8>, name: &[u8], number: u64) -> Result<(), AllocError>
-    ensures { OnOk result (out.new.items ≡ out.old.items ++ more_text (of_number name.now number ∷ [])) }
+    ensures { OnOk result (out.new.items
+        ≡ out.old.items ++ more_text (of_number name.now number ∷ [])) }
 {
     out.push(b',')?;
     put_name(out, name)?;
@@ -35,7 +37,9 @@ pub fn put_more_number(out: &mut Vec<u8>, name: &[u8], number: u64) -> Result<()
 /// Appends the opening bracket of an entry's object, its number and its kind.
 #[tactic(auto, unfolding(json::specs::Print::escape_byte))]
 pub fn put_head(out: &mut Vec<u8>, number: u64, kind: &[u8]) -> Result<(), AllocError>
-    ensures { OnOk result (out.new.items ≡ out.old.items ++ 123 ∷ members_text (of_number (codes "n") number ∷ of_text (codes "kind") kind.now ∷ [])) }
+    ensures { OnOk result (out.new.items
+        ≡ out.old.items ++ 123 ∷ members_text
+        (of_number (codes "n") number ∷ of_text (codes "kind") kind.now ∷ [])) }
 {
     out.extend_from_slice(b"{\"n\":")?;
     put_number(out, number)?;
@@ -46,7 +50,8 @@ pub fn put_head(out: &mut Vec<u8>, number: u64, kind: &[u8]) -> Result<(), Alloc
 /// Appends the member that has the text of a message.
 #[tactic(auto, unfolding(json::specs::Print::escape_byte))]
 pub fn put_term(out: &mut Vec<u8>, text: &[u8]) -> Result<(), AllocError>
-    ensures { OnOk result (out.new.items ≡ out.old.items ++ more_text (of_text (codes "text") text.now ∷ [])) }
+    ensures { OnOk result (out.new.items
+        ≡ out.old.items ++ more_text (of_text (codes "text") text.now ∷ [])) }
 {
     out.extend_from_slice(b",\"text\":")?;
     put_quoted(out, text)
@@ -55,7 +60,8 @@ pub fn put_term(out: &mut Vec<u8>, text: &[u8]) -> Result<(), AllocError>
 /// Appends the member that tells who is traced.
 #[tactic(auto, unfolding(json::specs::Print::escape_byte))]
 pub fn put_pid(out: &mut Vec<u8>, text: &[u8]) -> Result<(), AllocError>
-    ensures { OnOk result (out.new.items ≡ out.old.items ++ more_text (of_text (codes "pid") text.now ∷ [])) }
+    ensures { OnOk result (out.new.items
+        ≡ out.old.items ++ more_text (of_text (codes "pid") text.now ∷ [])) }
 {
     out.extend_from_slice(b",\"pid\":")?;
     put_quoted(out, text)
@@ -64,7 +70,9 @@ pub fn put_pid(out: &mut Vec<u8>, text: &[u8]) -> Result<(), AllocError>
 /// Appends the member of a function with its module and its name, but for its arguments and the closing quote.
 #[tactic(auto, unfolding(json::specs::Print::escape_byte))]
 pub fn put_names(out: &mut Vec<u8>, home: &[u8], name: &[u8]) -> Result<(), AllocError>
-    ensures { OnOk result (out.new.items ≡ out.old.items ++ 44 ∷ ((quoted (codes "mfa") ++ 58 ∷ []) ++ 34 ∷ escape (home.now ++ codes ":" ++ name.now))) }
+    ensures { OnOk result (out.new.items
+        ≡ out.old.items ++ 44 ∷ ((quoted (codes "mfa") ++ 58 ∷ []) ++ 34
+        ∷ escape (home.now ++ codes ":" ++ name.now))) }
 {
     out.extend_from_slice(b",\"mfa\":\"")?;
     put_escapes(out, home)?;

@@ -28,7 +28,8 @@ fn put_message_object(
     seen: &[Sight],
     text: &[u8],
 ) -> Result<(), AllocError>
-    ensures { (bytes : List ℕ) → IsReadSo kind bytes seen.now text.now → OnOk result ((members : List Member) × IsObject number (Message bytes) members
+    ensures { (bytes : List ℕ) → IsReadSo kind bytes seen.now text.now
+        → OnOk result ((members : List Member) × IsObject number (Message bytes) members
         × (out.new.items ≡ out.old.items ++ object_line members)) }
 {
     put_head(out, number, word_of(kind).as_bytes())?;
@@ -45,7 +46,8 @@ fn put_number_object(
     name: &[u8],
     count: u64,
 ) -> Result<(), AllocError>
-    ensures { OnOk result (out.new.items ≡ out.old.items ++ object_line (number_members number kind.now name.now count)) }
+    ensures { OnOk result (out.new.items
+        ≡ out.old.items ++ object_line (number_members number kind.now name.now count)) }
 {
     put_head(out, number, kind)?;
     put_more_number(out, name, count)?;
@@ -54,7 +56,8 @@ fn put_number_object(
 
 /// Appends the object of a message of `size` bytes that isn't read.
 pub fn put_opaque_object(out: &mut Vec<u8>, number: u64, size: u64) -> Result<(), AllocError>
-    ensures { OnOk result (out.new.items ≡ out.old.items ++ object_line (opaque_members number size)) }
+    ensures { OnOk result (out.new.items
+        ≡ out.old.items ++ object_line (opaque_members number size)) }
 {
     put_number_object(out, number, b"opaque", b"size", size)
 }
@@ -67,7 +70,8 @@ pub fn put_part_object(
     of: u64,
     size: u64,
 ) -> Result<(), AllocError>
-    ensures { OnOk result (out.new.items ≡ out.old.items ++ object_line (part_members number part of size)) }
+    ensures { OnOk result (out.new.items
+        ≡ out.old.items ++ object_line (part_members number part of size)) }
 {
     put_head(out, number, b"part")?;
     put_more_number(out, b"part", part)?;
@@ -78,7 +82,8 @@ pub fn put_part_object(
 
 /// Appends the object of `count` lost messages.
 pub fn put_drop_object(out: &mut Vec<u8>, number: u64, count: u32) -> Result<(), AllocError>
-    ensures { OnOk result (out.new.items ≡ out.old.items ++ object_line (drop_members number count)) }
+    ensures { OnOk result (out.new.items
+        ≡ out.old.items ++ object_line (drop_members number count)) }
 {
     put_number_object(out, number, b"drop", b"count", u64::from(count))
 }
@@ -90,7 +95,8 @@ pub fn put_counts_object(
     entries: u64,
     lost: u64,
 ) -> Result<(), AllocError>
-    ensures { OnOk result (out.new.items ≡ out.old.items ++ object_line (counts_members kind.now entries lost)) }
+    ensures { OnOk result (out.new.items
+        ≡ out.old.items ++ object_line (counts_members kind.now entries lost)) }
 {
     out.push(b'{')?;
     put_text(out, b"kind", kind)?;
@@ -115,7 +121,8 @@ pub fn put_object(
     number: u64,
     bytes: &[u8],
 ) -> Result<(), AllocError>
-    ensures { OnOk result ((members : List Member) × IsObject number (Message bytes.now) members × (out.new.items ≡ out.old.items ++ object_line members)) }
+    ensures { OnOk result ((members : List Member) × IsObject number (Message bytes.now) members
+        × (out.new.items ≡ out.old.items ++ object_line members)) }
 {
     match read_message(told, bytes)? {
         Some(kind) => put_message_object(out, number, kind, &told.seen, &told.text),
@@ -131,7 +138,8 @@ fn put_unread_object(
     size: usize,
 ) -> Result<bool, AllocError>
     ensures asked { IfOk result (λ is. is ≡ suits_opaque (asks_of choice.now)) }
-    ensures told { IfOk result (λ is. IsTrue is → out.new.items ≡ out.old.items ++ object_line (opaque_members number size)) }
+    ensures told { IfOk result (λ is. IsTrue is
+        → out.new.items ≡ out.old.items ++ object_line (opaque_members number size)) }
     ensures other { IfOk result (λ is. IsFalse is → out.new.items ≡ out.old.items) }
     ensures memory { OnErr result (suits_opaque (asks_of choice.now) ≡ true) }
 {
@@ -151,9 +159,12 @@ pub fn put_asked_object(
     bytes: &[u8],
 ) -> Result<bool, AllocError>
     ensures asked { IfOk result (λ is. is ≡ suits_if (asks_of choice.now) (term_in bytes.now)) }
-    ensures told { IfOk result (λ is. IsTrue is → (members : List Member) × IsObject number (Message bytes.now) members × (out.new.items ≡ out.old.items ++ object_line members)) }
+    ensures told { IfOk result (λ is. IsTrue is → (members : List Member)
+        × IsObject number (Message bytes.now) members
+        × (out.new.items ≡ out.old.items ++ object_line members)) }
     ensures other { IfOk result (λ is. IsFalse is → out.new.items ≡ out.old.items) }
-    ensures memory { OnErr result (longest_message < length bytes.now → suits_opaque (asks_of choice.now) ≡ true) }
+    ensures memory { OnErr result (longest_message < length bytes.now
+        → suits_opaque (asks_of choice.now) ≡ true) }
 {
     let Some(kind) = read_message(told, bytes)? else {
         return put_unread_object(choice, out, number, bytes.len());

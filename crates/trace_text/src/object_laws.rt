@@ -8,6 +8,8 @@ ghost use Rattle.trace_text.specs.Objects.{Member, AreSmall, HasSmallCount, IsOb
 /// The text of an object whose numbers are below 2^64 reads as that object, by the kit's grammar of JSON: the escapes of its texts
 /// are taken back. Those of an entry are.
 pub fn objects_read_back()
-    ensures read { (members : List Member) → AreSmall members → document (object_text members) ≡ Some (object (members_as members)) }
-    ensures small { (n : ℕ) (e : Entry) (members : List Member) → n < 2 ^ 64 → HasSmallCount e → IsObject n e members → AreSmall members }
+    ensures read { (members : List Member) → AreSmall members
+        → document (object_text members) ≡ Some (object (members_as members)) }
+    ensures small { (n : ℕ) (e : Entry) (members : List Member) → n < 2 ^ 64 → HasSmallCount e
+        → IsObject n e members → AreSmall members }
 {}

@@ -34,7 +34,8 @@ fn put_text_line(
     of: u64,
     size: u64,
 ) -> Result<(), AllocError>
-    ensures { OnOk result (text.new.items ≡ text.old.items ++ part_row notations.Text number part of size) }
+    ensures { OnOk result (text.new.items
+        ≡ text.old.items ++ part_row notations.Text number part of size) }
 {
     put_number(text, number)?;
     text.push(b' ')?;
@@ -51,7 +52,8 @@ fn put_row(
     of: u64,
     size: u64,
 ) -> Result<(), AllocError>
-    ensures { OnOk result (text.new.items ≡ text.old.items ++ part_row notation number part of size) }
+    ensures { OnOk result (text.new.items
+        ≡ text.old.items ++ part_row notation number part of size) }
 {
     match notation {
         Notation::Text => put_text_line(text, number, part, of, size),
@@ -69,7 +71,8 @@ fn put_chosen(
     of: u64,
     size: u64,
 ) -> Result<(), AllocError>
-    ensures { OnOk result (text.new.items ≡ text.old.items ++ part_line notation (Some (asks_of choice.now)) number part of size) }
+    ensures { OnOk result (text.new.items
+        ≡ text.old.items ++ part_line notation (Some (asks_of choice.now)) number part of size) }
 {
     if choice.has_number(number) && choice.suits_opaque() {
         put_row(text, notation, number, part, of, size)?;
@@ -86,7 +89,9 @@ pub fn put_part_line(
     of: u64,
     size: u64,
 ) -> Result<(), AllocError>
-    ensures { OnOk result (text.new.items ≡ text.old.items ++ part_line apart.now.style.notation (asks_in apart.now.style) number part of size) }
+    ensures { OnOk result (text.new.items
+        ≡ text.old.items ++ part_line apart.now.style.notation
+        (asks_in apart.now.style) number part of size) }
 {
     match apart.style.choice {
         Some(choice) => put_chosen(text, apart.style.notation, choice, number, part, of, size),

@@ -56,9 +56,17 @@ fn join_all<F: Ledger, U: Ledger, D: Ledger, N: Ledger + Numbered>(
     account: Account<LedgerBook<F, U, D, N>>,
     joined: &mut Joined<F, U, D, N>,
 ) -> Counted
-    ensures result { (result.flushed ≡ account.slip.flushed.count) × (result.unflushed ≡ account.slip.unflushed.count) × (result.drops ≡ account.slip.drops.count) × (result.accounts ≡ 1) }
-    ensures amounts { (joined.new.flushed.amount ≡ joined.old.flushed.amount + result.flushed) × (joined.new.unflushed.amount ≡ joined.old.unflushed.amount + result.unflushed) × (joined.new.drops.amount ≡ joined.old.drops.amount + result.drops) × (joined.new.accounts.amount ≡ joined.old.accounts.amount + 1) }
-    ensures parts { (joined.new.flushed.parts ≡ joined.old.flushed.parts + 1) × (joined.new.unflushed.parts ≡ joined.old.unflushed.parts + 1) × (joined.new.drops.parts ≡ joined.old.drops.parts + 1) × (joined.new.accounts.parts ≡ joined.old.accounts.parts + 1) }
+    ensures result { (result.flushed ≡ account.slip.flushed.count)
+        × (result.unflushed ≡ account.slip.unflushed.count)
+        × (result.drops ≡ account.slip.drops.count) × (result.accounts ≡ 1) }
+    ensures amounts { (joined.new.flushed.amount ≡ joined.old.flushed.amount + result.flushed)
+        × (joined.new.unflushed.amount ≡ joined.old.unflushed.amount + result.unflushed)
+        × (joined.new.drops.amount ≡ joined.old.drops.amount + result.drops)
+        × (joined.new.accounts.amount ≡ joined.old.accounts.amount + 1) }
+    ensures parts { (joined.new.flushed.parts ≡ joined.old.flushed.parts + 1)
+        × (joined.new.unflushed.parts ≡ joined.old.unflushed.parts + 1)
+        × (joined.new.drops.parts ≡ joined.old.drops.parts + 1)
+        × (joined.new.accounts.parts ≡ joined.old.accounts.parts + 1) }
     ensures in_range { result.flushed + result.unflushed < 2 ^ 64 }
 {
     let Account { slip } = account;
@@ -83,12 +91,25 @@ fn part_all<F: Ledger, U: Ledger, D: Ledger, N: Ledger + Numbered>(
 ) -> Account<LedgerBook<F, U, D, N>>
     requires one { one.accounts ≡ 1 }
     requires in_range { one.flushed + one.unflushed < 2 ^ 64 }
-    requires parts { (0 < joined.old.flushed.parts) × (0 < joined.old.unflushed.parts) × (0 < joined.old.drops.parts) × (0 < joined.old.accounts.parts) }
-    requires amounts { (one.flushed ≤ joined.old.flushed.amount) × (one.unflushed ≤ joined.old.unflushed.amount) × (one.drops ≤ joined.old.drops.amount) × (one.accounts ≤ joined.old.accounts.amount) }
-    requires last { (joined.old.flushed.parts ≡ 1 → joined.old.flushed.amount ≡ one.flushed) × (joined.old.unflushed.parts ≡ 1 → joined.old.unflushed.amount ≡ one.unflushed) × (joined.old.drops.parts ≡ 1 → joined.old.drops.amount ≡ one.drops) × (joined.old.accounts.parts ≡ 1 → joined.old.accounts.amount ≡ one.accounts) }
-    ensures result { (result.slip.flushed.count ≡ one.flushed) × (result.slip.unflushed.count ≡ one.unflushed) × (result.slip.drops.count ≡ one.drops) }
-    ensures amounts { (joined.new.flushed.amount + one.flushed ≡ joined.old.flushed.amount) × (joined.new.unflushed.amount + one.unflushed ≡ joined.old.unflushed.amount) × (joined.new.drops.amount + one.drops ≡ joined.old.drops.amount) × (joined.new.accounts.amount + one.accounts ≡ joined.old.accounts.amount) }
-    ensures parts { (joined.new.flushed.parts + 1 ≡ joined.old.flushed.parts) × (joined.new.unflushed.parts + 1 ≡ joined.old.unflushed.parts) × (joined.new.drops.parts + 1 ≡ joined.old.drops.parts) × (joined.new.accounts.parts + 1 ≡ joined.old.accounts.parts) }
+    requires parts { (0 < joined.old.flushed.parts) × (0 < joined.old.unflushed.parts)
+        × (0 < joined.old.drops.parts) × (0 < joined.old.accounts.parts) }
+    requires amounts { (one.flushed ≤ joined.old.flushed.amount)
+        × (one.unflushed ≤ joined.old.unflushed.amount) × (one.drops ≤ joined.old.drops.amount)
+        × (one.accounts ≤ joined.old.accounts.amount) }
+    requires last { (joined.old.flushed.parts ≡ 1 → joined.old.flushed.amount ≡ one.flushed)
+        × (joined.old.unflushed.parts ≡ 1 → joined.old.unflushed.amount ≡ one.unflushed)
+        × (joined.old.drops.parts ≡ 1 → joined.old.drops.amount ≡ one.drops)
+        × (joined.old.accounts.parts ≡ 1 → joined.old.accounts.amount ≡ one.accounts) }
+    ensures result { (result.slip.flushed.count ≡ one.flushed)
+        × (result.slip.unflushed.count ≡ one.unflushed) × (result.slip.drops.count ≡ one.drops) }
+    ensures amounts { (joined.new.flushed.amount + one.flushed ≡ joined.old.flushed.amount)
+        × (joined.new.unflushed.amount + one.unflushed ≡ joined.old.unflushed.amount)
+        × (joined.new.drops.amount + one.drops ≡ joined.old.drops.amount)
+        × (joined.new.accounts.amount + one.accounts ≡ joined.old.accounts.amount) }
+    ensures parts { (joined.new.flushed.parts + 1 ≡ joined.old.flushed.parts)
+        × (joined.new.unflushed.parts + 1 ≡ joined.old.unflushed.parts)
+        × (joined.new.drops.parts + 1 ≡ joined.old.drops.parts)
+        × (joined.new.accounts.parts + 1 ≡ joined.old.accounts.parts) }
 {
     let slip = LedgerAccount {
         flushed: part(&mut joined.flushed, one.flushed),
@@ -104,11 +125,26 @@ fn audit_joined<F: Ledger, U: Ledger, D: Ledger, N: Ledger + Numbered>(
     book: &mut LedgerBook<F, U, D, N>,
     joined: &mut Joined<F, U, D, N>,
 )
-    ensures book { (book.new.flushed.count ≡ book.old.flushed.count) × (book.new.unflushed.count ≡ book.old.unflushed.count) × (book.new.drops.count ≡ book.old.drops.count) × (book.new.accounts.count ≡ book.old.accounts.count) }
-    ensures amounts { (joined.new.flushed.amount ≡ joined.old.flushed.amount) × (joined.new.unflushed.amount ≡ joined.old.unflushed.amount) × (joined.new.drops.amount ≡ joined.old.drops.amount) × (joined.new.accounts.amount ≡ joined.old.accounts.amount) }
-    ensures parts { (joined.new.flushed.parts ≡ joined.old.flushed.parts) × (joined.new.unflushed.parts ≡ joined.old.unflushed.parts) × (joined.new.drops.parts ≡ joined.old.drops.parts) × (joined.new.accounts.parts ≡ joined.old.accounts.parts) }
-    ensures within { (joined.old.flushed.amount ≤ book.old.flushed.count) × (joined.old.unflushed.amount ≤ book.old.unflushed.count) × (joined.old.drops.amount ≤ book.old.drops.count) × (joined.old.accounts.amount ≤ book.old.accounts.count) }
-    ensures backed { (joined.old.flushed.parts ≡ 0 → joined.old.flushed.amount ≡ 0) × (joined.old.unflushed.parts ≡ 0 → joined.old.unflushed.amount ≡ 0) × (joined.old.drops.parts ≡ 0 → joined.old.drops.amount ≡ 0) × (joined.old.accounts.parts ≡ 0 → joined.old.accounts.amount ≡ 0) }
+    ensures book { (book.new.flushed.count ≡ book.old.flushed.count)
+        × (book.new.unflushed.count ≡ book.old.unflushed.count)
+        × (book.new.drops.count ≡ book.old.drops.count)
+        × (book.new.accounts.count ≡ book.old.accounts.count) }
+    ensures amounts { (joined.new.flushed.amount ≡ joined.old.flushed.amount)
+        × (joined.new.unflushed.amount ≡ joined.old.unflushed.amount)
+        × (joined.new.drops.amount ≡ joined.old.drops.amount)
+        × (joined.new.accounts.amount ≡ joined.old.accounts.amount) }
+    ensures parts { (joined.new.flushed.parts ≡ joined.old.flushed.parts)
+        × (joined.new.unflushed.parts ≡ joined.old.unflushed.parts)
+        × (joined.new.drops.parts ≡ joined.old.drops.parts)
+        × (joined.new.accounts.parts ≡ joined.old.accounts.parts) }
+    ensures within { (joined.old.flushed.amount ≤ book.old.flushed.count)
+        × (joined.old.unflushed.amount ≤ book.old.unflushed.count)
+        × (joined.old.drops.amount ≤ book.old.drops.count)
+        × (joined.old.accounts.amount ≤ book.old.accounts.count) }
+    ensures backed { (joined.old.flushed.parts ≡ 0 → joined.old.flushed.amount ≡ 0)
+        × (joined.old.unflushed.parts ≡ 0 → joined.old.unflushed.amount ≡ 0)
+        × (joined.old.drops.parts ≡ 0 → joined.old.drops.amount ≡ 0)
+        × (joined.old.accounts.parts ≡ 0 → joined.old.accounts.amount ≡ 0) }
     ensures in_range { book.old.drops.count < 2 ^ 64 }
 {
     let LedgerBook {
@@ -129,16 +165,33 @@ fn add_up<F: Ledger, U: Ledger, D: Ledger, N: Ledger + Numbered>(
     accounts: &mut Vec<Account<LedgerBook<F, U, D, N>>>,
     joined: &mut Joined<F, U, D, N>,
 ) -> Counted
-    ensures book { (book.new.flushed.count ≡ book.old.flushed.count) × (book.new.unflushed.count ≡ book.old.unflushed.count) × (book.new.drops.count ≡ book.old.drops.count) × (book.new.accounts.count ≡ book.old.accounts.count) }
-    ensures amounts { (joined.new.flushed.amount ≡ joined.old.flushed.amount) × (joined.new.unflushed.amount ≡ joined.old.unflushed.amount) × (joined.new.drops.amount ≡ joined.old.drops.amount) × (joined.new.accounts.amount ≡ joined.old.accounts.amount) }
-    ensures parts { (joined.new.flushed.parts ≡ joined.old.flushed.parts) × (joined.new.unflushed.parts ≡ joined.old.unflushed.parts) × (joined.new.drops.parts ≡ joined.old.drops.parts) × (joined.new.accounts.parts ≡ joined.old.accounts.parts) }
-    ensures same { (map (λ a. a.slip.flushed.count) accounts.new.items ≡ map (λ a. a.slip.flushed.count) accounts.old.items) × (map (λ a. a.slip.unflushed.count) accounts.new.items ≡ map (λ a. a.slip.unflushed.count) accounts.old.items) × (map (λ a. a.slip.drops.count) accounts.new.items ≡ map (λ a. a.slip.drops.count) accounts.old.items) }
+    ensures book { (book.new.flushed.count ≡ book.old.flushed.count)
+        × (book.new.unflushed.count ≡ book.old.unflushed.count)
+        × (book.new.drops.count ≡ book.old.drops.count)
+        × (book.new.accounts.count ≡ book.old.accounts.count) }
+    ensures amounts { (joined.new.flushed.amount ≡ joined.old.flushed.amount)
+        × (joined.new.unflushed.amount ≡ joined.old.unflushed.amount)
+        × (joined.new.drops.amount ≡ joined.old.drops.amount)
+        × (joined.new.accounts.amount ≡ joined.old.accounts.amount) }
+    ensures parts { (joined.new.flushed.parts ≡ joined.old.flushed.parts)
+        × (joined.new.unflushed.parts ≡ joined.old.unflushed.parts)
+        × (joined.new.drops.parts ≡ joined.old.drops.parts)
+        × (joined.new.accounts.parts ≡ joined.old.accounts.parts) }
+    ensures same { (map (λ a. a.slip.flushed.count) accounts.new.items
+        ≡ map (λ a. a.slip.flushed.count) accounts.old.items)
+        × (map (λ a. a.slip.unflushed.count) accounts.new.items
+        ≡ map (λ a. a.slip.unflushed.count) accounts.old.items)
+        × (map (λ a. a.slip.drops.count) accounts.new.items
+        ≡ map (λ a. a.slip.drops.count) accounts.old.items) }
     ensures room { vec_capacity accounts.new ≡ vec_capacity accounts.old }
     ensures flushed { result.flushed ≡ sum_by (λ a. a.slip.flushed.count) accounts.old.items }
     ensures unflushed { result.unflushed ≡ sum_by (λ a. a.slip.unflushed.count) accounts.old.items }
     ensures drops { result.drops ≡ sum_by (λ a. a.slip.drops.count) accounts.old.items }
     ensures accounts { result.accounts ≡ vec_len accounts.old }
-    ensures within { (joined.old.flushed.amount + result.flushed ≤ book.old.flushed.count) × (joined.old.unflushed.amount + result.unflushed ≤ book.old.unflushed.count) × (joined.old.drops.amount + result.drops ≤ book.old.drops.count) × (joined.old.accounts.amount + result.accounts ≤ book.old.accounts.count) }
+    ensures within { (joined.old.flushed.amount + result.flushed ≤ book.old.flushed.count)
+        × (joined.old.unflushed.amount + result.unflushed ≤ book.old.unflushed.count)
+        × (joined.old.drops.amount + result.drops ≤ book.old.drops.count)
+        × (joined.old.accounts.amount + result.accounts ≤ book.old.accounts.count) }
 {
     audit_joined(book, joined);
     let Some(account) = accounts.pop() else {
@@ -163,8 +216,12 @@ fn add_up<F: Ledger, U: Ledger, D: Ledger, N: Ledger + Numbered>(
 impl<F: Ledger, U: Ledger, D: Ledger, N: Ledger + Numbered> LedgerBook<F, U, D, N> {
     /// Empty shares of the book's ledgers.
     fn none_joined(&mut self) -> Joined<F, U, D, N>
-        ensures book { (self.new.flushed.count ≡ self.old.flushed.count) × (self.new.unflushed.count ≡ self.old.unflushed.count) × (self.new.drops.count ≡ self.old.drops.count) × (self.new.accounts.count ≡ self.old.accounts.count) }
-        ensures amounts { (result.flushed.amount ≡ 0) × (result.unflushed.amount ≡ 0) × (result.drops.amount ≡ 0) × (result.accounts.amount ≡ 0) }
+        ensures book { (self.new.flushed.count ≡ self.old.flushed.count)
+            × (self.new.unflushed.count ≡ self.old.unflushed.count)
+            × (self.new.drops.count ≡ self.old.drops.count)
+            × (self.new.accounts.count ≡ self.old.accounts.count) }
+        ensures amounts { (result.flushed.amount ≡ 0) × (result.unflushed.amount ≡ 0)
+            × (result.drops.amount ≡ 0) × (result.accounts.amount ≡ 0) }
     {
         Joined {
             flushed: self.flushed.empty_share(),
@@ -176,7 +233,9 @@ impl<F: Ledger, U: Ledger, D: Ledger, N: Ledger + Numbered> LedgerBook<F, U, D, 
 
     /// What the book counts.
     fn counted(&self) -> Counted
-        ensures counts { (result.flushed ≡ self.now.flushed.count) × (result.unflushed ≡ self.now.unflushed.count) × (result.drops ≡ self.now.drops.count) × (result.accounts ≡ self.now.accounts.count) }
+        ensures counts { (result.flushed ≡ self.now.flushed.count)
+            × (result.unflushed ≡ self.now.unflushed.count) × (result.drops ≡ self.now.drops.count)
+            × (result.accounts ≡ self.now.accounts.count) }
         ensures in_range { result.flushed + result.unflushed < 2 ^ 64 }
     {
         Counted {

@@ -17,7 +17,8 @@ pub struct Mismatch {
 
 /// Whether an entry agrees with a window: it is older, equals the one there, or is past its end and not covered.
 fn agrees(window: &Recovered, covered: u64, number: u64, entry: &Entry) -> bool
-    ensures { IsTrue result ↔ Agrees window.now.first (views window.now.entries.items) covered number (view entry.now) }
+    ensures { IsTrue result ↔ Agrees window.now.first
+        (views window.now.entries.items) covered number (view entry.now) }
 {
     if number < window.first {
         return true;
@@ -31,8 +32,10 @@ fn agrees(window: &Recovered, covered: u64, number: u64, entry: &Entry) -> bool
 
 /// The number of the first entry of a receipt that doesn't agree with the window; None where each does.
 fn first_mismatch(window: &Recovered, receipt: &Receipt) -> Option<u64>
-    ensures agreed { result ≡ None → IsAgreed window.now.first (views window.now.entries.items) receipt.now }
-    ensures differs { IfSome result (λ number. Differs window.now.first (views window.now.entries.items) receipt.now number) }
+    ensures agreed { result ≡ None → IsAgreed window.now.first
+        (views window.now.entries.items) receipt.now }
+    ensures differs { IfSome result (λ number. Differs window.now.first
+        (views window.now.entries.items) receipt.now number) }
 {
     let covered = receipt.covered;
     for (place, entry) in receipt.entries.iter().enumerate() {
@@ -49,8 +52,10 @@ fn first_mismatch(window: &Recovered, receipt: &Receipt) -> Option<u64>
 /// that lies in the window does where the window's is equal; and one past its end where its number isn't below the
 /// receipt's `covered`. The first that doesn't is named.
 pub fn audit(window: &Recovered, receipts: &[Receipt]) -> Result<(), Mismatch>
-    ensures ok { OnOk result (AllAgree window.now.first (views window.now.entries.items) receipts.now) }
-    ensures err { IfErr result (λ mismatch. FirstDiffers window.now.first (views window.now.entries.items) receipts.now mismatch.number) }
+    ensures ok { OnOk result (AllAgree window.now.first
+        (views window.now.entries.items) receipts.now) }
+    ensures err { IfErr result (λ mismatch. FirstDiffers window.now.first
+        (views window.now.entries.items) receipts.now mismatch.number) }
 {
     for receipt in receipts {
         if let Some(number) = first_mismatch(window, receipt) {

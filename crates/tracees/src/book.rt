@@ -51,8 +51,11 @@ pub trait Bookkeeping: Send + Drop {
         requires drops { (totals_of self.old).drops + drops < 2 ^ 64 }
         requires account_messages { (sums_of slip.old).messages + messages < 2 ^ 64 }
         requires account_drops { (sums_of slip.old).drops + drops < 2 ^ 64 }
-        ensures totals { totals_of self.new ≡ totals ((totals_of self.old).messages + messages) ((totals_of self.old).drops + drops) (totals_of self.old).flushed }
-        ensures sums { sums_of slip.new ≡ totals ((sums_of slip.old).messages + messages) ((sums_of slip.old).drops + drops) (sums_of slip.old).flushed }
+        ensures totals { totals_of self.new
+            ≡ totals ((totals_of self.old).messages + messages) ((totals_of self.old).drops + drops)
+            (totals_of self.old).flushed }
+        ensures sums { sums_of slip.new ≡ totals ((sums_of slip.old).messages + messages)
+            ((sums_of slip.old).drops + drops) (sums_of slip.old).flushed }
         ensures attached { attached_of self.new ≡ attached_of self.old }
         ensures within { IsTrue shared → IsWithin (sums_of slip.old) (totals_of self.old) };
 
@@ -61,7 +64,8 @@ pub trait Bookkeeping: Send + Drop {
         ensures messages { (totals_of self.new).messages ≡ (totals_of self.old).messages }
         ensures drops { (totals_of self.new).drops ≡ (totals_of self.old).drops }
         ensures flushed { (totals_of self.new).flushed ≤ (totals_of self.new).messages }
-        ensures exact { IsTrue shared → (totals_of self.new).flushed + (sums_of slip.old).flushed ≡ (totals_of self.old).flushed + (sums_of slip.old).messages }
+        ensures exact { IsTrue shared → (totals_of self.new).flushed + (sums_of slip.old).flushed
+            ≡ (totals_of self.old).flushed + (sums_of slip.old).messages }
         ensures sums { sums_of slip.new ≡ all_flushed (sums_of slip.old) }
         ensures attached { attached_of self.new ≡ attached_of self.old };
 

@@ -22,7 +22,8 @@ fn desk_of<P: TracePort, K: Bookkeeping>(
     tracee: u32,
 ) -> Option<usize>
     ensures there { IfSome result (IsDeskOf P.TracePort K.Bookkeeping desks.now traced.now tracee) }
-    ensures none { IsNone result → NoSeat (state_of P.TracePort K.Bookkeeping desks.now traced.now) tracee }
+    ensures none { IsNone result → NoSeat
+        (state_of P.TracePort K.Bookkeeping desks.now traced.now) tracee }
 {
     let place = tracee as usize;
     if place >= traced.len() {
@@ -44,7 +45,10 @@ fn hand_over<P: TracePort, K: Bookkeeping>(
     limit: u32,
 ) -> Reply
     requires { AreNumbered (state_of P.TracePort K.Bookkeeping desks.old traced.old) }
-    ensures step { KeepAllLoans P.TracePort K.Bookkeeping desks.old desks.new (IsStep P.told (state_of P.TracePort K.Bookkeeping desks.old traced.old) (state_of P.TracePort K.Bookkeeping desks.new traced.new) (steps.HandOver tracee limit) result) }
+    ensures step { KeepAllLoans P.TracePort K.Bookkeeping desks.old desks.new
+        (IsStep P.told (state_of P.TracePort K.Bookkeeping desks.old traced.old)
+        (state_of P.TracePort K.Bookkeeping desks.new traced.new)
+        (steps.HandOver tracee limit) result) }
 {
     let Some(desk) = desk_of(desks, traced, tracee) else {
         return Reply::Unknown;
@@ -60,7 +64,9 @@ fn flush_for<P: TracePort, K: Bookkeeping>(
     tracee: u32,
 ) -> Reply
     requires { AreNumbered (state_of P.TracePort K.Bookkeeping desks.old traced.old) }
-    ensures step { KeepAllLoans P.TracePort K.Bookkeeping desks.old desks.new (IsStep P.told (state_of P.TracePort K.Bookkeeping desks.old traced.old) (state_of P.TracePort K.Bookkeeping desks.new traced.new) (steps.FlushFor tracee) result) }
+    ensures step { KeepAllLoans P.TracePort K.Bookkeeping desks.old desks.new
+        (IsStep P.told (state_of P.TracePort K.Bookkeeping desks.old traced.old)
+        (state_of P.TracePort K.Bookkeeping desks.new traced.new) (steps.FlushFor tracee) result) }
 {
     let Some(desk) = desk_of(desks, traced, tracee) else {
         return Reply::Unknown;
@@ -70,7 +76,9 @@ fn flush_for<P: TracePort, K: Bookkeeping>(
 
 /// Flushes a desk's port; `Unknown` where there is no such desk.
 fn flush<P: TracePort, K: Bookkeeping>(desks: &mut [Desk<'_, P, K>], desk: u32) -> Reply
-    ensures step { KeepAllLoans P.TracePort K.Bookkeeping desks.old desks.new ((tracees : List Seat) → IsStep P.told (places_with P.TracePort K.Bookkeeping desks.old tracees) (places_with P.TracePort K.Bookkeeping desks.new tracees) (steps.Flush desk) result) }
+    ensures step { KeepAllLoans P.TracePort K.Bookkeeping desks.old desks.new ((tracees : List Seat)
+        → IsStep P.told (places_with P.TracePort K.Bookkeeping desks.old tracees)
+        (places_with P.TracePort K.Bookkeeping desks.new tracees) (steps.Flush desk) result) }
 {
     let place = desk as usize;
     if place >= desks.len() {
@@ -81,7 +89,9 @@ fn flush<P: TracePort, K: Bookkeeping>(desks: &mut [Desk<'_, P, K>], desk: u32) 
 
 /// Ends the trace of a desk's port; `Unknown` where there is no such desk.
 fn seal<P: TracePort, K: Bookkeeping>(desks: &mut [Desk<'_, P, K>], desk: u32) -> Reply
-    ensures step { KeepAllLoans P.TracePort K.Bookkeeping desks.old desks.new ((tracees : List Seat) → IsStep P.told (places_with P.TracePort K.Bookkeeping desks.old tracees) (places_with P.TracePort K.Bookkeeping desks.new tracees) (steps.Seal desk) result) }
+    ensures step { KeepAllLoans P.TracePort K.Bookkeeping desks.old desks.new ((tracees : List Seat)
+        → IsStep P.told (places_with P.TracePort K.Bookkeeping desks.old tracees)
+        (places_with P.TracePort K.Bookkeeping desks.new tracees) (steps.Seal desk) result) }
 {
     let place = desk as usize;
     if place >= desks.len() {
@@ -92,7 +102,9 @@ fn seal<P: TracePort, K: Bookkeeping>(desks: &mut [Desk<'_, P, K>], desk: u32) -
 
 /// Tells a desk's port the time; `Unknown` where there is no such desk.
 fn tick<P: TracePort, K: Bookkeeping>(desks: &mut [Desk<'_, P, K>], desk: u32, now: u64) -> Reply
-    ensures step { KeepAllLoans P.TracePort K.Bookkeeping desks.old desks.new ((tracees : List Seat) → IsStep P.told (places_with P.TracePort K.Bookkeeping desks.old tracees) (places_with P.TracePort K.Bookkeeping desks.new tracees) (steps.Tick desk now) result) }
+    ensures step { KeepAllLoans P.TracePort K.Bookkeeping desks.old desks.new ((tracees : List Seat)
+        → IsStep P.told (places_with P.TracePort K.Bookkeeping desks.old tracees)
+        (places_with P.TracePort K.Bookkeeping desks.new tracees) (steps.Tick desk now) result) }
 {
     let place = desk as usize;
     if place >= desks.len() {
@@ -109,7 +121,9 @@ fn act<P: TracePort, K: Bookkeeping>(
     step: &Step,
 ) -> Reply
     requires { AreNumbered (state_of P.TracePort K.Bookkeeping desks.old traced.old) }
-    ensures step { KeepAllLoans P.TracePort K.Bookkeeping desks.old desks.new (IsStep P.told (state_of P.TracePort K.Bookkeeping desks.old traced.old) (state_of P.TracePort K.Bookkeeping desks.new traced.new) step.now result) }
+    ensures step { KeepAllLoans P.TracePort K.Bookkeeping desks.old desks.new
+        (IsStep P.told (state_of P.TracePort K.Bookkeeping desks.old traced.old)
+        (state_of P.TracePort K.Bookkeeping desks.new traced.new) step.now result) }
 {
     match step {
         Step::Emit {
@@ -142,19 +156,27 @@ pub fn drive<P: TracePort, K: Bookkeeping>(
     steps: &[Step],
 ) -> Result<Vec<Reply>, NoMemory>
     requires numbered { AreNumbered (state_of P.TracePort K.Bookkeeping desks.old traced.old) }
-    ensures run { IfOk result (λ replies. Run P.told (state_of P.TracePort K.Bookkeeping desks.old traced.old) steps.now replies.items
+    ensures run { IfOk result (λ replies. Run P.told
+        (state_of P.TracePort K.Bookkeeping desks.old traced.old) steps.now replies.items
         (state_of P.TracePort K.Bookkeeping desks.new traced.new)) }
-    ensures grown { IfOk result (λ replies. AreGrown P.told (state_of P.TracePort K.Bookkeeping desks.old traced.old) steps.now replies.items
+    ensures grown { IfOk result (λ replies. AreGrown P.told
+        (state_of P.TracePort K.Bookkeeping desks.old traced.old) steps.now replies.items
         (state_of P.TracePort K.Bookkeeping desks.new traced.new)) }
-    ensures carried { IfOk result (λ replies. AreCarried (state_of P.TracePort K.Bookkeeping desks.old traced.old) steps.now replies.items
+    ensures carried { IfOk result (λ replies. AreCarried
+        (state_of P.TracePort K.Bookkeeping desks.old traced.old) steps.now replies.items
         (state_of P.TracePort K.Bookkeeping desks.new traced.new)) }
-    ensures moments { IfOk result (λ replies. EachMoment P.told (state_of P.TracePort K.Bookkeeping desks.old traced.old) steps.now replies.items
+    ensures moments { IfOk result (λ replies. EachMoment P.told
+        (state_of P.TracePort K.Bookkeeping desks.old traced.old) steps.now replies.items
         (state_of P.TracePort K.Bookkeeping desks.new traced.new)) }
-    ensures receipts { IfOk result (λ replies. AreReceiptsKept P.told (state_of P.TracePort K.Bookkeeping desks.old traced.old) replies.items
+    ensures receipts { IfOk result (λ replies. AreReceiptsKept P.told
+        (state_of P.TracePort K.Bookkeeping desks.old traced.old) replies.items
         (state_of P.TracePort K.Bookkeeping desks.new traced.new)) }
-    ensures err { OnErr result (state_of P.TracePort K.Bookkeeping desks.new traced.new ≡ state_of P.TracePort K.Bookkeeping desks.old traced.old) }
-    ensures loans { map (λ d. d.port.ghost_name) desks.new ≡ map (λ d. d.port.ghost_name) desks.old }
-    ensures lenders { map (λ d. P.lender d.port.now) desks.new ≡ map (λ d. P.lender d.port.now) desks.old }
+    ensures err { OnErr result (state_of P.TracePort K.Bookkeeping desks.new traced.new
+        ≡ state_of P.TracePort K.Bookkeeping desks.old traced.old) }
+    ensures loans { map (λ d. d.port.ghost_name) desks.new
+        ≡ map (λ d. d.port.ghost_name) desks.old }
+    ensures lenders { map (λ d. P.lender d.port.now) desks.new
+        ≡ map (λ d. P.lender d.port.now) desks.old }
 {
     let mut replies = Vec::with_capacity(alloc, steps.len())?;
     for step in steps {

@@ -166,10 +166,13 @@ impl<F: Ledger, U: Ledger, D: Ledger, N: Ledger + Numbered> LedgerBook<F, U, D, 
         drops: Blank,
         accounts: Blank,
     ) -> LedgerBook<F, U, D, N>
-        requires flushed { (flushed.name ≡ F.name) × (flushed.parts ≡ F.parts) × (flushed.parts ≡ PARTS) }
-        requires unflushed { (unflushed.name ≡ U.name) × (unflushed.parts ≡ U.parts) × (unflushed.parts ≡ PARTS) }
+        requires flushed { (flushed.name ≡ F.name) × (flushed.parts ≡ F.parts)
+            × (flushed.parts ≡ PARTS) }
+        requires unflushed { (unflushed.name ≡ U.name) × (unflushed.parts ≡ U.parts)
+            × (unflushed.parts ≡ PARTS) }
         requires drops { (drops.name ≡ D.name) × (drops.parts ≡ D.parts) × (drops.parts ≡ PARTS) }
-        requires accounts { (accounts.name ≡ N.name) × (accounts.parts ≡ N.parts) × (accounts.parts ≡ PARTS) }
+        requires accounts { (accounts.name ≡ N.name) × (accounts.parts ≡ N.parts)
+            × (accounts.parts ≡ PARTS) }
         ensures totals { ⟦<LedgerBook<F, U, D, N> as Bookkeeping>⟧.totals_of result ≡ no_totals }
         ensures attached { ⟦<LedgerBook<F, U, D, N> as Bookkeeping>⟧.attached_of result ≡ 0 }
     {

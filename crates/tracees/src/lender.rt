@@ -27,7 +27,8 @@ pub fn hand_one<P: TracePort, K: Bookkeeping>(
     limit: u32,
 ) -> (Tracee, Result<Receipt, HandFault>)
     requires may_stand { MayStand K.Bookkeeping book number (P.told port.old) }
-    ensures hands { KeepsLoan P.TracePort port.old port.new (HandsOne P.told number port.old port.new limit tracee result.0 result.1) }
+    ensures hands { KeepsLoan P.TracePort port.old port.new
+        (HandsOne P.told number port.old port.new limit tracee result.0 result.1) }
 {
     let mut desk = Desk::new(number, port, book);
     let mut traced = desk.attach(tracee);
@@ -47,12 +48,18 @@ pub fn record_one<S: Store + Send, R: Room + Send>(
     limit: u32,
 ) -> (Tracee, Result<Receipt, HandFault>)
     requires place { HasGate S.Store store.old 0 opening.gate }
-    ensures hands { RecordsOne (file_told S.Store R.Room) (opened_told R.Room opening (device_of S.Store store.old)) (device_of S.Store store.new) limit tracee result.0 result.1 }
+    ensures hands { RecordsOne (file_told S.Store R.Room)
+        (opened_told R.Room opening (device_of S.Store store.old))
+        (device_of S.Store store.new) limit tracee result.0 result.1 }
     ensures rest { waiting_of tracee ≡ moved_by result.1 ++ waiting_of result.0 }
-    ensures moments { S.honest store.new → (v0 : View) → Fits (opened_told R.Room opening (device_of S.Store store.old)) v0 [] (total v0)
-        → Leaves (device_of S.Store store.old) (device_of S.Store store.new) (Sound File v0 (items_moved result.1) (total v0)) }
-    ensures saved { S.honest store.new → (v0 : View) → Fits (opened_told R.Room opening (device_of S.Store store.old)) v0 [] (total v0)
-        → (gate : ℕ) × IsSaved (opened_told R.Room opening (device_of S.Store store.old)) (device_of S.Store store.new) v0 (items_moved result.1) gate }
+    ensures moments { S.honest store.new → (v0 : View)
+        → Fits (opened_told R.Room opening (device_of S.Store store.old)) v0 [] (total v0)
+        → Leaves (device_of S.Store store.old) (device_of S.Store store.new)
+        (Sound File v0 (items_moved result.1) (total v0)) }
+    ensures saved { S.honest store.new → (v0 : View)
+        → Fits (opened_told R.Room opening (device_of S.Store store.old)) v0 [] (total v0)
+        → (gate : ℕ) × IsSaved (opened_told R.Room opening (device_of S.Store store.old))
+        (device_of S.Store store.new) v0 (items_moved result.1) gate }
 {
     let mut port = FilePort::over(store, opening);
     let done = hand_one(alloc, &mut port, 0, PlainBook::new(), tracee, limit);

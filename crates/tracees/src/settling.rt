@@ -26,12 +26,16 @@ pub fn settle<'p, P: TracePort, K: SharedBook>(
     mut desk: Desk<'p, P, K>,
     mut accounts: Vec<Account<K>>,
 ) -> Result<(Desk<'p, P, K>, Totals), SettleFault<'p, P, K>>
-    ensures ok { OnOk result (AddUp (K.totals_of desk.entry.book) (K.attached_of desk.entry.book) (sums_each K.sums_of accounts.items)) }
+    ensures ok { OnOk result (AddUp (K.totals_of desk.entry.book) (K.attached_of desk.entry.book)
+        (sums_each K.sums_of accounts.items)) }
     ensures totals { IfOk result (λ done. done.1 ≡ K.totals_of desk.entry.book) }
     ensures desk { IfOk result (λ done. IsSameDesk P.TracePort K.Bookkeeping desk.entry done.0) }
-    ensures missing { OnErr result (FallShort (K.totals_of desk.entry.book) (K.attached_of desk.entry.book) (sums_each K.sums_of accounts.items)) }
-    ensures back { IfErr result (λ fault. IsHandedBack P.TracePort K.Bookkeeping desk.entry accounts.items fault) }
-    ensures shares { AreShares (K.totals_of desk.entry.book) (K.attached_of desk.entry.book) (sums_each K.sums_of accounts.items) }
+    ensures missing { OnErr result (FallShort (K.totals_of desk.entry.book)
+        (K.attached_of desk.entry.book) (sums_each K.sums_of accounts.items)) }
+    ensures back { IfErr result (λ fault. IsHandedBack P.TracePort K.Bookkeeping desk.entry
+        accounts.items fault) }
+    ensures shares { AreShares (K.totals_of desk.entry.book) (K.attached_of desk.entry.book)
+        (sums_each K.sums_of accounts.items) }
 {
     let number = accounts.len() as u64;
     let sum = desk.book.sum_of(&mut accounts);

@@ -15,10 +15,12 @@ pub trait SharedBook: Bookkeeping {
     /// What these accounts count together. It leaves them and the book as they are.
     fn sum_of(&mut self, accounts: &mut Vec<Account<Self>>) -> Totals
         ensures sum { result ≡ summed (sums_each Self.sums_of accounts.old.items) }
-        ensures shares { AreShares (Self.totals_of self.old) (Self.attached_of self.old) (sums_each Self.sums_of accounts.old.items) }
+        ensures shares { AreShares (Self.totals_of self.old) (Self.attached_of self.old)
+            (sums_each Self.sums_of accounts.old.items) }
         ensures totals { Self.totals_of self.new ≡ Self.totals_of self.old }
         ensures attached { Self.attached_of self.new ≡ Self.attached_of self.old }
-        ensures accounts { sums_each Self.sums_of accounts.new.items ≡ sums_each Self.sums_of accounts.old.items };
+        ensures accounts { sums_each Self.sums_of accounts.new.items
+            ≡ sums_each Self.sums_of accounts.old.items };
 
     ghost is_shared: { IsTrue Self.shared };
 }

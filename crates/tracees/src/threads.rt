@@ -26,7 +26,9 @@ fn run_each<P: TracePort, K: SharedBook, G: Gate, R: Threads + Wait + Sync>(
 )
     requires some { 0 < length jobs.old }
     requires room { All (λ job. HasRoom job) jobs.old }
-    ensures { (place : ℕ) (d : _) → place < length jobs.old → HasRun P.told (G.answers gate.now) (G.told gate.now) (slice_index_or jobs.old place d) (slice_index_or jobs.new place d) }
+    ensures { (place : ℕ) (d : _) → place < length jobs.old
+        → HasRun P.told (G.answers gate.now) (G.told gate.now) (slice_index_or jobs.old place d)
+        (slice_index_or jobs.new place d) }
 {
     let count = jobs.len();
     thread::for_each_mut(
@@ -35,7 +37,8 @@ fn run_each<P: TracePort, K: SharedBook, G: Gate, R: Threads + Wait + Sync>(
         count,
         &|_, job|
             requires { HasRoom job.now }
-            ensures { HasRun P.told (G.answers gate.entry.now) (G.told gate.entry.now) job.entry.now job.exit.now }
+            ensures { HasRun P.told (G.answers gate.entry.now)
+                (G.told gate.entry.now) job.entry.now job.exit.now }
         { run_job(rt, alloc, desk, gate, job) },
     );
 }
@@ -51,8 +54,10 @@ fn reserve<K: Bookkeeping>(job: &mut Job<K>) -> Result<(), AllocError>
 
 /// Reserves memory for the receipts of all jobs.
 fn reserve_all<K: Bookkeeping>(jobs: &mut [Job<K>]) -> Result<(), AllocError>
-    ensures same { (place : ℕ) (d : _) → place < length jobs.old → IsSameJob (slice_index_or jobs.old place d) (slice_index_or jobs.new place d) }
-    ensures room { OnOk result ((place : ℕ) (d : _) → place < length jobs.old → IsReserved (slice_index_or jobs.new place d)) }
+    ensures same { (place : ℕ) (d : _) → place < length jobs.old
+        → IsSameJob (slice_index_or jobs.old place d) (slice_index_or jobs.new place d) }
+    ensures room { OnOk result ((place : ℕ) (d : _) → place < length jobs.old
+        → IsReserved (slice_index_or jobs.new place d)) }
 {
     for place in 0..jobs.len() {
         reserve(&mut jobs[place])?;
@@ -69,8 +74,11 @@ fn run_jobs<P: TracePort, K: SharedBook, G: Gate, R: Threads + Wait + Sync>(
     gate: &G,
 ) -> Result<(), NoMemory>
     requires { All (λ job. IsReady job) jobs.old }
-    ensures ran { OnOk result ((place : ℕ) (d : _) → place < length jobs.old → HasRun P.told (G.answers gate.now) (G.told gate.now) (slice_index_or jobs.old place d) (slice_index_or jobs.new place d)) }
-    ensures err { OnErr result ((place : ℕ) (d : _) → place < length jobs.old → IsSameJob (slice_index_or jobs.old place d) (slice_index_or jobs.new place d)) }
+    ensures ran { OnOk result ((place : ℕ) (d : _) → place < length jobs.old
+        → HasRun P.told (G.answers gate.now) (G.told gate.now) (slice_index_or jobs.old place d)
+        (slice_index_or jobs.new place d)) }
+    ensures err { OnErr result ((place : ℕ) (d : _) → place < length jobs.old
+        → IsSameJob (slice_index_or jobs.old place d) (slice_index_or jobs.new place d)) }
 {
     reserve_all(jobs)?;
     if !jobs.is_empty() {
@@ -91,8 +99,11 @@ pub fn run_threads<P: TracePort, K: SharedBook, G: Gate, R: Threads + Wait + Syn
     gate: &G,
 ) -> Result<(), NoMemory>
     requires { All (λ job. IsReady job) jobs.old }
-    ensures ran { OnOk result ((place : ℕ) (d : _) → place < length jobs.old → HasRun P.told (G.answers gate.now) (G.told gate.now) (slice_index_or jobs.old place d) (slice_index_or jobs.new place d)) }
-    ensures err { OnErr result ((place : ℕ) (d : _) → place < length jobs.old → IsSameJob (slice_index_or jobs.old place d) (slice_index_or jobs.new place d)) }
+    ensures ran { OnOk result ((place : ℕ) (d : _) → place < length jobs.old
+        → HasRun P.told (G.answers gate.now) (G.told gate.now) (slice_index_or jobs.old place d)
+        (slice_index_or jobs.new place d)) }
+    ensures err { OnErr result ((place : ℕ) (d : _) → place < length jobs.old
+        → IsSameJob (slice_index_or jobs.old place d) (slice_index_or jobs.new place d)) }
 {
     run_jobs(rt, alloc, &LockedDesk::over(desk), jobs, gate)
 }
