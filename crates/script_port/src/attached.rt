@@ -36,8 +36,13 @@ impl Attached {
 
     /// Sets the moment, but for its monotonic time.
     pub fn set_moment(&mut self, mega: u32, sec: u32, micro: u32)
-        ensures moment { self.new.moment ≡ record { mega = mega; sec = sec; micro = micro; mono =
-            self.old.moment.mono } }
+        ensures moment { self.new.moment ≡ record {
+          mega = mega;
+          sec = sec;
+          micro = micro;
+          mono =
+              self.old.moment.mono;
+        } }
         ensures traced { self.new.traced ≡ self.old.traced }
     {
         self.moment = Stamp {
