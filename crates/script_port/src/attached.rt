@@ -40,8 +40,7 @@ impl Attached {
           mega = mega;
           sec = sec;
           micro = micro;
-          mono =
-              self.old.moment.mono;
+          mono = self.old.moment.mono;
         } }
         ensures traced { self.new.traced ≡ self.old.traced }
     {
