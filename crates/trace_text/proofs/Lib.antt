@@ -26,3 +26,4 @@ pub mod ChosenLines
 pub mod SubsetLemmas
 pub mod Printing
 pub mod ObjectLines
+pub mod FactTelling

@@ -155,7 +155,8 @@ read_as kind bytes text text' seen seen' e f r = subst (λ (s : List Sight). IsR
 pub asked_read : (asks : Asks) (kind : Option Kind) (bytes text : List ℕ) (seen : List Sight) (r : IsReadSo kind bytes seen text) → suits asks r.t ≡ suits_if asks (term_in bytes)
 asked_read asks kind bytes text seen r = sym (ap (suits_if asks) (term_spelled bytes r.t r.short r.spells))
 
-no_term : (bytes : List ℕ) → IsBytes bytes → IsUnread bytes → term_in bytes ≡ None
+-- a message that isn't read
+pub no_term : (bytes : List ℕ) → IsBytes bytes → IsUnread bytes → term_in bytes ≡ None
 no_term bytes fits (inl opaque) = term_opaque bytes fits opaque
 no_term bytes fits (inr long) = term_too_long bytes long
 

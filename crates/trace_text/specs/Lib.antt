@@ -24,3 +24,4 @@ pub mod Parts
 pub mod Choosing
 pub mod Objects
 pub mod PartLines
+pub mod MessageFacts

@@ -7,8 +7,9 @@ ghost use Rattle.trace_text.specs.declared.style.Style.{Style};
 ghost use Rattle.trace_text.specs.Choosing.{Asks, chooses, ends};
 ghost use Rattle.trace_text.specs.Lines.{AreLines, EachLine, HasRow, asks_in, ends_in, kept};
 
-/// Without a choice a listing has a line, or an object, for each entry. Of these a listing by a choice has those of the entries that are asked for,
-/// in their order, and nothing else; behind the first entry at which it ends stands an empty line.
+/// Without a choice a listing has a line, or an object, for each entry. Of these a listing by a choice has those of the
+/// entries that are asked for, in their order, and nothing else; behind the first entry at which it ends stands an empty
+/// line.
 pub fn chosen_lines_are_kept()
     ensures each { (style : Style) (n : ℕ) (es : List Entry) (text : List ℕ) → asks_in style ≡ None
         → AreLines style n es text → (lines : List (List ℕ))

@@ -22,6 +22,7 @@ mod choice_laws;
 mod chosen;
 mod controls;
 mod escapes;
+mod fact_reader;
 mod facts;
 mod float_text;
 mod kinds;
@@ -48,6 +49,7 @@ pub use any_laws::{
 pub use atom_text::is_plain;
 pub use choice::Choice;
 pub use choice_laws::chosen_lines_are_kept;
+pub use fact_reader::{FactReader, MessageFacts};
 pub use kinds::{KIND_COUNT, is_kind, kind_at};
 pub use line::{Apart, put_before, put_end, put_line, put_missing, put_unread_line, whole_term};
 pub use object_laws::objects_read_back;
