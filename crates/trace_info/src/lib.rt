@@ -1,14 +1,43 @@
-//! A stored trace in numbers: what its files hold together, as text for a person and as a JSON object.
+//! A stored trace in numbers: what its files hold, and what its messages tell, as text for a person and as a JSON object.
 //!
 //! An `Info` is made of what the files read as together, and takes what is found in each (`add`), both as `sum_up_trace` of
-//! `trace_reader` answers them. `fault` answers why the files aren't one whole trace, exactly where they aren't, and
-//! `is_to_repeat` is true only there: they may have changed while they were read. An `Info` displays as the text, and `to_json`
-//! makes the object. No contract says which numbers and words are told: tests of the program show it. What is counted of each
-//! file is promised in `trace_reader` (`IsSummary`). No file is read here.
+//! `trace_reader` answers them. `fault` answers why the files aren't one whole trace, exactly where they aren't.
+//!
+//! A `View` takes entries one by one; `StreamView` hands it those of an entry stream that is written to it (`into_view`). `Top`
+//! counts functions, processes and kinds exactly (`IsCounted`), `Folded` how often each stack of calls was called (`IsFolded`).
+//! No contract says how long calls took, or how numbers are laid out: tests of the program show it. No file is read here.
 #![tactic(auto)]
 
+mod acts;
+mod folded;
+mod functions;
 mod info;
 mod json;
+mod lines;
+mod messages;
+mod open_stack;
+mod processes;
+mod row;
+mod rows;
+mod stack_rows;
+mod stacks;
+mod stream_laws;
+mod stream_start;
+mod stream_view;
+mod table;
+mod table_json;
+mod taken;
+mod tallies;
 mod text;
+mod times;
+mod top;
+mod view;
 
+pub use folded::Folded;
 pub use info::{Info, Part, Totals};
+pub use stream_laws::lawful_fit;
+pub use stream_view::StreamView;
+pub use taken::Taken;
+pub use times::{OpenCall, OpenCalls, time_in};
+pub use top::Top;
+pub use view::{View, ViewFault};

@@ -1,0 +1,4 @@
+pub mod CountLemmas
+pub mod RowLemmas
+mod StackLemmas
+mod StreamLemmas

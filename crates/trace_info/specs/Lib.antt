@@ -1,0 +1,9 @@
+pub mod Acts
+pub mod Counting
+pub mod Lines
+pub mod Rows
+pub mod Stacks
+pub mod Streams
+pub mod Tables
+pub mod Taking
+pub mod Tallies

@@ -1,0 +1,21 @@
+-- A code for lists of entries, for the ghost field of what keeps them.
+use Rattle.std.specs.Prelude.{◌≡◌, ◌⊎◌, ℕ, List, refl}
+use Rattle.std.specs.Coded.{Coded, code_by, coded_ℕ, coded_list, coded⊎}
+use Rattle.std.proofs.Common.{inl, inr}
+use Rattle.entry_codec.specs.Entries.{Entry, Message, Drop}
+
+abbrev parted : Entry → List ℕ ⊎ ℕ
+parted (Message bytes) = inl bytes
+parted (Drop count) = inr count
+
+abbrev joined : List ℕ ⊎ ℕ → Entry
+joined (inl bytes) = Message bytes
+joined (inr count) = Drop count
+
+pub joined_parted : (entry : Entry) → joined (parted entry) ≡ entry
+joined_parted (Message bytes) = refl
+joined_parted (Drop count) = refl
+
+-- entries, in numbers
+abbrev pub coded_entries : Coded (List Entry)
+coded_entries = coded_list (code_by (List ℕ ⊎ ℕ) (coded⊎ (coded_list coded_ℕ) coded_ℕ) parted joined joined_parted)
