@@ -2,7 +2,7 @@
 
 _dbgrec() {
     local word=${COMP_WORDS[COMP_CWORD]} before=${COMP_WORDS[COMP_CWORD - 1]} offered=
-    local commands="import list export info wipe stream record sim"
+    local commands="import list export info top wipe stream record sim"
     local readers="--kind --suffix --count" new="--size --time --after-failure"
     local chosen="--pretty --json --from --to --only --pid --mfa"
     local kinds="call return exception send send_lost receive other opaque drop seq_trace return_to spawn spawned exit" kind told=
@@ -19,11 +19,14 @@ _dbgrec() {
     case $before in
     --kind) offered="file wrap" ;;
     --flush) offered="always paused never" ;;
+    --as) offered="stream folded" ;;
+    --by) offered="function process kind" ;;
+    --sort) offered="count exceptions total mean longest" ;;
     --only)
         [[ $word == *,* ]] && told=${word%,*},
         for kind in $kinds; do offered+="$told$kind "; done
         ;;
-    --suffix | --count | --size | --time | --skip | --from | --to | --pid | --mfa | --longest) return ;;
+    --suffix | --count | --size | --time | --skip | --from | --to | --pid | --mfa | --longest | --limit) return ;;
     *)
         if ((COMP_CWORD == 1)); then
             offered="$commands --help --version"
@@ -32,8 +35,9 @@ _dbgrec() {
             import) offered="$readers $new --flush --keep-open --skip --longest --help" ;;
             record) offered="$readers $new --help" ;;
             list) offered="$readers $chosen --follow --salvage --help" ;;
-            export) offered="$readers --salvage --help" ;;
+            export) offered="$readers --as --salvage --help" ;;
             info) offered="$readers --json --help" ;;
+            top) offered="$readers --by --sort --limit --json --help" ;;
             wipe) offered="$readers --force --help" ;;
             stream) offered="$chosen --longest --help" ;;
             *) offered="--help" ;;
@@ -43,7 +47,7 @@ _dbgrec() {
     esac
     if [[ -n $offered ]]; then
         mapfile -t COMPREPLY < <(compgen -W "$offered" -- "$word")
-    elif [[ " import list export info wipe record " == *" ${COMP_WORDS[1]} "* ]]; then
+    elif [[ " import list export info top wipe record " == *" ${COMP_WORDS[1]} "* ]]; then
         compopt -o filenames 2>/dev/null
         mapfile -t COMPREPLY < <(compgen -f -- "$word")
     fi

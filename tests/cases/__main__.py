@@ -21,6 +21,7 @@ import crashes
 import documents
 import emitting
 import faults
+import folding
 import following
 import foreign
 import forms
@@ -48,12 +49,13 @@ import rows
 import salvage
 import scripts
 import telling
+import top
 import windows
 import wording
 from cases import Skipped
 from program import Program
 
-GROUPS = (rows, scripts, emitting, readings, listing, pretty, long_messages, fragments, forms, choosing, json_listing, recording, importing, info, foreign, absent, keeping, telling, crashes, images, machine, faults, locking, replacing, live, following, windows, salvage, large, wording, documents, installing, memory, libraries, reaching)
+GROUPS = (rows, scripts, emitting, readings, listing, pretty, long_messages, fragments, forms, choosing, json_listing, recording, importing, info, top, folding, foreign, absent, keeping, telling, crashes, images, machine, faults, locking, replacing, live, following, windows, salvage, large, wording, documents, installing, memory, libraries, reaching)
 
 
 def words():

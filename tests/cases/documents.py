@@ -139,6 +139,18 @@ def clauses_in_documents_stand_in_the_contracts(_program):
 
 
 @case
+def lines_of_contracts_and_comments_fit_on_a_screen(_program):
+    found = []
+    for path in sorted(REPOSITORY.glob("crates/*/src/*.rt")):
+        for number, line in enumerate(path.read_text(encoding="utf-8").splitlines(), 1):
+            word = line.split(maxsplit=1)[:1]
+            most = {"ensures": 100, "requires": 100, "///": 130, "//!": 130}.get("".join(word), len(line))
+            if len(line) > most:
+                found.append(f"{path.relative_to(REPOSITORY)}:{number}")
+    same(found, [])
+
+
+@case
 def wrong_names_in_a_document_are_found(_program):
     text = """`crates/segment/src/none.rt`, `none.antt` and [a link](docs/NONE.md); [another](README.md#none); FORMATS, "None".
 | `calls.rt` of `segment`; `calls.rt` of `recovery` | `docs/FORMATS.md`, "Listing", and [it](docs/FORMATS.md#a-salvage) |

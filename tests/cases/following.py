@@ -304,6 +304,18 @@ def a_trace_that_is_begun_later_is_waited_for(program):
         same(end_of(follower), Outcome(0, f"{example_line(0)}\n{example_line(1)}\n".encode() + END, said))
 
 
+@case
+def a_trace_whose_header_is_cut_is_waited_for(program):
+    program.good("import", "t", stdin=message(EXAMPLE))
+    whole = (program.folder / "t").read_bytes()
+    for size in (1, 20, 36):
+        (program.folder / "t").write_bytes(whole[:size])
+        with program.start("list", "-f", "t") as follower:
+            same(follower.process.stderr.readline(), b"dbgrec: t isn't begun: waiting for it\n")
+            program.good("import", "t", stdin=message(EXAMPLE))
+            same(end_of(follower), Outcome(0, f"{example_line(0)}\n".encode() + END, b""))
+
+
 def followed(program, name, words, much):
     """What a follower tells of a trace that is written at full speed."""
     with program.start("import", name, *words) as importer:

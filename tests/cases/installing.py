@@ -25,6 +25,9 @@ VALUES = {
     "--kind": ["file", "wrap"],
     "--flush": ["always", "never", "paused"],
     "--only": sorted(KINDS),
+    "--as": ["folded", "stream"],
+    "--by": ["function", "kind", "process"],
+    "--sort": ["count", "exceptions", "longest", "mean", "total"],
 }
 
 # what a completion of these words would put in the place of the last one

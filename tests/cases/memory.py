@@ -13,6 +13,7 @@ from refusing import each_refusal
 from rows import CASES as ROWS
 from segments import FILE_HEADER, segment
 from shortages import NO_MEMORY, Kept, Script, joined, tells_no_memory
+from top import call, fails, returns, sends
 
 CASES, case = group()
 
@@ -143,6 +144,16 @@ def a_trace_in_numbers_that_is_refused_memory_is_a_beginning(program):
         kept.program.good("import", "t", *kind, stdin=b"".join([*ENTRIES, message(STAMPED + moment(1700, 7, 9))]))
         for words in ((), ("--json",)):
             kept.reads("info", "t", *words)
+
+
+@case
+def a_table_that_is_refused_memory_is_a_beginning(program):
+    for kind in KINDS[:2]:
+        kept = Kept(program, kind[-1])
+        entries = [call(1, "f", 1), call(1, "g", 2), sends(2), returns(1, "g", 3), message(LONGER), drop(2), fails(1, "f", 4)]
+        kept.program.good("import", "t", *kind, stdin=b"".join(entries))
+        for words in ((), ("--json",), ("--by", "process"), ("--by", "kind", "--json")):
+            kept.reads("top", "t", *words)
 
 
 @case

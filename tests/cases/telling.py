@@ -114,8 +114,9 @@ def missing_from(program, base, name, what):
     for command in ("list", "export"):
         outcome = program.run(command, base)
         same((outcome.status, outcome.errors), (1, f"dbgrec: refused 3 Sequence\n{second}\n".encode()))
-    outcome = program.run("info", base)
-    same((outcome.status, outcome.errors), (1, f"dbgrec: refused 3 Sequence\n{second}\n".encode()))
+    for command in ("info", "top"):
+        outcome = program.run(command, base)
+        same((outcome.status, outcome.errors), (1, f"dbgrec: refused 3 Sequence\n{second}\n".encode()))
     for command in ("import", "record"):
         program.refused(command, base, stdin=drop(1), says=f"dbgrec: refused 5 Recover 3 Sequence\n{second}")
 
@@ -143,7 +144,7 @@ def a_file_of_a_wrap_that_is_asked_for_says_so(program):
         words = ("--suffix", suffix) if suffix else ()
         program.good("import", base, "--kind", "wrap", "--count", "3", "--size", "0", *words, "--keep-open", stdin=drop(1) * 8)
         shown, ends = (f'"{base}"', f'"{base}2"') if " " in base else (base, f"{base}2{suffix}")
-        for command in ("list", "export", "info", "import"):
+        for command in ("list", "export", "info", "top", "import"):
             outcome = program.run(command, f"{base}2{suffix}", stdin=drop(1))
             option = f" --suffix {suffix}" if suffix else ""
             same((command, outcome.status), (command, 1))
@@ -153,7 +154,7 @@ def a_file_of_a_wrap_that_is_asked_for_says_so(program):
 @case
 def several_names_are_refused_with_a_wraps(program):
     says = "One name is taken. That of a wrap is what the names of its files begin with: w, where they are w0, w1 and so on.\n"
-    for command in ("list", "export", "info", "wipe", "import", "record"):
+    for command in ("list", "export", "info", "top", "wipe", "import", "record"):
         outcome = program.run(command, "w0", "w1", "w2")
         same((outcome.status, outcome.output), (2, b""))
         assert outcome.errors.decode().startswith("error: unexpected argument 'w1' found\n"), outcome
@@ -176,11 +177,11 @@ def a_trace_of_more_files_than_may_be_open_is_refused_first(program):
     words = ("--kind", "wrap", "--count", "30", "--size", "0")
     program.good("import", "w", *words, "--keep-open", stdin=drop(1) * 9)
     before = stored(program.folder)
-    for command in ("list", "export", "info", "wipe", "import", "record"):
+    for command in ("list", "export", "info", "top", "wipe", "import", "record"):
         for name, options in (("w", ()), ("new", words if command in ("import", "record") else words[:4])):
             outcome = program.run(command, name, *options, before=few, stdin=b"")
             same((command, outcome.status, outcome.output), (command, 1, b""))
-            if name == "new" and command in ("list", "export", "info"):
+            if name == "new" and command in ("list", "export", "info", "top"):
                 assert outcome.errors.startswith(b"dbgrec: new: no such trace\n"), outcome
                 continue
             first, second = outcome.errors.decode().splitlines()

@@ -22,15 +22,16 @@ COMMANDS = {
     "import": OF_NEW_FILES | {"--flush", "--keep-open", "--skip", "--longest", "--after-failure"},
     "record": OF_NEW_FILES | {"--after-failure"},
     "list": OF_FILES | OF_LISTINGS | {"--follow", "--salvage"},
-    "export": OF_FILES | {"--salvage"},
+    "export": OF_FILES | {"--as", "--salvage"},
     "info": OF_FILES | {"--json"},
+    "top": OF_FILES | {"--by", "--sort", "--limit", "--json"},
     "wipe": OF_FILES | {"--force"},
     "stream": OF_LISTINGS | {"--longest"},
     "sim": set(),
 }
 
 # of each option, its default for a new trace, as surely as it has one
-DEFAULTS = {"--kind": "file", "--suffix": "", "--count": "8", "--size": "131072", "--flush": "paused", "--longest": "16M"}
+DEFAULTS = {"--kind": "file", "--suffix": "", "--count": "8", "--size": "131072", "--flush": "paused", "--longest": "16M", "--as": "stream", "--by": "function", "--limit": "20"}
 
 
 def options_in(help_text):
@@ -70,7 +71,7 @@ def the_help_of_each_command_names_its_options_and_has_an_example(program):
         same((command, options_in(said)), (command, options))
         assert re.search(rf"^Example: .*dbgrec {command}", said, re.MULTILINE), said
         for option in options & set(DEFAULTS):
-            if DEFAULTS[option] and command in ("import", "record", "stream"):
+            if DEFAULTS[option] and command in ("import", "record", "stream", "export", "top"):
                 assert re.search(rf"{option} <.*\n?.*\[default: {DEFAULTS[option]}\]", said), f"{option} of {command}: {said}"
 
 

@@ -4,6 +4,7 @@ ghost use Rattle.std.specs.Option.{option_map, option_copied};
 
 use crate::function::{Function, function_in};
 use crate::process::is_process;
+use crate::ranking::{Grouping, Order, Ranking};
 use crate::request::{
     Asked, Ending, Flushing, Form, Misuse, Request, Rules, Shape, Shown, TraceRequest, Wanted,
 };
@@ -21,6 +22,9 @@ const GREATEST_LONGEST: u32 = 256 << 20;
 
 /// The least that it may say of an import, which keeps what an entry holds in any case.
 const LEAST_KEPT: u32 = 65_531;
+
+/// The most rows of a table that are shown, unless the command line says so.
+const DEFAULT_LIMIT: u32 = 20;
 
 /// An option with a value.
 fn option<'a>(alloc: Global, name: &'a str, value: &'a str, about: &'a str) -> Arg<'a> {
@@ -272,8 +276,21 @@ fn list<'a>(alloc: Global, command: Command<'a>) -> Result<Command<'a>, AllocErr
     with_choice(alloc, command)
 }
 
+fn form<'a>(alloc: Global) -> Arg<'a> {
+    option(
+        alloc,
+        "as",
+        "FORM",
+        "What is written: the entry stream, or the stacks of calls, each with its time, as programs for flame graphs read them",
+    )
+    .value_parser(["stream", "folded"].as_slice())
+    .default_value("stream")
+}
+
 fn export<'a>(alloc: Global, command: Command<'a>) -> Result<Command<'a>, AllocError> {
-    of_files(alloc, command, "Example: dbgrec export trace > trace.out")?.arg(salvage(alloc))
+    of_files(alloc, command, "Example: dbgrec export trace > trace.out")?
+        .arg(form(alloc))?
+        .arg(salvage(alloc).conflicts_with("as")?)
 }
 
 fn info<'a>(alloc: Global, command: Command<'a>) -> Result<Command<'a>, AllocError> {
@@ -282,6 +299,49 @@ fn info<'a>(alloc: Global, command: Command<'a>) -> Result<Command<'a>, AllocErr
         "json",
         "As one JSON object",
     ))
+}
+
+fn by<'a>(alloc: Global) -> Arg<'a> {
+    option(
+        alloc,
+        "by",
+        "WHAT",
+        "What a row stands for: a function, a process, or a kind of messages",
+    )
+    .value_parser(["function", "process", "kind"].as_slice())
+    .default_value("function")
+}
+
+fn sort<'a>(alloc: Global) -> Arg<'a> {
+    option(
+        alloc,
+        "sort",
+        "NUMBER",
+        "The number by which rows are in order, the greatest first [default: total where there are times, else count]",
+    )
+    .value_parser(["count", "exceptions", "total", "mean", "longest"].as_slice())
+}
+
+fn limit<'a>(alloc: Global) -> Arg<'a> {
+    option(
+        alloc,
+        "limit",
+        "N",
+        "Shows so many rows at most [default: 20]",
+    )
+    .value_parser(value_parser!(u32))
+}
+
+fn top<'a>(alloc: Global, command: Command<'a>) -> Result<Command<'a>, AllocError> {
+    of_files(
+        alloc,
+        command,
+        "Times are those between a call and its return or exception, where messages have time stamps.\n\nExample: dbgrec top trace --sort longest",
+    )?
+    .arg(by(alloc))?
+    .arg(sort(alloc))?
+    .arg(limit(alloc))?
+    .arg(flag(alloc, "json", "As one JSON object"))
 }
 
 fn wipe<'a>(alloc: Global, command: Command<'a>) -> Result<Command<'a>, AllocError> {
@@ -307,7 +367,7 @@ fn stream<'a>(alloc: Global, command: Command<'a>) -> Result<Command<'a>, AllocE
 }
 
 /// The commands, and what the help says that each does.
-const COMMANDS: [(&str, &str); 8] = [
+const COMMANDS: [(&str, &str); 9] = [
     (
         "import",
         "Records the entry stream of a node from standard input, and seals the trace at its end",
@@ -318,6 +378,10 @@ const COMMANDS: [(&str, &str); 8] = [
         "Writes a stored trace on standard output, as the entry stream that dbg:trace_client reads",
     ),
     ("info", "Tells what a stored trace holds, in numbers"),
+    (
+        "top",
+        "Counts a stored trace's messages by function, process or kind, and the times of its calls",
+    ),
     ("wipe", "Clears a stored trace, for good"),
     (
         "stream",
@@ -344,6 +408,7 @@ fn with_options<'a>(
         "list" => list(alloc, command),
         "export" => export(alloc, command),
         "info" => info(alloc, command),
+        "top" => top(alloc, command),
         "wipe" => wipe(alloc, command),
         "stream" => stream(alloc, command),
         "record" => record(alloc, command),
@@ -567,8 +632,44 @@ fn export_in<'a>(matches: &ArgMatches<'a>) -> TraceRequest<'a> {
     if matches.get_flag("salvage") {
         let form = Form::Stream;
         TraceRequest::Salvage { asked, form }
+    } else if let Some("folded") = matches.get_str("as") {
+        TraceRequest::Fold(asked)
     } else {
         TraceRequest::Export(asked)
+    }
+}
+
+/// By what the rows of a table are in order, where that is said.
+fn order_in(matches: &ArgMatches<'_>) -> Option<Order> {
+    match matches.get_str("sort") {
+        Some("count") => Some(Order::Count),
+        Some("exceptions") => Some(Order::Exceptions),
+        Some("total") => Some(Order::Total),
+        Some("mean") => Some(Order::Mean),
+        Some("longest") => Some(Order::Longest),
+        _ => None,
+    }
+}
+
+/// What a row of it stands for.
+fn grouping_in(matches: &ArgMatches<'_>) -> Grouping {
+    match matches.get_str("by") {
+        Some("process") => Grouping::Process,
+        Some("kind") => Grouping::Kind,
+        _ => Grouping::Function,
+    }
+}
+
+/// The table that is asked for.
+fn top_in<'a>(matches: &ArgMatches<'a>) -> TraceRequest<'a> {
+    TraceRequest::Top {
+        asked: asked_in(matches),
+        ranking: Ranking {
+            by: grouping_in(matches),
+            order: order_in(matches),
+            limit: matches.get_one::<u32>("limit").unwrap_or(DEFAULT_LIMIT),
+        },
+        is_json: matches.get_flag("json"),
     }
 }
 
@@ -589,6 +690,7 @@ fn trace_request_in<'a>(
             asked: asked_in(matches),
             is_json: matches.get_flag("json"),
         }),
+        "top" => Some(top_in(matches)),
         "wipe" => Some(TraceRequest::Wipe {
             asked: asked_in(matches),
             is_forced: matches.get_flag("force"),

@@ -10,10 +10,12 @@
 mod command;
 mod function;
 mod process;
+mod ranking;
 mod request;
 mod size;
 
 pub use command::asked_for;
+pub use ranking::{Grouping, Order, Ranking};
 pub use request::{
     Asked, Ending, Flushing, Form, Misuse, Request, Rules, Shape, Shown, TraceRequest, Wanted,
 };

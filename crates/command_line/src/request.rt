@@ -2,6 +2,7 @@
 
 ghost use Rattle.std.specs.Prelude.{◌≡◌, None, false};
 
+use crate::ranking::Ranking;
 use clap::Error;
 use std::alloc::AllocError;
 use trace_text::Choice;
@@ -149,6 +150,8 @@ pub enum TraceRequest<'a> {
     },
     /// Write it as an entry stream.
     Export(Asked<'a>),
+    /// Write the stacks of its calls.
+    Fold(Asked<'a>),
     /// Write what each of its open files holds, whether or not they are a trace together.
     Salvage {
         asked: Asked<'a>,
@@ -157,6 +160,13 @@ pub enum TraceRequest<'a> {
     /// Tell what it holds, in numbers.
     Info {
         asked: Asked<'a>,
+        /// As one JSON object.
+        is_json: bool,
+    },
+    /// Count what its messages tell.
+    Top {
+        asked: Asked<'a>,
+        ranking: Ranking,
         /// As one JSON object.
         is_json: bool,
     },

@@ -35,7 +35,8 @@ fn serve<R: Wait, I: Read + Drop, W: Output>(
     output: &mut W,
 ) -> Result<(), Complaint>
     ghost world: { World }
-    ensures { IsServed world request.entry (I.remaining input) (W.contents output.old) (W.contents output.new) result }
+    ensures { IsServed world request.entry (I.remaining input) (W.contents output.old)
+        (W.contents output.new) result }
 {
     match request {
         Request::Follow {

@@ -49,6 +49,7 @@ use Rattle.trace_advice.specs.Faults.{read_fault, wipe_fault}
 use Rattle.recorder.specs.Telling.{IsOfMemory, IsOfWriter}
 use Rattle.recorder.specs.Naming.{IsToldAt}
 use Rattle.recorder.specs.Informing.{most_to_inform, IsInfo}
+use Rattle.recorder.specs.Viewing.{IsFold, IsTop}
 use Rattle.recorder.specs.Salvaging.{most_to_salvage, IsSalvage}
 use Rattle.recorder.specs.Live.{most_to_read}
 use Rattle.recorder.specs.Files.{most_with, most_to_tell, CallsToOpen, CallsToClear, CallsToTryClearing, CallsToLook, CallsToEnd, OnlyLooks, LooksWell, LooksBehind, LooksOver, MayFail, WasRecorded, IsKeptOf}
@@ -189,8 +190,10 @@ pub data EndsStream (style : StreamStyle) (had old new : Option (List ℕ)) (com
 abbrev pub Changes : TraceRequest → Type 0
 Changes (requests.List asked is_pretty) = ⊥
 Changes (requests.Export asked) = ⊥
+Changes (requests.Fold asked) = ⊥
 Changes (requests.Salvage asked form) = ⊥
 Changes (requests.Info asked is_json) = ⊥
+Changes (requests.Top asked ranking is_json) = ⊥
 Changes _ = Unit {0}
 
 -- what is done with a trace for what the command line asks and how it is to be shown, by what is seen of the stream that comes in, what is observed until the end, and the bytes that are written
@@ -201,6 +204,12 @@ Serves (requests.Export asked) shown old new saw observed was now result = Looks
 Serves (requests.Salvage asked form) shown old new saw observed was now result = (out : Form) × IsWrittenAs form shown out
     × LooksOver old.store new.store (most_to_salvage (reads_of old.store)) (IfErr result (IsSalvage out (IsToldAt old.place new.store) (Rose (failures_of old.store) (failures_of new.store)) (reads_of old.store) was now)) × IsErr result × IfErr result (λ complaint. status_told complaint ≡ 1)
 Serves (requests.Info asked is_json) shown old new saw observed was now result = LooksOver old.store new.store (most_to_inform result (reads_of old.store)) (IsInfo (IsToldAt old.place new.store) (reads_of old.store) result) × IfErr result (λ complaint. status_told complaint ≡ 1)
+Serves (requests.Fold asked) shown old new saw observed was now result =
+    LooksOver old.store new.store (most_with result (most_to_read (reads_of old.store)) (reads_of old.store)) (IsFold (IsToldAt old.place new.store) old.place.base.now (reads_of old.store) result)
+    × IfErr result (λ complaint. status_told complaint ≡ 1)
+Serves (requests.Top asked ranking is_json) shown old new saw observed was now result =
+    LooksOver old.store new.store (most_with result (most_to_read (reads_of old.store)) (reads_of old.store)) (IsTop (IsToldAt old.place new.store) old.place.base.now (reads_of old.store) result)
+    × IfErr result (λ complaint. status_told complaint ≡ 1)
 Serves (requests.Wipe asked is_forced) shown old new saw observed was now result = (honest_of new.store → Clears (clearing_of is_forced) old.place old.store new.store was now result)
     × (honest_of new.store → IsNotToWipe (clearing_of is_forced) (reads_of old.store) → OnlyLooks old.store new.store) × (honest_of new.store → LeavesOnly clock_of moments_of old.store new.store (IsClearing (images_of old.store)))
 Serves (requests.Record asked) shown old new saw observed was now result = Records old.place (wanted old.place.kind (turn_of asked)) old.store new.store saw.remaining was now result

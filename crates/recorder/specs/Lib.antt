@@ -3,6 +3,7 @@ pub mod Live
 pub mod Telling
 pub mod Naming
 pub mod Informing
+pub mod Viewing
 pub mod Commands
 pub mod Following
 pub mod Sites

@@ -19,8 +19,10 @@ asked_in (requests.Record wanted) = wanted.asked
 asked_in (requests.Import wanted rules) = wanted.asked
 asked_in (requests.List asked is_pretty) = asked
 asked_in (requests.Export asked) = asked
+asked_in (requests.Fold asked) = asked
 asked_in (requests.Salvage asked form) = asked
 asked_in (requests.Info asked is_json) = asked
+asked_in (requests.Top asked ranking is_json) = asked
 asked_in (requests.Wipe asked is_forced) = asked
 
 -- files in the place of what is asked, by what was found of it; the store is over those of that place's names

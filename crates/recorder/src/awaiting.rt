@@ -2,7 +2,7 @@
 ghost use Rattle.std.specs.Prelude.{◌≡◌, IfErr};
 ghost use Rattle.trace_advice.specs.Complaints.{status_told};
 
-use crate::state::is_closed;
+use crate::state::is_open;
 use command_line::Asked;
 use std::alloc::AllocError;
 use std::io::ErrorKind;
@@ -17,12 +17,12 @@ use trace_places::{Place, Shown, find};
 /// Milliseconds between two looks.
 const PAUSE: u64 = 100;
 
-/// Whether each file of a place is closed or isn't there.
+/// Whether no file of a place is open.
 fn is_blank(rt: &HostRuntime, place: &Place<'_>) -> Result<bool, AllocError> {
     for file in 0..place.files() {
         let name = place.name(rt.alloc(), file)?;
-        match is_closed(rt, name.as_str()) {
-            Ok(true) => {}
+        match is_open(rt, name.as_str()) {
+            Ok(false) => {}
             Err(reason) if reason.kind() == ErrorKind::OutOfMemory => return Err(AllocError),
             _ => return Ok(false),
         }

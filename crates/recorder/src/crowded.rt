@@ -33,7 +33,8 @@ pub fn crowded(
     store: &FolderStore,
     refusal: Refusal,
 ) -> Result<Option<Complaint>, AllocError>
-    ensures crowded { IfOk result (λ found. IfSome found (TellsAt place.now store.now (faults.Refused refusal))) }
+    ensures crowded { IfOk result (λ found. IfSome found
+        (TellsAt place.now store.now (faults.Refused refusal))) }
     ensures none { IfOk result (λ found. found ≡ None → NotCrowded (fault_of store.now) refusal) }
 {
     let Some(fault) = store.last_fault() else {

@@ -9,6 +9,8 @@ pub enum Doing {
     Exporting(u64),
     /// So many entries are counted.
     Counting(u64),
+    /// Its entries are looked at by this command, and none is written.
+    Viewing(&'static str),
     /// It was read again, since another process writes it.
     ReadingAgain,
     Opening,
@@ -22,6 +24,7 @@ impl Doing {
         match self {
             Doing::Exporting(_) => "export",
             Doing::Counting(_) => "info",
+            Doing::Viewing(command) => command,
             Doing::Opening | Doing::Importing => "import",
             Doing::Listing { .. } | Doing::ReadingAgain | Doing::Other => "list",
         }

@@ -36,8 +36,8 @@ fn gathered(files: &Files<'_>, summary: TraceSummary) -> Result<Info, AllocError
 
 /// Reads a trace once.
 fn look_once(files: &mut Files<'_>) -> Result<Info, ReadFault>
-    ensures found { LooksOver files.old.store files.new.store (most_to_sum (reads_of files.old.store))
-        (IsGathered (reads_of files.old.store) result) }
+    ensures found { LooksOver files.old.store files.new.store
+        (most_to_sum (reads_of files.old.store)) (IsGathered (reads_of files.old.store) result) }
     ensures place { files.new.place ≡ files.old.place }
 {
     let summary = files.sum_up()?;
@@ -50,7 +50,8 @@ fn look_once(files: &mut Files<'_>) -> Result<Info, ReadFault>
 /// Reads a trace once, and where it isn't whole while another process writes it again, five times in all.
 fn look_over(files: &mut Files<'_>) -> Result<Info, ReadFault>
     ensures found { LooksOver files.old.store files.new.store
-        (most_to_gather result (reads_of files.old.store)) (IsGathered (reads_of files.old.store) result) }
+        (most_to_gather result (reads_of files.old.store))
+        (IsGathered (reads_of files.old.store) result) }
     ensures place { files.new.place ≡ files.old.place }
 {
     let mut made = 0;

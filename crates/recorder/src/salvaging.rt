@@ -59,11 +59,12 @@ pub fn salvage<W: Write, H: Host>(
     shown: &Shown,
     watched: &mut Watched<'_, W, H>,
 ) -> Result<(), Complaint>
-    ensures salvage { (out : Written) × IsWrittenAs form shown.now out × LooksOver files.old.store files.new.store (most_to_salvage (reads_of files.old.store))
-        (IfErr result
-        (IsSalvage out (IsToldAt files.old.place files.new.store)
-        (Rose (failures_of files.old.store) (failures_of files.new.store)) (reads_of files.old.store)
-        (W.contents watched.old.writer.now) (W.contents watched.new.writer.now))) }
+    ensures salvage { (out : Written) × IsWrittenAs form shown.now out
+        × LooksOver files.old.store files.new.store (most_to_salvage (reads_of files.old.store))
+        (IfErr result (IsSalvage out (IsToldAt files.old.place files.new.store)
+        (Rose (failures_of files.old.store) (failures_of files.new.store))
+        (reads_of files.old.store) (W.contents watched.old.writer.now)
+        (W.contents watched.new.writer.now))) }
     ensures never { IsErr result }
     ensures status { IfErr result (λ complaint. status_told complaint ≡ 1) }
 {

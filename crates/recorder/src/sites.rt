@@ -28,8 +28,14 @@ pub fn files_for<'a>(rt: &HostRuntime, request: &TraceRequest<'a>) -> Result<Fil
             is_pretty: _,
         }
         | TraceRequest::Export(asked)
+        | TraceRequest::Fold(asked)
         | TraceRequest::Salvage { asked, form: _ }
-        | TraceRequest::Info { asked, is_json: _ } => files_to_read(rt, *asked),
+        | TraceRequest::Info { asked, is_json: _ }
+        | TraceRequest::Top {
+            asked,
+            ranking: _,
+            is_json: _,
+        } => files_to_read(rt, *asked),
         TraceRequest::Wipe {
             asked,
             is_forced: _,

@@ -132,8 +132,10 @@ pub fn console_for(rt: &HostRuntime, request: &TraceRequest<'_>) -> Console
     match request {
         TraceRequest::List { .. } => beside_output(rt),
         TraceRequest::Export(_) => beside_output(rt),
+        TraceRequest::Fold(_) => beside_output(rt),
         TraceRequest::Salvage { .. } => beside_output(rt),
         TraceRequest::Info { .. } => beside_output(rt),
+        TraceRequest::Top { .. } => beside_output(rt),
         _ => Console::new(*rt, false),
     }
 }

@@ -9,8 +9,8 @@ use std::io::{self, ErrorKind, Write};
 /// The end of a line.
 const FEED: u8 = b'\n';
 
-/// Hands on what it is given, up to an empty line: that ends a listing, and isn't handed on itself. After it a write, and a flush, is
-/// refused.
+/// Hands on what it is given, up to an empty line: that ends a listing, and isn't handed on itself. After it a write, and a
+/// flush, is refused.
 #[derive(Drop)]
 pub struct EndWriter<W: Write> {
     pub out: W,
@@ -26,7 +26,10 @@ pub struct EndWriter<W: Write> {
 
 /// How many bytes come before the line feed of the first empty line; None where no empty line ends in these bytes.
 fn find_end(is_fresh: bool, bytes: &[u8]) -> Option<usize>
-    ensures { MatchOption result (has_empty is_fresh bytes.now ≡ false) (λ count. (count < length bytes.now) × (take count bytes.now ≡ before_empty is_fresh bytes.now) × (has_empty is_fresh bytes.now ≡ true)) }
+    ensures { MatchOption result (has_empty is_fresh bytes.now ≡ false)
+        (λ count. (count < length bytes.now)
+        × (take count bytes.now ≡ before_empty is_fresh bytes.now)
+        × (has_empty is_fresh bytes.now ≡ true)) }
 {
     let mut is_fresh = is_fresh;
     for (index, byte) in bytes.iter().enumerate() {
@@ -70,7 +73,8 @@ impl<W: Write> EndWriter<W> {
     fn end(&mut self)
         requires fresh { self.old.is_fresh ≡ true }
         requires goes_on { self.old.is_ended ≡ false }
-        ensures given { self.new.given ≡ record self.old.given { bytes = self.old.given.bytes ++ 10 ∷ [] } }
+        ensures given { self.new.given ≡ record self.old.given
+            { bytes = self.old.given.bytes ++ 10 ∷ [] } }
     {
         self.is_ended = true;
         self.given.note(&[FEED]);
@@ -81,7 +85,8 @@ impl<W: Write> EndWriter<W> {
         requires goes_on { self.old.is_ended ≡ false }
         requires none { has_empty self.old.is_fresh bytes.now ≡ false }
         ensures bound { WritesAtMost result bytes.now }
-        ensures ok { IfOk result (λ count. self.new.given ≡ record self.old.given { bytes = self.old.given.bytes ++ take count bytes.now }) }
+        ensures ok { IfOk result (λ count. self.new.given
+            ≡ record self.old.given { bytes = self.old.given.bytes ++ take count bytes.now }) }
         ensures err { OnErr result (self.new.given ≡ self.old.given) }
     {
         let count = self.out.write(bytes)?;
@@ -97,7 +102,8 @@ impl<W: Write> Write for EndWriter<W> {
 
     fn write(&mut self, bytes: &[u8]) -> io::Result<usize>
         ensures bound { WritesAtMost result bytes.now }
-        ensures bytes { WriteAppends (end_contents self.old.given.start self.old.given.bytes) (end_contents self.new.given.start self.new.given.bytes) result bytes.now }
+        ensures bytes { WriteAppends (end_contents self.old.given.start self.old.given.bytes)
+            (end_contents self.new.given.start self.new.given.bytes) result bytes.now }
         ensures ended { self.old.is_ended ≡ true → IsErr result }
     {
         if self.is_ended {
@@ -117,7 +123,8 @@ impl<W: Write> Write for EndWriter<W> {
     }
 
     fn flush(&mut self) -> io::Result<()>
-        ensures stay { Keeps (end_contents self.old.given.start self.old.given.bytes) (end_contents self.new.given.start self.new.given.bytes) }
+        ensures stay { Keeps (end_contents self.old.given.start self.old.given.bytes)
+            (end_contents self.new.given.start self.new.given.bytes) }
         ensures ended { self.old.is_ended ≡ true → IsErr result }
     {
         self.out.flush()?;

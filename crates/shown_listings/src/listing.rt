@@ -33,7 +33,8 @@ pub trait Listable {
         input: I,
         output: &mut W,
     ) -> (Result<(), Complaint>, Self::Left)
-        ensures { lists self shown.now (I.remaining input) result.1 result.0 (W.contents output.old) (W.contents output.new) };
+        ensures { lists self shown.now (I.remaining input) result.1 result.0 (W.contents output.old)
+            (W.contents output.new) };
 }
 
 impl<W: Output> Output for EndWriter<W> {
@@ -94,7 +95,8 @@ fn list_to_end<S: Listable, R: Wait, I: Read + Drop, W: Output>(
     input: I,
     output: &mut W,
 ) -> (Result<(), Complaint>, S::Left)
-    ensures { UpToEnd (S.lists listing shown.now (I.remaining input) result.1) result.0 (W.contents output.old) (W.contents output.new) }
+    ensures { UpToEnd (S.lists listing shown.now (I.remaining input) result.1) result.0
+        (W.contents output.old) (W.contents output.new) }
 {
     let mut lines = EndWriter::new(taken(alloc, output));
     let (done, left) = listing.list(waiter, shown, input, &mut lines);
@@ -113,7 +115,8 @@ fn list_shown<S: Listable, R: Wait, I: Read + Drop, W: Output>(
     input: I,
     output: &mut W,
 ) -> (Result<(), Complaint>, S::Left)
-    ensures { Shows shown.now (S.lists listing shown.now (I.remaining input) result.1) result.0 (W.contents output.old) (W.contents output.new) }
+    ensures { Shows shown.now (S.lists listing shown.now (I.remaining input) result.1) result.0
+        (W.contents output.old) (W.contents output.new) }
 {
     if may_end(&shown.choice) {
         list_to_end(alloc, waiter, listing, shown, input, output)
@@ -131,7 +134,8 @@ pub fn show<S: Listable, R: Wait, I: Read + Drop, W: Output>(
     input: I,
     output: &mut W,
 ) -> (Result<(), Complaint>, S::Left)
-    ensures { Shows shown (S.lists listing shown (I.remaining input) result.1) result.0 (W.contents output.old) (W.contents output.new) }
+    ensures { Shows shown (S.lists listing shown (I.remaining input) result.1) result.0
+        (W.contents output.old) (W.contents output.new) }
 {
     let is_on = shown.is_plain && rt.stderr().is_terminal();
     let counted = Counted::new(rt, listing, is_on);

@@ -59,7 +59,8 @@ fn assert_receipt(rt: &impl Abort, receipt: &Receipt) {
     }
 }
 
-/// Records the first of what waits. Where that is refused memory, the tracee comes back as it was, and the trace ends without entries.
+/// Records the first of what waits. Where that is refused memory, the tracee comes back as it was, and the trace ends without
+/// entries.
 fn recorded(
     rt: &impl Abort,
     alloc: Global,

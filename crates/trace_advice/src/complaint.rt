@@ -327,6 +327,10 @@ pub enum Complaint {
     },
     /// What is written isn't the trace.
     Salvaged(Salvage),
+    /// It has more functions, processes or stacks of calls than are counted.
+    TooManyRows {
+        name: String,
+    },
 }
 
 /// What is told of a trace of which a sync failed.
@@ -441,6 +445,7 @@ impl fmt::Display for Complaint {
                 write!(f, "{name} can't be removed: {reason}")
             }
             Complaint::Salvaged(salvage) => write!(f, "{salvage}"),
+            Complaint::TooManyRows { name } => tell_too_many_rows(f, name.as_str()),
         }
     }
 }
@@ -467,6 +472,17 @@ fn tell_too_many<W: fmt::Write>(
     write!(
         f,
         "the files of the trace are open at once, {files} of them: ulimit -n {limit} lets them"
+    )
+}
+
+fn tell_too_many_rows<W: fmt::Write>(f: &mut fmt::Formatter<W>, name: &str) -> fmt::Result {
+    let name = Shown(name);
+    write!(
+        f,
+        "{name} has more functions, processes or stacks of calls than are counted\n"
+    )?;
+    f.write_str(
+        "list --json shows its messages, with --mfa those of one module, with --pid those of one process",
     )
 }
 

@@ -1,0 +1,108 @@
+"""Cases of `export --as folded`. The lines that are expected are worked out by hand, by the text of docs/FORMATS.md."""
+
+import subprocess
+
+from cases import group, stored
+from entries import drop
+from importing import TRACES, stream_of
+from program import PATIENCE, Outcome, same
+from telling import damaged
+from terms import short_atom
+from top import MIXED, call, fails, pid_text, returns, sends, stored_as, told_at, told_rows, top
+
+CASES, case = group()
+
+ONE, TWO = pid_text(1), pid_text(2)
+
+FOLDED = ("export", "--as", "folded")
+
+
+def folded(program, *entries):
+    """The lines of the stacks of a trace of these entries."""
+    stored_as(program, entries)
+    said = program.good(*FOLDED, "t").decode()
+    program.good("wipe", "t")
+    return said.splitlines()
+
+
+@case
+def a_stack_has_the_time_in_which_its_innermost_function_ran(program):
+    nested = (call(1, "f", 10), call(1, "g", 20), returns(1, "g", 50), returns(1, "f", 100))
+    same(folded(program, *nested), [f"{ONE};m:f/2 60", f"{ONE};m:f/2;m:g/2 30"])
+    # each way to a function is a stack of its own
+    again = (call(1, "g", 200), returns(1, "g", 205), call(1, "f", 300), call(1, "g", 310), fails(1, "g", 311), fails(1, "f", 315))
+    same(folded(program, *nested, *again), [f"{ONE};m:f/2 74", f"{ONE};m:f/2;m:g/2 31", f"{ONE};m:g/2 5"])
+    # of a function that calls itself
+    same(folded(program, call(1, "f", 10), call(1, "f", 60), returns(1, "f", 70), returns(1, "f", 100)), [f"{ONE};m:f/2 80", f"{ONE};m:f/2;m:f/2 10"])
+    # of two processes
+    same(folded(program, call(1, "f", 10), call(2, "f", 15), returns(2, "f", 25), returns(1, "f", 60)), [f"{ONE};m:f/2 50", f"{TWO};m:f/2 10"])
+
+
+@case
+def a_call_is_over_with_the_one_that_it_is_within(program):
+    # the end of a tail call isn't told
+    same(folded(program, call(1, "f", 0), call(1, "g", 10), returns(1, "f", 40), call(1, "g", 50), returns(1, "g", 57)), [f"{ONE};m:f/2 10", f"{ONE};m:f/2;m:g/2 30", f"{ONE};m:g/2 7"])
+    # a process that exits has no more open calls
+    exits = told_at(1, "exit", short_atom("normal"), at=30)
+    same(folded(program, call(1, "f", 0), exits, call(1, "g", 50), returns(1, "g", 57)), [f"{ONE};m:f/2 30", f"{ONE};m:g/2 7"])
+
+
+@case
+def without_times_a_stack_has_its_calls(program):
+    calls = (call(1, "f"), call(1, "g"), returns(1, "g"), call(1, "g"), returns(1, "g"), returns(1, "f"), drop(3), sends(1), call(2, "g"))
+    same(folded(program, *calls), [f"{ONE};m:f/2 1", f"{ONE};m:f/2;m:g/2 2", f"{TWO};m:g/2 1"])
+    same(folded(program, sends(1), drop(1)), [])
+
+
+@case
+def stacks_sum_to_the_times_of_a_table(program):
+    entries = []
+    for at in range(0, 100_000, 1_000):
+        entries += [call(1, "f", at), call(1, "g", at + 7), returns(1, "g", at + 307), call(1, "h", at + 310), fails(1, "h", at + 400), returns(1, "f", at + 900)]
+    stored_as(program, entries)
+    numbers = [int(line.rsplit(" ", 1)[1]) for line in program.good(*FOLDED, "t").decode().splitlines()]
+    rows = told_rows(top(program, "t"), "function")
+    same(sum(numbers) * 1_000, rows["m:f/2"]["total"])
+    same(sorted(numbers), sorted((rows["m:g/2"]["total"] // 1_000, rows["m:h/2"]["total"] // 1_000, 100 * (900 - 300 - 90))))
+
+
+@case
+def what_otp_traced_has_stacks(program):
+    for name in TRACES:
+        program.good("import", "t", stdin=stream_of(name))
+        rows = told_rows(top(program, "t", "--limit", "100000"), "function")
+        for line in program.good(*FOLDED, "t").decode().splitlines():
+            stack, number = line.rsplit(" ", 1)
+            assert int(number) >= 0 and stack.split(";")[-1] in rows, (name, line)
+        program.good("wipe", "t")
+
+
+@case
+def an_export_is_a_stream_unless_it_says_folded(program):
+    entries = stored_as(program, MIXED)
+    same(program.good("export", "t", "--as", "stream"), b"".join(entries))
+    same(program.good("export", "t"), b"".join(entries))
+    for words in (("--as", "perfetto"), ("--as",), ("--as", "folded", "--salvage")):
+        outcome = program.run("export", "t", *words)
+        same((words, outcome.status, outcome.output), (words, 2, b""))
+        assert outcome.errors.startswith(b"error: "), outcome
+
+
+@case
+def a_trace_that_is_refused_has_no_stacks(program):
+    data, place = damaged(call(1, "f"), drop(1), call(1, "g"))
+    (program.folder / "t").write_bytes(data)
+    says = f"dbgrec: refused 1 Damaged file 0 at {place}\nt is damaged there: list shows the entries before it, wipe clears the trace"
+    program.refused(*FOLDED, "t", says=says)
+    said = program.run("export", "nosuch")
+    same(program.run(*FOLDED, "nosuch"), Outcome(1, b"", said.errors))
+    same(sorted(stored(program.folder)), ["t"])
+
+
+@case
+def stacks_that_cannot_be_written_are_told(program):
+    stored_as(program, [call(1, "f", 1), returns(1, "f", 2)])
+    with open("/dev/full", "wb") as full:
+        ran = subprocess.run([program.path, *FOLDED, "t"], cwd=program.folder, stdin=subprocess.DEVNULL, stdout=full, stderr=subprocess.PIPE, timeout=PATIENCE, check=False)
+    why = b"standard output can't be written: No space left on device (os error 28)\n"
+    same((ran.returncode, ran.stderr), (1, b"dbgrec: refused 2 Write\n" + why))

@@ -1,0 +1,537 @@
+"""Cases of `top`. What is to be counted is counted here, of the terms that the entries spell, by the text of
+docs/FORMATS.md."""
+
+import dataclasses
+import json
+import struct
+import subprocess
+
+from cases import STREAMS, group, stored
+from choosing import told_by
+from entries import drop, fragments, joined, kept, message, split
+from importing import TRACES, stream_of
+from program import PATIENCE, Outcome, same
+from segments import FILE_HEADER, segment, wrap_header
+from telling import damaged
+from terms import AnyReader, Unread, short_atom
+
+CASES, case = group()
+
+WRAP = ("--kind", "wrap")
+
+# the most calls of a process that are open
+MOST_OPEN = 1_000
+
+
+# ---- messages
+
+
+def pid(number):
+    """A process of the node n@h."""
+    return b"\x58" + short_atom("n@h") + struct.pack(">III", number, 0, 1)
+
+
+def pid_text(number):
+    return f"<n@h.{number}.0.1>"
+
+
+def whole(value):
+    """An integer of at most 64 bits."""
+    return b"\x6e\x08" + bytes([value < 0]) + struct.pack("<Q", abs(value))
+
+
+def stamp(micros):
+    """The time {Mega,Sec,Micro}."""
+    seconds, micro = divmod(micros, 1_000_000)
+    return b"\x68\x03" + b"".join(map(whole, (*divmod(seconds, 1_000_000), micro)))
+
+
+def told_at(number, word, *members, at=None):
+    """The entry of a trace message of a process, at a time in microseconds where one is told."""
+    parts = [short_atom("trace" if at is None else "trace_ts"), pid(number), short_atom(word), *members]
+    if at is not None:
+        parts.append(stamp(at))
+    return message(b"\x83\x68" + bytes([len(parts)]) + b"".join(parts))
+
+
+def function(name, last):
+    """{m,NAME,LAST}."""
+    return b"\x68\x03" + short_atom("m") + short_atom(name) + last
+
+
+def call(number, name, at=None):
+    """A call of m:NAME/2 with its arguments."""
+    return told_at(number, "call", function(name, b"\x6b\x00\x02\x07\x08"), at=at)
+
+
+def returns(number, name, at=None):
+    return told_at(number, "return_from", function(name, b"\x61\x02"), short_atom("ok"), at=at)
+
+
+def fails(number, name, at=None):
+    reason = b"\x68\x02" + short_atom("error") + short_atom("badarg")
+    return told_at(number, "exception_from", function(name, b"\x61\x02"), reason, at=at)
+
+
+def sends(number, at=None, word="send", what=b"\x61\x07"):
+    return told_at(number, word, what, pid(99), at=at)
+
+
+def receives(number, at=None, what=b"\x61\x07"):
+    return told_at(number, "receive", what, at=at)
+
+
+# ---- the count
+
+
+@dataclasses.dataclass
+class Function:
+    calls: int = 0
+    returns: int = 0
+    exceptions: int = 0
+    times: list = dataclasses.field(default_factory=list)
+
+
+@dataclasses.dataclass
+class Process:
+    calls: int = 0
+    sent: int = 0
+    received: int = 0
+
+
+def exported(entries):
+    """The entries of an export: a long message is one again, and a part counts as a lost message."""
+    found = {"entry": lambda entry: entry, "message": message, "part": lambda _: drop(1)}
+    return [found[word](what) for _, word, what in joined(entries)]
+
+
+def time_of(entry):
+    """The nanoseconds of a message's time stamp, None where it has none."""
+    sort, parts = AnyReader(entry[5:]).whole()
+    if sort != "tuple" or len(parts) < 3 or parts[0] != ("atom", "trace_ts"):
+        return None
+    sort, value = parts[-1]
+    if sort == "int":
+        return value
+    if sort != "tuple" or [sort for sort, _ in value] not in (["int"] * 2, ["int"] * 3):
+        return None
+    numbers = [number for _, number in value]
+    if len(numbers) == 2:
+        return numbers[0]
+    mega, seconds, micros = numbers
+    return ((mega * 1_000_000 + seconds) * 1_000_000 + micros) * 1_000
+
+
+class Count:
+    """What is counted of the entries of an export."""
+
+    def __init__(self, entries):
+        self.functions, self.processes, self.kinds = {}, {}, {}
+        self.messages = self.unread = self.lost = 0
+        self.open, self.moments = {}, []
+        for entry in exported(entries):
+            self.take(entry)
+
+    def take(self, entry):
+        if entry[0] == 1:
+            self.lost += struct.unpack(">I", entry[1:])[0]
+            return
+        self.messages += 1
+        try:
+            AnyReader(entry[5:]).whole()
+        except Unread:
+            self.unread += 1
+            return
+        told, time = told_by(entry), time_of(entry)
+        self.kinds[told.kind] = self.kinds.get(told.kind, 0) + 1
+        self.moments += [] if time is None else [time]
+        if told.kind in ("call", "send", "send_lost", "receive"):
+            process = self.processes.setdefault(told.process, Process())
+            process.calls += told.kind == "call"
+            process.sent += told.kind in ("send", "send_lost")
+            process.received += told.kind == "receive"
+        if told.kind == "exit":
+            self.open.pop(told.process, None)
+        if told.kind in ("call", "return", "exception"):
+            self.take_of_function(told, time)
+
+    def take_of_function(self, told, time):
+        module, name, arity = told.function
+        text = f"{module}:{name}" if arity is None or arity < 0 else f"{module}:{name}/{arity}"
+        row = self.functions.setdefault(text, Function())
+        calls = self.open.setdefault(told.process, [])
+        if told.kind == "call":
+            row.calls += 1
+            calls.append((text, time))
+            del calls[:-MOST_OPEN]
+            return
+        row.returns += told.kind == "return"
+        row.exceptions += told.kind == "exception"
+        places = [place for place, (called, _) in enumerate(calls) if called == text]
+        if places:
+            began = calls[places[-1]][1]
+            del calls[places[-1] :]
+            if None not in (began, time):
+                row.times.append(max(0, time - began))
+
+    def open_of(self, function):
+        return sum(called == function for calls in self.open.values() for called, _ in calls)
+
+    def rows(self, by):
+        """All rows by their names, each with its numbers."""
+        if by == "function":
+            return {name: numbers_of(row) | {"open": self.open_of(name)} for name, row in self.functions.items()}
+        return {name: vars(row) for name, row in self.processes.items()} if by == "process" else {name: {"count": count} for name, count in self.kinds.items()}
+
+    def summary(self):
+        """What is told of all messages."""
+        moments = self.moments or [None]
+        return {"messages": self.messages, "unread": self.unread, "lost": self.lost, "from": moments[0], "to": moments[-1]}
+
+
+def numbers_of(row):
+    """The numbers of a function, by their names in an object."""
+    total = sum(row.times)
+    times = {"total": total, "mean": total // len(row.times), "longest": max(row.times)} if row.times else dict.fromkeys(("total", "mean", "longest"))
+    return {"calls": row.calls, "returns": row.returns, "exceptions": row.exceptions} | times
+
+
+# ---- what is told
+
+
+def micros(*values):
+    """Times in nanoseconds."""
+    return [value * 1_000 for value in values]
+
+
+def told_rows(said, by):
+    """The rows of an object, by their names."""
+    return {row[by]: {name: value for name, value in row.items() if name != by} for row in said["rows"]}
+
+
+def top(program, *words):
+    """The object of a table, which stands on one line."""
+    said = program.good("top", "--json", *words)
+    same((said.count(b"\n"), said[-1:]), (1, b"\n"))
+    return json.loads(said)
+
+
+def check(program, name, entries, *words):
+    """Fails unless each table has the rows that are counted here."""
+    count = Count(entries)
+    for by in ("function", "process", "kind"):
+        said = top(program, name, *words, "--by", by, "--limit", "100000")
+        same((name, by, told_rows(said, by)), (name, by, count.rows(by)))
+        same({word: value for word, value in said.items() if word != "rows"}, {"by": by} | count.summary())
+    return count
+
+
+def stored_as(program, entries, name="t"):
+    """Records entries in a file."""
+    program.good("import", name, stdin=b"".join(entries))
+    return entries
+
+
+F, G = "m:f/2", "m:g/2"
+
+
+def times_of(program, *entries):
+    """The times that each function has, of a trace of these entries: in all, the mean, the longest; and the calls that are open."""
+    stored_as(program, entries)
+    check(program, "t", entries)
+    said = told_rows(top(program, "t"), "function")
+    program.good("wipe", "t")
+    return {name: (row["total"], row["mean"], row["longest"], row["open"]) for name, row in said.items()}
+
+
+NO_TIME = (None, None, None)
+
+
+@case
+def the_time_of_a_call_is_that_until_its_return(program):
+    found = times_of(program, call(1, "f", 10), call(1, "g", 20), returns(1, "g", 50), returns(1, "f", 100))
+    same(found, {F: (*micros(90, 90, 90), 0), G: (*micros(30, 30, 30), 0)})
+    # of a function that calls itself each call counts
+    found = times_of(program, call(1, "f", 10), call(1, "f", 60), returns(1, "f", 70), returns(1, "f", 100))
+    same(found, {F: (*micros(100, 50, 90), 0)})
+    # an exception ends a call too
+    found = times_of(program, call(1, "f", 10), call(1, "g", 20), fails(1, "g", 25), fails(1, "f", 26))
+    same(found, {F: (*micros(16, 16, 16), 0), G: (*micros(5, 5, 5), 0)})
+    # another process has calls of its own
+    found = times_of(program, call(1, "f", 10), call(2, "f", 15), returns(2, "f", 25), returns(1, "f", 60))
+    same(found, {F: (*micros(60, 30, 50), 0)})
+    # one that hasn't ended is open
+    found = times_of(program, call(1, "f", 10), call(2, "f", 15), call(2, "g", 16), returns(1, "f", 60))
+    same(found, {F: (*micros(50, 50, 50), 1), G: (*NO_TIME, 1)})
+
+
+@case
+def a_call_whose_end_is_not_told_has_no_time(program):
+    # a tail call: the end of f is told, and that of g isn't
+    tail = (call(1, "f", 0), call(1, "g", 10), returns(1, "f", 40))
+    same(times_of(program, *tail), {F: (*micros(40, 40, 40), 0), G: (*NO_TIME, 0)})
+    # g isn't open any more
+    same(times_of(program, *tail, returns(1, "g", 50)), {F: (*micros(40, 40, 40), 0), G: (*NO_TIME, 0)})
+    same(times_of(program, returns(1, "f", 40), fails(1, "g", 50)), {F: (*NO_TIME, 0), G: (*NO_TIME, 0)})
+    # the calls of a process that exits have no end
+    exits = told_at(1, "exit", short_atom("normal"), at=30)
+    same(times_of(program, call(1, "f", 0), exits, returns(1, "f", 40)), {F: (*NO_TIME, 0)})
+    # one of the two has no time stamp
+    same(times_of(program, call(1, "f"), returns(1, "f", 40)), {F: (*NO_TIME, 0)})
+    same(times_of(program, call(1, "f", 7), returns(1, "f")), {F: (*NO_TIME, 0)})
+    # a clock that was set back
+    same(times_of(program, call(1, "f", 40), returns(1, "f", 7)), {F: (0, 0, 0, 0)})
+
+
+@case
+def of_a_thousand_open_calls_the_oldest_is_forgotten(program):
+    many = MOST_OPEN + 1
+    calls, ends = [call(1, "f", at) for at in range(many)], [returns(1, "f", many + at) for at in range(many)]
+    same(times_of(program, *calls), {F: (*NO_TIME, MOST_OPEN)})
+    # the newest takes one microsecond, each before it two more, and the oldest has no time
+    same(times_of(program, *calls, *ends), {F: (*micros(MOST_OPEN**2, MOST_OPEN, 2 * MOST_OPEN - 1), 0)})
+
+
+@case
+def monotonic_times_are_nanoseconds(program):
+    def at(number, word, time, *members):
+        parts = [short_atom("trace_ts"), pid(number), short_atom(word), *members, time]
+        return message(b"\x83\x68" + bytes([len(parts)]) + b"".join(parts))
+
+    def unique(value):
+        return b"\x68\x02" + whole(value) + b"\x61\x01"
+
+    of_f, ok = function("f", b"\x61\x02"), short_atom("ok")
+    found = times_of(program, at(1, "call", whole(-5), of_f), at(1, "return_from", whole(12), of_f, ok))
+    same(found, {F: (17, 17, 17, 0)})
+    found = times_of(program, at(1, "call", unique(2**40), of_f), at(1, "return_from", unique(2**40 + 3), of_f, ok))
+    same(found, {F: (3, 3, 3, 0)})
+
+
+@case
+def what_a_process_sends_and_receives_is_counted(program):
+    lost = sends(2, word="send_to_non_existing_process")
+    entries = [sends(1), sends(1, at=5), receives(1), lost, call(2, "f"), drop(3), message(b"x"), message(b"\x83\x61"), receives(3)]
+    stored_as(program, entries)
+    count = check(program, "t", entries)
+    same((count.messages, count.unread, count.lost), (8, 2, 3))
+    same(count.processes, {pid_text(1): Process(0, 2, 1), pid_text(2): Process(1, 1, 0), pid_text(3): Process(0, 0, 1)})
+    same(count.kinds, {"send": 2, "receive": 2, "send_lost": 1, "call": 1})
+
+
+@case
+def a_long_message_is_counted_once_and_its_parts_are_lost(program):
+    long = call(1, "f")[5:].replace(b"\x6b\x00\x02\x07\x08", b"\x6c\x00\x00\x00\x01\x6d" + struct.pack(">I", 90_000) + bytes(90_000) + b"\x6a")
+    entries = [sends(1), message(long), receives(1)]
+    program.good("import", "t", stdin=b"".join(entries))
+    count = check(program, "t", kept(b"".join(entries)))
+    same((count.messages, count.lost, list(count.functions)), (3, 0, ["m:f/1"]))
+    first, second = fragments(long)
+    (program.folder / "part").write_bytes(segment(FILE_HEADER, first, sends(1)))
+    count = check(program, "part", [first, sends(1)])
+    same((count.messages, count.lost), (1, 1))
+    (program.folder / "w1").write_bytes(segment(wrap_header(1, before=2), sends(1) + second))
+    (program.folder / "w2").write_bytes(segment(wrap_header(2, before=4), sends(2)))
+    same(check(program, "w", [sends(1), second, sends(2)]).lost, 1)
+
+
+@case
+def what_otp_traced_is_counted(program):
+    for name in TRACES:
+        stream = stream_of(name)
+        program.good("import", name, stdin=stream)
+        check(program, name, kept(stream))
+        program.good("import", f"{name}-wrap", *WRAP, "--size", "2000", "--count", "3", stdin=stream)
+        check(program, f"{name}-wrap", split(program.good("export", f"{name}-wrap")))
+
+
+@case
+def a_table_counts_the_messages_of_a_listing(program):
+    for name in TRACES:
+        program.good("import", name, stdin=stream_of(name))
+        listed = [json.loads(line) for line in program.good("list", "--json", name).splitlines()]
+        kinds = [line["kind"] for line in listed if line["kind"] not in ("drop", "opaque", "part", "end_of_trace")]
+        said = told_rows(top(program, name, "--by", "kind", "--limit", "100"), "kind")
+        same(said, {kind: {"count": kinds.count(kind)} for kind in kinds})
+        calls = [line["mfa"] for line in listed if line["kind"] == "call"]
+        said = told_rows(top(program, name, "--limit", "100000"), "function")
+        same({name: row["calls"] for name, row in said.items() if row["calls"]}, {name: calls.count(name) for name in calls})
+
+
+# ---- order, limit and text
+
+# the column by which each word puts functions in order
+COLUMNS = {"count": "calls", "exceptions": "exceptions", "total": "total", "mean": "mean", "longest": "longest"}
+
+FIRST = {"process": "calls", "kind": "count"}
+
+MIXED = [
+    *(call(1, "f", 10), call(1, "g", 20), fails(1, "g", 25), returns(1, "f", 3_000_100)),
+    *(call(2, "g", 4_000_000), returns(2, "g", 4_000_007), call(3, "h", 4_000_010), sends(2, 4_000_011), drop(2)),
+]
+
+
+def ordered(rows, column):
+    """The names of rows in the order of a column, the greatest first, and then of their texts."""
+    return sorted(rows, key=lambda name: (-(rows[name][column] or 0), name.encode()))
+
+
+def seconds(nanoseconds):
+    return "-" if nanoseconds is None else f"{nanoseconds // 10**9}.{nanoseconds // 1_000 % 10**6:06}"
+
+
+def lines_of(count, by, names, more=0):
+    """The words of the lines of a table with the rows of these names."""
+    has_times = bool(count.moments)
+    columns = {"function": ["calls", "exceptions", *(["total", "mean", "longest"] if has_times else []), "open"], "process": ["calls", "sent", "received"], "kind": ["count"]}[by]
+    yield [*columns, by]
+    for name in names:
+        row = count.rows(by)[name]
+        yield [*(seconds(row[column]) if column in ("total", "mean", "longest") else str(row[column]) for column in columns), name]
+    if more:
+        yield f".. and {more} more".split()
+    if by == "function" and not has_times:
+        yield "no times: trace with the flag timestamp or monotonic_timestamp to have them".split()
+    said = f"{count.messages} messages" + (f", {count.unread} unread" if count.unread else "") + (f", {count.lost} lost" if count.lost else "")
+    yield (said + (f", over {seconds(max(0, count.moments[-1] - count.moments[0]))} seconds" if has_times else "")).split()
+
+
+@case
+def rows_are_in_the_order_that_is_asked_for(program):
+    for name, stream in (("t", b"".join(MIXED)), *((name, stream_of(name)) for name in TRACES)):
+        program.good("import", name, stdin=stream)
+        count = Count(kept(stream))
+        for by in ("function", "process", "kind"):
+            for words, column in (((), "total" if count.moments else "calls"), *((("--sort", word), column) for word, column in COLUMNS.items())):
+                said = top(program, name, "--by", by, *words, "--limit", "100000")
+                same((name, by, words, [row[by] for row in said["rows"]]), (name, by, words, ordered(count.rows(by), FIRST.get(by, column))))
+
+
+@case
+def a_limit_shows_the_first_rows(program):
+    count = Count(stored_as(program, MIXED))
+    names = ordered(count.rows("function"), "total")
+    same(names, ["m:f/2", "m:g/2", "m:h/2"])
+    for limit in (0, 1, 2, 3, 4, 2**32 - 1):
+        said = top(program, "t", "--limit", str(limit))
+        same([row["function"] for row in said["rows"]], names[:limit])
+        same(said["messages"], 8)
+        lines = [line.split() for line in program.good("top", "t", f"--limit={limit}").decode().splitlines()]
+        same((limit, lines), (limit, list(lines_of(count, "function", names[:limit], max(0, 3 - limit)))))
+    entries = [call(1, f"f{number}") for number in range(30)]
+    stored_as(program, entries, "many")
+    same(len(top(program, "many")["rows"]), 20)
+
+
+@case
+def each_row_is_a_line_with_its_numbers(program):
+    stored_as(program, MIXED)
+    said = program.good("top", "t").decode().splitlines()
+    same([line.split() for line in said[1:4]], [
+        ["1", "0", "3.000090", "3.000090", "3.000090", "0", "m:f/2"],
+        ["2", "1", "0.000012", "0.000006", "0.000007", "0", "m:g/2"],
+        ["1", "0", "-", "-", "-", "1", "m:h/2"],
+    ])
+    same(said[4:], ["8 messages, 2 lost, over 4.000001 seconds"])
+    # each number stands under the end of its column's name
+    for line in said[1:4]:
+        same(line[: said[0].index("  function")][-1], line.split("  m:")[0][-1])
+        same(line.index("m:"), said[0].index("function"))
+    for name in TRACES:
+        entries = kept(stream_of(name))
+        program.good("import", name, stdin=stream_of(name))
+        count = Count(entries)
+        for by in ("function", "process", "kind"):
+            column = FIRST.get(by, "total" if count.moments else "calls")
+            lines = [line.split() for line in program.good("top", name, "--by", by, "--limit", "9").decode().splitlines()]
+            names = ordered(count.rows(by), column)
+            same((name, by, lines), (name, by, list(lines_of(count, by, names[:9], max(0, len(names) - 9)))))
+
+
+# ---- traces that are written, cleared, refused or not there
+
+
+@case
+def a_trace_is_counted_while_it_is_written_and_stays_as_it_is(program):
+    for kind in ((), WRAP):
+        with program.start("import", "t", "--keep-open", "--flush", "always", *kind) as importer:
+            same(importer.opens(), "created")
+            importer.write(call(1, "f", 5) + drop(2))
+            while b"entries: 2 (0 to 1)" not in program.good("info", "t"):
+                pass
+            before = stored(program.folder)
+            check(program, "t", [call(1, "f", 5), drop(2)])
+            same(stored(program.folder), before)
+            same(importer.end().output, b"kept 2\n")
+        program.good("wipe", "t")
+        said = top(program, "t")
+        same(said, {"by": "function", "rows": []} | Count([]).summary())
+        same(program.good("top", "t").decode().splitlines()[-1], "0 messages")
+        for file in list(program.folder.glob("t*")):
+            file.unlink()
+
+
+@case
+def a_wrap_is_counted_as_far_as_it_is_kept(program):
+    entries = [call(number % 3, f"f{number % 4}", number) for number in range(60)] + [drop(4)] + [returns(number, "f1", 90) for number in range(3)]
+    program.good("import", "t", *WRAP, "--size", "600", "--count", "2", "--suffix", ".bin", stdin=b"".join(entries))
+    left = split(program.good("export", "t", "--suffix", ".bin"))
+    assert 5 < len(left) < 40 and left == entries[-len(left) :], len(left)
+    check(program, "t", left, "--suffix", ".bin", "--kind", "wrap", "--count", "2")
+    says = "dbgrec: t: --count is 3, and the trace's is 2"
+    program.refused("top", "t", "--suffix", ".bin", "--count", "3", says=says)
+
+
+@case
+def a_trace_that_is_refused_has_no_table(program):
+    data, place = damaged(call(1, "f"), drop(1), call(1, "g"))
+    (program.folder / "t").write_bytes(data)
+    says = f"dbgrec: refused 1 Damaged file 0 at {place}\nt is damaged there: list shows the entries before it, wipe clears the trace"
+    for words in ((), ("--json",), ("--by", "kind")):
+        program.refused("top", "t", *words, says=says)
+    (program.folder / "w1").write_bytes(segment(wrap_header(1, before=2), drop(1) + drop(1)))
+    (program.folder / "w2").write_bytes(segment(wrap_header(2, before=4, size=99), drop(1)))
+    program.refused("top", "w", says="dbgrec: refused 2 Mixed\nw1 and w2 don't belong together: list --salvage shows each")
+    same(sorted(stored(program.folder)), ["t", "w1", "w2"])
+
+
+@case
+def what_is_no_trace_is_refused_by_top_as_by_list(program):
+    (program.folder / "text").write_bytes(b"important text\n")
+    (program.folder / "none").write_bytes(b"")
+    (program.folder / "stream").write_bytes((STREAMS / "plain.trc").read_bytes())
+    for name in ("text", "none", "stream", "nosuch"):
+        for words in ((name,), (name, "--json")):
+            said = program.run("list", name)
+            same(said.status, 1)
+            same(program.run("top", *words), Outcome(1, b"", said.errors))
+
+
+@case
+def a_word_that_top_does_not_know_is_refused(program):
+    stored_as(program, MIXED)
+    for words in (("--by", "module"), ("--by", ""), ("--sort", "size"), ("--limit", "x"), ("--limit", "4294967296"), ("--limit=-1",), ("--count", "0"), ("--mfa", "m"), ("x",)):
+        outcome = program.run("top", "t", *words)
+        same((words, outcome.status, outcome.output), (words, 2, b""))
+        assert outcome.errors.startswith(b"error: "), outcome
+    same((program.run("top").status, program.run("top").output), (2, b""))
+
+
+@case
+def a_table_that_cannot_be_written_is_told(program):
+    stored_as(program, MIXED)
+    for words in ((), ("--json",), ("--by", "process")):
+        with open("/dev/full", "wb") as full:
+            ran = subprocess.run([program.path, "top", "t", *words], cwd=program.folder, stdin=subprocess.DEVNULL, stdout=full, stderr=subprocess.PIPE, timeout=PATIENCE, check=False)
+        why = b"standard output can't be written: No space left on device (os error 28)\n"
+        same((ran.returncode, ran.stderr), (1, b"dbgrec: refused 2 Write\n" + why))
+
+
+@case
+def a_long_trace_is_counted_in_little_memory(program):
+    entry = call(1, "f") + returns(1, "f")
+    (program.folder / "t").write_bytes(segment(FILE_HEADER, *[entry * 1_000] * 200))
+    small = ("bash", "-c", 'ulimit -v 24000; exec "$@"', "bash")
+    outcome = program.run("top", "t", "--json", before=small)
+    same((outcome.status, outcome.errors), (0, b""))
+    same(told_rows(json.loads(outcome.output), "function"), {F: {"calls": 200_000, "returns": 200_000, "exceptions": 0, "open": 0} | dict.fromkeys(("total", "mean", "longest"))})
