@@ -33,44 +33,44 @@ CHANGES = {
 
 # who makes a store over files, or a mark, by the names of a trace's place; the first and the last store are only read
 STORES = {
-    ("recorder/src/awaiting.rt", "is_own"): ["FolderStore::over"],
-    ("recorder/src/files.rt", "at"): ["FolderStore::over"],
-    ("recorder/src/files.rt", "has_failed"): ["FailureMark::new"],
-    ("recorder/src/files.rt", "remove_mark"): ["FailureMark::new"],
-    ("recorder/src/files.rt", "locked_at"): ["Files::at"],
-    ("recorder/src/serving.rt", "files_to_follow"): ["files_for"],
-    ("recorder/src/serving.rt", "list_files"): ["files_for"],
-    ("recorder/src/serving.rt", "serve_files"): ["files_for"],
-    ("recorder/src/sites.rt", "files_to_read"): ["Files::at"],
-    ("recorder/src/sites.rt", "files_to_wipe"): ["Files::locked_at"],
-    ("recorder/src/sites.rt", "files_to_write"): ["Files::locked_at"],
+    ("commands/src/awaiting.rt", "is_own"): ["FolderStore::over"],
+    ("commands/src/files.rt", "at"): ["FolderStore::over"],
+    ("commands/src/files.rt", "has_failed"): ["FailureMark::new"],
+    ("commands/src/files.rt", "remove_mark"): ["FailureMark::new"],
+    ("commands/src/files.rt", "locked_at"): ["Files::at"],
+    ("commands/src/serving.rt", "files_to_follow"): ["files_for"],
+    ("commands/src/serving.rt", "list_files"): ["files_for"],
+    ("commands/src/serving.rt", "serve_files"): ["files_for"],
+    ("commands/src/sites.rt", "files_to_read"): ["Files::at"],
+    ("commands/src/sites.rt", "files_to_wipe"): ["Files::locked_at"],
+    ("commands/src/sites.rt", "files_to_write"): ["Files::locked_at"],
     ("stores/src/named_files.rt", "marks_failures_at"): ["FailureMark::new"],
-    ("trace_places/src/lookup.rt", "header_in"): ["FolderStore::over"],
+    ("trace_lookup/src/lookup.rt", "header_in"): ["FolderStore::over"],
 }
 
 # who only looks
 LOOKS = {
-    ("recorder/src/state.rt", "first_bytes"): ["File::open"],
+    ("commands/src/state.rt", "first_bytes"): ["File::open"],
     ("stores/src/failure_mark.rt", "is_there"): ["fs::read", "fs::symlink_metadata"],
     ("stores/src/folder.rt", "sync_folder"): ["File::open"],
     ("stores/src/folder.rt", "target_of"): ["fs::canonicalize", "fs::symlink_metadata"],
     ("stores/src/named_file.rt", "is_named"): ["fs::metadata"],
     ("stores/src/named_file.rt", "open"): ["fs::metadata"],
     ("stores/src/named_file.rt", "plain_file"): ["fs::symlink_metadata"],
-    ("trace_places/src/lookup.rt", "has_bytes"): ["fs::metadata"],
-    ("trace_places/src/room.rt", "is_crowded"): ["File::open"],
-    ("trace_places/src/spot.rt", "is_gone"): ["fs::metadata"],
-    ("trace_places/src/spot.rt", "target_of"): ["fs::read_link"],
+    ("trace_lookup/src/lookup.rt", "has_bytes"): ["fs::metadata"],
+    ("trace_lookup/src/room.rt", "is_crowded"): ["File::open"],
+    ("trace_lookup/src/spot.rt", "is_gone"): ["fs::metadata"],
+    ("trace_lookup/src/spot.rt", "target_of"): ["fs::read_link"],
 }
 
 # the modules whose functions may be handed the runtime: none of those that read or change a trace
 RUNTIME = {
     "dbgrec": ["main"],
-    "recorder": ["awaiting", "crowded", "files", "serving", "sites", "state"],
+    "commands": ["awaiting", "crowded", "files", "serving", "sites", "state"],
     "shown_listings": ["console", "counted", "inlet", "listing", "outlet"],
     "stores": ["failure_mark", "folder", "folder_store", "named_file", "named_files"],
-    "trace_advice": ["absence"],
-    "trace_places": ["lookup", "room", "spot"],
+    "faults": ["absence"],
+    "trace_lookup": ["lookup", "room", "spot"],
 }
 
 

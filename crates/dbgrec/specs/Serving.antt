@@ -3,13 +3,13 @@ use Rattle.std.specs.Prelude.{ℕ, Option, List, Result}
 use Rattle.stores.specs.Events.{World}
 use Rattle.command_line.specs.declared.request.Request.{Request}
 use Rattle.command_line.specs.declared.request.Request.TheVariants as requests
-use Rattle.trace_advice.specs.Complaints.{IsToldAs}
-use Rattle.trace_advice.specs.declared.complaint.Complaint.{Complaint}
-use Rattle.script_port.specs.declared.fault.SimFault.{SimFault}
+use Rattle.faults.specs.Complaints.{IsToldAs}
+use Rattle.faults.specs.declared.complaint.Complaint.{Complaint}
+use Rattle.script_runner.specs.declared.fault.SimFault.{SimFault}
 use Rattle.simulator.specs.Simulated.{IsRun}
 use Rattle.shown_listings.specs.Listings.{Shows}
-use Rattle.recorder.specs.Serving.{ServesFiles, ListsFiles, FollowsFiles, ListsStream}
-use Rattle.recorder.specs.declared.files.Files.{Files}
+use Rattle.commands.specs.Serving.{ServesFiles, ListsFiles, FollowsFiles, ListsStream}
+use Rattle.commands.specs.declared.files.Files.{Files}
 
 -- what is asked was done, by the bytes that the input had; the files are let go of after that
 abbrev pub IsServed : World → Request → Option (List ℕ) → Option (List ℕ) → Option (List ℕ) → Result Unit Complaint → Type 0

@@ -3,8 +3,8 @@ use Rattle.std.specs.Prelude.{◌≡◌, ◌⊎◌, ℕ, Option, List, Result, O
 use Rattle.stores.specs.Events.{World}
 use Rattle.command_line.specs.declared.request.Request.{Request}
 use Rattle.command_line.specs.declared.request.Misuse.{Misuse}
-use Rattle.trace_advice.specs.declared.complaint.Complaint.{Complaint}
-use Rattle.trace_advice.specs.Statuses.{status_of_done, status_of_misuse}
+use Rattle.faults.specs.declared.complaint.Complaint.{Complaint}
+use Rattle.faults.specs.Statuses.{status_of_done, status_of_misuse}
 use Rattle.dbgrec.specs.Serving.{IsServed}
 
 -- what is asked was done, and this is the status of it

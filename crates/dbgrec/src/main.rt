@@ -16,7 +16,8 @@ ghost use Rattle.dbgrec.specs.Serving.{IsServed};
 ghost use Rattle.dbgrec.specs.Statuses.{EndsSo, Answers, Ends};
 
 use command_line::{Misuse, Request, asked_for};
-use recorder::{StreamListing, follow_files, list_files, serve_files};
+use commands::{StreamListing, follow_files, list_files, serve_files};
+use faults::{Complaint, Reasons, code_of, correct, no_memory};
 use shown_listings::{Inlet, Outlet, Output, show};
 use simulator::serve_sim;
 use std::cell::Cell;
@@ -24,7 +25,6 @@ use std::io::{ErrorKind, Read};
 use std::process::ExitCode;
 use std::sync::Wait;
 use std::{env, io};
-use trace_advice::{Complaint, Reasons, code_of, correct, no_memory};
 
 /// Does what is asked for.
 fn serve<R: Wait, I: Read + Drop, W: Output>(

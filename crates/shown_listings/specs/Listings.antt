@@ -4,9 +4,9 @@ use Rattle.std.specs.Io.KnownBytes.{Appends}
 use Rattle.trace_text.specs.declared.choice.Choice.{Choice}
 use Rattle.command_line.specs.declared.request.Shown.{Shown}
 use Rattle.shown_listings.specs.Ends.{Passed}
-use Rattle.trace_advice.specs.declared.complaint.Complaint.{Complaint}
-use Rattle.trace_advice.specs.declared.complaint.Complaint.TheVariants as complaints
-use Rattle.script_port.specs.declared.fault.SimFault.TheVariants as faults
+use Rattle.faults.specs.declared.complaint.Complaint.{Complaint}
+use Rattle.faults.specs.declared.complaint.Complaint.TheVariants as complaints
+use Rattle.script_runner.specs.declared.fault.SimFault.TheVariants as faults
 
 -- how a listing ends, and what it does with the bytes that a writer holds
 abbrev pub Listing : Type 1

@@ -4,11 +4,11 @@ ghost use Rattle.std.specs.Prelude.{◌≡◌};
 use crate::listing::Listable;
 use crate::outlet::{Output, taken};
 use command_line::Shown;
+use faults::Complaint;
 use std::alloc::Global;
 use std::fmt;
 use std::io::{self, Read, Write};
 use std::sync::Wait;
-use trace_advice::Complaint;
 
 /// The longest number of an entry with the word of its kind, in a line or an object.
 const HEAD: usize = 48;

@@ -1,20 +1,20 @@
 //! Listings, shown as they are or up to an empty line.
 ghost use Rattle.std.specs.Prelude.{◌≡◌, ℕ, List, None, Option, Result, IfErr};
 ghost use Rattle.std.specs.Io.KnownBytes.{Keeps};
-ghost use Rattle.script_port.specs.declared.fault.SimFault.TheVariants as faults;
+ghost use Rattle.script_runner.specs.declared.fault.SimFault.TheVariants as faults;
 ghost use Rattle.command_line.specs.declared.request.Shown.{Shown};
-ghost use Rattle.trace_advice.specs.declared.complaint.Complaint.TheVariants as complaints;
+ghost use Rattle.faults.specs.declared.complaint.Complaint.TheVariants as complaints;
 ghost use Rattle.shown_listings.specs.Listings.{Listing, UpToEnd, IsToldBy, may_end, Shows};
 
 use crate::counted::Counted;
 use crate::end_writer::EndWriter;
 use crate::outlet::{Output, taken};
 use command_line::Shown;
-use script_port::SimFault;
+use faults::Complaint;
+use script_runner::SimFault;
 use std::alloc::Global;
 use std::io::{IsTerminal, Read, Write};
 use std::sync::Wait;
-use trace_advice::Complaint;
 use trace_text::Choice;
 
 /// What can be listed.

@@ -9,23 +9,23 @@ use Rattle.recovery.specs.CallCounts.{most_in}
 use Rattle.trace_port.specs.Openings.{IsKept}
 use Rattle.trace_port.proofs.Leaving.{weaker}
 use Rattle.stores.specs.MemStore.{reads_of, failures_of}
-use Rattle.trace_script.specs.Reading.{Progress}
+use Rattle.script_lines.specs.Reading.{Progress}
 use Rattle.std.specs.declared.vec.Vec.{Vec}
 use Rattle.std.specs.declared.alloc.Global.{Global}
-use Rattle.trace_script.specs.declared.line.Unsynced.{Unsynced}
-use Rattle.trace_script.specs.declared.line.Line.{Line}
-use Rattle.trace_script.specs.declared.line.Line.TheVariants as lines
-use Rattle.script_port.specs.Read.{Stretch, stretch, first_lines}
+use Rattle.script_lines.specs.declared.line.Unsynced.{Unsynced}
+use Rattle.script_lines.specs.declared.line.Line.{Line}
+use Rattle.script_lines.specs.declared.line.Line.TheVariants as lines
+use Rattle.script_runner.specs.Read.{Stretch, stretch, first_lines}
 use Rattle.simulator.specs.Simulated.{device, IsNew, IsOfStore, Does, lists, Fails, answers_in_part, lists_in_part, DoesOrFails, IsOver, IsFinished, told, not_told, failed, LooksBy, IsRunWhole, LeavesSo, WasRun, ComesOf, SaysWhyNot, ended_so, Simulates, IsRun, runs, not_written_out, first_of}
 use Rattle.simulator.specs.Stored.{IsListed}
-use Rattle.script_port.specs.declared.fault.SimFault.TheVariants as faults
-use Rattle.script_port.specs.declared.fault.SimFault.{SimFault}
-use Rattle.script_port.specs.declared.refusal.Refusal.{Refusal}
-use Rattle.script_port.specs.declared.reply.Leave.{Leave}
-use Rattle.script_port.specs.declared.reply.Stop.{Stop}
-use Rattle.script_port.specs.declared.reply.Stop.TheVariants as stops
-use Rattle.script_port.specs.declared.reply.Origin.{Origin}
-use Rattle.script_port.specs.declared.reply.Origin.TheVariants.{Resumed}
+use Rattle.script_runner.specs.declared.fault.SimFault.TheVariants as faults
+use Rattle.script_runner.specs.declared.fault.SimFault.{SimFault}
+use Rattle.script_runner.specs.declared.refusal.Refusal.{Refusal}
+use Rattle.script_runner.specs.declared.reply.Leave.{Leave}
+use Rattle.script_runner.specs.declared.reply.Stop.{Stop}
+use Rattle.script_runner.specs.declared.reply.Stop.TheVariants as stops
+use Rattle.script_runner.specs.declared.reply.Origin.{Origin}
+use Rattle.script_runner.specs.declared.reply.Origin.TheVariants.{Resumed}
 
 -- its port was run
 pub was_run : (origin : Origin) (spec : Spec) (limit : ℕ) (old new : MemStore) (over : Stretch) (left : Result (Option Leave) SimFault) (Writes : List ℕ → Type 0) → WasRun origin spec limit old new over left Writes → ComesOf origin spec limit old new over (ended_so left) Writes

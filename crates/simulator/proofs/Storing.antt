@@ -14,12 +14,12 @@ use Rattle.trace_client.specs.Output.{AppendsPrefix, AppendsPart}
 use Rattle.trace_client.specs.declared.fault.ListFault.{ListFault}
 use Rattle.trace_client.specs.declared.fault.ListFault.TheVariants as listing
 use Rattle.trace_text.specs.Lines.{plain}
-use Rattle.script_port.specs.declared.answer.Answer.TheVariants.{Refused}
-use Rattle.script_port.specs.declared.refusal.Refusal.TheVariants.{Recover}
-use Rattle.script_port.specs.declared.fault.SimFault.{SimFault}
-use Rattle.script_port.specs.declared.fault.SimFault.TheVariants as faults
-use Rattle.script_port.specs.Faults.{fault_of_list}
-use Rattle.script_port.specs.Texts.{line_of, state_text}
+use Rattle.script_runner.specs.declared.answer.Answer.TheVariants.{Refused}
+use Rattle.script_runner.specs.declared.refusal.Refusal.TheVariants.{Recover}
+use Rattle.script_runner.specs.declared.fault.SimFault.{SimFault}
+use Rattle.script_runner.specs.declared.fault.SimFault.TheVariants as faults
+use Rattle.script_runner.specs.Faults.{fault_of_list}
+use Rattle.script_runner.specs.Texts.{line_of, state_text}
 use Rattle.simulator.specs.Stored.{IsListed, IsListedInPart, lists_first, refuses_first, refuses, TellsFiles, all, AreStates, next}
 
 -- a part of a listing was written

@@ -29,31 +29,31 @@ use Rattle.trace_port.specs.contracts.pending.PendingRoom.TheImpl as pending
 use Rattle.wrap_port.specs.WrapOpened.{wrap_opened_told}
 use Rattle.wrap_port.specs.WrapPort.{wrap_told}
 use Rattle.wrap_port.specs.Resumptions.{IsNotResumed as IsNoWrapResumed}
-use Rattle.trace_script.specs.declared.line.Line.{Line}
-use Rattle.trace_script.specs.declared.line.Line.TheVariants as lines
-use Rattle.trace_script.specs.declared.line.Unsynced.{Unsynced}
-use Rattle.trace_script.specs.Lines.{pick_of, IsOfFiles}
-use Rattle.trace_script.specs.Reading.{Progress, HasNext, HasEnded}
-use Rattle.script_port.specs.Sides.{Alone}
-use Rattle.script_port.specs.Read.{Stretch, stretch, first_lines, ReadsNothing, IsNoLine}
-use Rattle.script_port.specs.Held.{WasHeld}
+use Rattle.script_lines.specs.declared.line.Line.{Line}
+use Rattle.script_lines.specs.declared.line.Line.TheVariants as lines
+use Rattle.script_lines.specs.declared.line.Unsynced.{Unsynced}
+use Rattle.script_lines.specs.Lines.{pick_of, IsOfFiles}
+use Rattle.script_lines.specs.Reading.{Progress, HasNext, HasEnded}
+use Rattle.script_runner.specs.Sides.{Alone}
+use Rattle.script_runner.specs.Read.{Stretch, stretch, first_lines, ReadsNothing, IsNoLine}
+use Rattle.script_runner.specs.Held.{WasHeld}
 use Rattle.trace_port.specs.Limits.{greatest_limit}
-use Rattle.script_port.specs.PortOpenings.{first_told, GoesOnOrBegins, IsNoSpec}
+use Rattle.script_runner.specs.PortOpenings.{first_told, GoesOnOrBegins, IsNoSpec}
 use Rattle.simulator.specs.Stored.{TellsStore, TellsFiles, TellsRefusal, BeginsSo, IsListedInPart}
-use Rattle.script_port.specs.Texts.{greeting, line_of}
-use Rattle.script_port.specs.declared.answer.Answer.TheVariants as answers
-use Rattle.script_port.specs.declared.fault.SimFault.{SimFault}
-use Rattle.script_port.specs.declared.fault.SimFault.TheVariants as faults
-use Rattle.script_port.specs.declared.opening.AnyOpening.{AnyOpening}
-use Rattle.script_port.specs.declared.opening.AnyOpening.TheVariants as openings
-use Rattle.script_port.specs.declared.refusal.Refusal.{Refusal}
-use Rattle.script_port.specs.declared.refusal.Refusal.TheVariants as refusals
-use Rattle.script_port.specs.declared.reply.Leave.{Leave}
-use Rattle.script_port.specs.declared.reply.Leave.TheVariants as leaving
-use Rattle.script_port.specs.declared.reply.Origin.{Origin}
-use Rattle.script_port.specs.declared.reply.Origin.TheVariants.{Created, Resumed}
-use Rattle.script_port.specs.declared.reply.Stop.{Stop}
-use Rattle.script_port.specs.declared.reply.Stop.TheVariants as stops
+use Rattle.script_runner.specs.Texts.{greeting, line_of}
+use Rattle.script_runner.specs.declared.answer.Answer.TheVariants as answers
+use Rattle.script_runner.specs.declared.fault.SimFault.{SimFault}
+use Rattle.script_runner.specs.declared.fault.SimFault.TheVariants as faults
+use Rattle.script_runner.specs.declared.opening.AnyOpening.{AnyOpening}
+use Rattle.script_runner.specs.declared.opening.AnyOpening.TheVariants as openings
+use Rattle.script_runner.specs.declared.refusal.Refusal.{Refusal}
+use Rattle.script_runner.specs.declared.refusal.Refusal.TheVariants as refusals
+use Rattle.script_runner.specs.declared.reply.Leave.{Leave}
+use Rattle.script_runner.specs.declared.reply.Leave.TheVariants as leaving
+use Rattle.script_runner.specs.declared.reply.Origin.{Origin}
+use Rattle.script_runner.specs.declared.reply.Origin.TheVariants.{Created, Resumed}
+use Rattle.script_runner.specs.declared.reply.Stop.{Stop}
+use Rattle.script_runner.specs.declared.reply.Stop.TheVariants as stops
 
 -- a store in memory as a device
 abbrev pub device : MemStore → Device

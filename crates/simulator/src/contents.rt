@@ -5,7 +5,7 @@ ghost use Rattle.stores.specs.{CallRecords.contents_of, MemStore.reads_of, MemSt
 ghost use Rattle.simulator.specs.{Simulated.IsNew, Simulated.OnlyLooked, Stored.TellsRefusal};
 ghost use Rattle.segment.specs.DeviceCalls.{DeviceReads};
 
-use script_port::Refusal;
+use script_runner::Refusal;
 use std::alloc::Global;
 use stores::MemStore;
 use trace_store::Store;

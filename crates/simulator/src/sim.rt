@@ -2,22 +2,23 @@
 ghost use Rattle.std.specs.Prelude.{◌≡◌, ◌≢◌, ◌<◌, ◌≤◌, ℕ, Option, List, Result, length, false};
 ghost use Rattle.std.specs.Io.KnownBytes.{Appends};
 ghost use Rattle.stores.specs.MemStore.{reads_of};
-ghost use Rattle.trace_script.specs.Lines.{IsWithinLimits, IsOfFiles};
+ghost use Rattle.script_lines.specs.Lines.{IsWithinLimits, IsOfFiles};
 ghost use Rattle.segment.specs.Specification.{Spec, File};
 ghost use Rattle.wrap_port.specs.WrapSpecs.{wrap_seen};
-ghost use Rattle.script_port.specs.{LinesRun.Answering, LinesRun.RunsLines, PortOpenings.FitsStore, Texts.line_of};
+ghost use Rattle.script_runner.specs.{LinesRun.Answering, LinesRun.RunsLines, PortOpenings.FitsStore, Texts.line_of};
 ghost use Rattle.trace_port.specs.Limits.{greatest_limit};
 ghost use Rattle.simulator.specs.Simulated.{ended_so, RanOn, ComesOf, SaysWhyNotCreated, SaysWhyNotResumed, SaysWhyNoWrap, Crashes, Does, DoesAlone, DoesOrFails, Runs, IsRunWhole, Simulates, IsFinished, IsRun, first_of as first_told};
 ghost use Rattle.trace_port.specs.declared.create.CreateFault.TheVariants as creating;
-ghost use Rattle.script_port.specs.declared.refusal.Refusal.TheVariants as refusals;
-ghost use Rattle.script_port.specs.declared.reply.Stop.TheVariants as stops;
-ghost use Rattle.trace_script.specs.declared.line.Line.TheVariants as lines;
-ghost use Rattle.script_port.specs.declared.reply.Origin.TheVariants.{Created, Resumed};
+ghost use Rattle.script_runner.specs.declared.refusal.Refusal.TheVariants as refusals;
+ghost use Rattle.script_runner.specs.declared.reply.Stop.TheVariants as stops;
+ghost use Rattle.script_lines.specs.declared.line.Line.TheVariants as lines;
+ghost use Rattle.script_runner.specs.declared.reply.Origin.TheVariants.{Created, Resumed};
 
 use crate::contents::with_bytes;
 use crate::store_lines::{list, list_files};
 use recovery::wipe;
-use script_port::{
+use script_lines::{Line, Script, Unsynced};
+use script_runner::{
     Answer, Answers, AnyOpening, Leave, Origin, Refusal, SimFault, Stop, hold_file, hold_wrap,
     next_line,
 };
@@ -25,7 +26,6 @@ use std::alloc::Global;
 use std::io::{BufRead, Write};
 use stores::{MemStore, Pick};
 use trace_port::{CreateFault, begin_create, begin_resume};
-use trace_script::{Line, Script, Unsynced};
 use trace_store::{DeviceFault, Store};
 use wrap_port::{BadSpec, WrapSpec};
 

@@ -1,13 +1,13 @@
 //! A script over a store in memory, as the command line asks for it.
 ghost use Rattle.std.specs.Prelude.{ℕ, Option, List, Result};
-ghost use Rattle.trace_advice.specs.Complaints.{IsToldAs};
+ghost use Rattle.faults.specs.Complaints.{IsToldAs};
 ghost use Rattle.simulator.specs.Simulated.{IsRun};
 
 use crate::sim::run_sim;
-use script_port::SimFault;
+use faults::{Complaint, told};
+use script_runner::SimFault;
 use std::alloc::Global;
 use std::io::{BufReader, Read, Write};
-use trace_advice::{Complaint, told};
 
 /// What is read at a time, in bytes.
 const BUFFER: usize = 65_536;

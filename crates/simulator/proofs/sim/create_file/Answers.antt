@@ -3,10 +3,10 @@ use Rattle.recovery.specs.Stores.{is_blank}
 use Rattle.stores.specs.contracts.mem_store.MemStoreStore.TheImpl as mem
 use Rattle.trace_port.specs.Creations.{IsNotCreated}
 use Rattle.trace_port.specs.Openings.{TellsCreate}
-use Rattle.script_port.specs.PortOpenings.{begins}
-use Rattle.script_port.specs.declared.opening.AnyOpening.TheVariants as openings
-use Rattle.script_port.specs.declared.refusal.Refusal.TheVariants as refusals
-use Rattle.script_port.specs.declared.reply.Origin.TheVariants.{Created}
+use Rattle.script_runner.specs.PortOpenings.{begins}
+use Rattle.script_runner.specs.declared.opening.AnyOpening.TheVariants as openings
+use Rattle.script_runner.specs.declared.refusal.Refusal.TheVariants as refusals
+use Rattle.script_runner.specs.declared.reply.Origin.TheVariants.{Created}
 use Rattle.simulator.proofs.Simulating.{was_run, not_refused}
 use Rattle.simulator.proofs.sim.create_file.Goals as goal
 

@@ -1,9 +1,9 @@
 use Rattle.std.proofs.Common.{rules, ◌≡◌, [], Some, None, Ok, Err, refl, ap, ◌∙◌}
 use Rattle.std.proofs.KnownBytes.{Appends-nil}
-use Rattle.script_port.specs.Texts.{line_of}
-use Rattle.script_port.specs.declared.answer.Answer.TheVariants as answers
-use Rattle.script_port.specs.declared.reply.Leave.TheVariants as leaving
-use Rattle.script_port.specs.declared.reply.Stop.TheVariants as stops
+use Rattle.script_runner.specs.Texts.{line_of}
+use Rattle.script_runner.specs.declared.answer.Answer.TheVariants as answers
+use Rattle.script_runner.specs.declared.reply.Leave.TheVariants as leaving
+use Rattle.script_runner.specs.declared.reply.Stop.TheVariants as stops
 use Rattle.simulator.proofs.Simulating.{finished_so, failed_so}
 use Rattle.simulator.proofs.sim.finish.Goals as goal
 

@@ -4,10 +4,10 @@ use Rattle.std.proofs.KnownBytes.{Appends-nil}
 use Rattle.stores.specs.contracts.mem_store.MemStoreStore.TheImpl as mem
 use Rattle.trace_port.specs.Resumptions.{IsNotResumed}
 use Rattle.trace_port.specs.Openings.{TellsResume}
-use Rattle.script_port.specs.PortOpenings.{goes_on}
-use Rattle.script_port.specs.declared.opening.AnyOpening.TheVariants as openings
-use Rattle.script_port.specs.declared.refusal.Refusal.TheVariants as refusals
-use Rattle.script_port.specs.declared.reply.Origin.TheVariants.{Resumed}
+use Rattle.script_runner.specs.PortOpenings.{goes_on}
+use Rattle.script_runner.specs.declared.opening.AnyOpening.TheVariants as openings
+use Rattle.script_runner.specs.declared.refusal.Refusal.TheVariants as refusals
+use Rattle.script_runner.specs.declared.reply.Origin.TheVariants.{Resumed}
 use Rattle.simulator.proofs.Simulating.{was_run, not_refused, only_kept}
 use Rattle.simulator.proofs.sim.resume_file.Goals as goal
 

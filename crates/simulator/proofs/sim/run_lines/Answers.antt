@@ -1,10 +1,10 @@
 use Rattle.std.proofs.Common.{[], refl, ◌∙◌, subst, Bool, rules}
 use Rattle.std.proofs.lemmas.Result.{err_from_is_err_and}
-use Rattle.trace_script.specs.Reading.{progress}
-use Rattle.trace_script.specs.declared.fault.ScriptFault.TheVariants as scripts
-use Rattle.script_port.specs.Read.{IsNoLine}
+use Rattle.script_lines.specs.Reading.{progress}
+use Rattle.script_lines.specs.declared.fault.ScriptFault.TheVariants as scripts
+use Rattle.script_runner.specs.Read.{IsNoLine}
 use Rattle.simulator.specs.Simulated.{none, more, to_end, no_line, broken_off}
-use Rattle.script_port.proofs.Through.{line_comes, none_comes, none_read}
+use Rattle.script_runner.proofs.Through.{line_comes, none_comes, none_read}
 use Rattle.simulator.proofs.Simulating.{whole_so}
 use Rattle.simulator.proofs.sim.run_lines.Goals as goal
 

@@ -1,6 +1,6 @@
 use Rattle.std.proofs.Common.{◌≡◌, List}
-use Rattle.trace_script.specs.Reading.{progress}
-use Rattle.trace_script.specs.declared.line.Line.{Line}
+use Rattle.script_lines.specs.Reading.{progress}
+use Rattle.script_lines.specs.declared.line.Line.{Line}
 use Rattle.simulator.specs.Simulated.{AreRun}
 use Rattle.simulator.proofs.sim.run_lines.Given as goal
 

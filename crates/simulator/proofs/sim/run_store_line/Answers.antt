@@ -1,7 +1,7 @@
 use Rattle.std.proofs.Common.{refl}
-use Rattle.trace_script.specs.declared.line.Line.TheVariants as lines
-use Rattle.script_port.specs.Texts.{line_of}
-use Rattle.script_port.specs.declared.answer.Answer.TheVariants as answers
+use Rattle.script_lines.specs.declared.line.Line.TheVariants as lines
+use Rattle.script_runner.specs.Texts.{line_of}
+use Rattle.script_runner.specs.declared.answer.Answer.TheVariants as answers
 use Rattle.simulator.specs.Simulated.{crashes, tells_files, out_of_order}
 use Rattle.simulator.proofs.Simulating.{not_of_store, does_so, lists_so}
 use Rattle.simulator.proofs.sim.run_store_line.Goals as goal

@@ -1,0 +1,96 @@
+-- Openings of a trace one after the other.
+use Rattle.std.proofs.Common.{◌≡◌, ◌⊎◌, ⊎_elim, ◌≤◌, ◌+◌, ◌*◌, ◌∙◌, ℕ, List, Option, suc, ap, length, inl, inr, subst, sym, arith}
+use Rattle.std.specs.Io.KnownBytes.{Appends}
+use Rattle.std.specs.Prelude.{Result, Ok, Err, OnOk, IfErr, MatchResult}
+use Rattle.std.proofs.Math.Nat.{suc-mul, mul-le-mul_right}
+use Rattle.trace_store.specs.Disk.{Image}
+use Rattle.stores.specs.Events.{IsHonest}
+use Rattle.stores.specs.FolderStore.{honest_of, reads_of, images_of, moments_of, clock_of, failures_of, IsSame}
+use Rattle.stores.specs.declared.folder_store.FolderStore.{FolderStore}
+use Rattle.segment.proofs.Taking.{reads_both}
+use Rattle.trace_client.specs.Forms.{Form}
+use Rattle.foreign_files.specs.Standing.{IsStanding}
+use Rattle.foreign_files.specs.declared.standing.Standing.TheVariants as standings
+use Rattle.trace_reader.specs.Listings.{TellsFailures, WritesStore}
+use Rattle.trace_reader.specs.Reading.{IsWhyNotRead}
+use Rattle.trace_reader.specs.WritesOut.{WritesTrace}
+use Rattle.trace_reader.specs.declared.fault.ReadFault.{ReadFault}
+use Rattle.trace_reader.specs.Windows.{IsWrittenInTurn}
+use Rattle.commands.specs.Files.{OnlyLooks}
+use Rattle.commands.specs.Live.{OpensInTurn}
+
+-- after readings that only looked, if there were any, one more
+pub looks_both : (old mid new : FolderStore) → (mid ≡ old) ⊎ OnlyLooks old mid → OnlyLooks mid new → OnlyLooks old new
+looks_both old mid new before read = elim before [
+  | inl same ↦ subst (λ (s : FolderStore). OnlyLooks s new) same read
+  | inr looks ↦ reads_both honest_of clock_of reads_of images_of moments_of old mid new looks read
+]
+
+-- after one that looked anew for files
+pub looks_same : (old mid new : FolderStore) → OnlyLooks old mid → IsSame mid new → OnlyLooks old new
+looks_same old mid new looks same =
+    let behind : honest_of new → honest_of mid = λ h. subst IsHonest same.past h in
+    record {
+      was_honest = λ h. looks.was_honest (behind h);
+      count = ap (λ (i : Image). length i) same.idle.same_reads ∙ looks.count;
+      same_reads = λ h. same.idle.same_reads ∙ looks.same_reads (behind h);
+      same_images = λ h.
+          let m = looks.same_images (behind h) in
+          record { no_more = λ c is. m.no_more c (same.idle.same_images.no_more c is); no_fewer = λ c is. same.idle.same_images.no_fewer c (m.no_fewer c is) };
+      each_moment = λ h.
+          let m = looks.each_moment (behind h) in
+          record {
+            passes = record {
+              later = omega (arith, m.passes.later, same.clock);
+              splits = λ t c le left. ⊎_elim (λ was. inl was) (λ arose. inr (λ u early. (same.idle.same_moments u).no_fewer c (arose u early))) (m.passes.splits t c le ((same.idle.same_moments t).no_more c left));
+              keeps = λ t c le left. (same.idle.same_moments t).no_fewer c (m.passes.keeps t c le left);
+            };
+            each = λ c left. m.each c ((same.idle.same_moments (clock_of old)).no_more c left);
+          };
+    }
+
+pub same_behind : (old mid : FolderStore) → (mid ≡ old) ⊎ OnlyLooks old mid → honest_of mid → reads_of mid ≡ reads_of old
+same_behind old mid before h = elim before [
+  | inl same ↦ ap reads_of same
+  | inr looks ↦ looks.same_reads h
+]
+
+-- ---- device calls of readings
+
+-- so many, and one more
+pub one_more : (before mid now j k m : ℕ) → k ≡ suc j → mid ≤ before + j * m → now ≤ mid + m → now ≤ before + k * m
+one_more before mid now j k m is had made = subst (λ (n : ℕ). now ≤ before + n * m) (sym is) (omega (arith, had, made, suc-mul j m))
+
+-- no more than 32
+pub openings_at_most : (before mid now j m : ℕ) → j ≤ 31 → mid ≤ before + j * m → now ≤ mid + m → now ≤ before + 32 * m
+openings_at_most before mid now j m few had made = omega (arith, had, made, suc-mul j m, mul-le-mul_right m (let less : suc j ≤ 32 = omega (arith, few) in less))
+
+-- ---- failed device calls
+
+-- of one opening
+pub opened_tells : {T : Type 0} (mid now : ℕ) (result : Result T ReadFault) → OnOk result (now ≡ mid) → IfErr result (TellsFailures mid now) → MatchResult result (λ _. now ≡ mid) (TellsFailures mid now)
+opened_tells mid now (Ok done) none told = none
+opened_tells mid now (Err fault) none told = told
+
+-- of the openings, and then of what was opened
+pub failures_both : {T U : Type 0} (old mid new : FolderStore) (first : Result T ReadFault) (value : T) (result : Result U ReadFault) → first ≡ Ok value → OpensInTurn (λ fault. fault) old mid first → OnOk result (failures_of new ≡ failures_of mid) → IfErr result (TellsFailures (failures_of mid) (failures_of new))
+    → OpensInTurn (λ fault. fault) old new result
+failures_both old mid new first value result is had kept told =
+    let last : failures_of mid ≡ failures_of had.mid = rw is at had.last in
+    record {
+      count = had.count;
+      few = had.few;
+      mid = had.mid;
+      openings = had.openings;
+      last = subst (λ (n : ℕ). MatchResult result (λ _. failures_of new ≡ n) (TellsFailures n (failures_of new))) last (opened_tells (failures_of mid) (failures_of new) result kept told);
+    }
+
+-- ---- of the same files
+
+pub trace_same : (honest : Type 0) (form : Form) (image now : Image) (old new : Option (List ℕ)) (count : ℕ) (result : Result Unit ReadFault) → (honest → now ≡ image) → WritesTrace honest form now old new count result IsWrittenInTurn → WritesTrace honest form image old new count result IsWrittenInTurn
+trace_same honest form image now old new count result same out = record {
+  tells = λ h. subst (λ (i : Image). OnOk result ((text : List ℕ) × WritesStore form i text × Appends old new text)) (same h) (out.tells h);
+  there = λ h. subst (λ (i : Image). OnOk result (IsStanding standings.Ours i)) (same h) (out.there h);
+  why_not = λ h. subst (λ (i : Image). IfErr result (λ fault. IsWhyNotRead fault i)) (same h) (out.why_not h);
+  written = λ h. subst (λ (i : Image). IfErr result (λ fault. IsWrittenInTurn form fault i old new count)) (same h) (out.written h);
+}

@@ -1,0 +1,92 @@
+-- A trace that is counted.
+use Rattle.std.proofs.Common.{◌≡◌, ◌⊎◌, ◌∙◌, ℕ, Option, List, [], Some, ap, refl, subst, sym, inl, inr}
+use Rattle.std.specs.Prelude.{Result, Ok, Err, OnOk, IfErr, IsErr}
+use Rattle.std.specs.Io.KnownBytes.{Appends}
+use Rattle.entry_codec.specs.Entries.{Entry, bytes_of}
+use Rattle.trace_store.specs.Disk.{Image}
+use Rattle.segment.proofs.Taking.{reads_both}
+use Rattle.stores.specs.FolderStore.{honest_of, reads_of, images_of, moments_of, clock_of}
+use Rattle.stores.specs.declared.folder_store.FolderStore.{FolderStore}
+use Rattle.trace_client.specs.Forms.{as_bytes}
+use Rattle.foreign_files.specs.Standing.{IsStanding}
+use Rattle.foreign_files.specs.declared.standing.Standing.TheVariants as standings
+use Rattle.trace_summary.specs.Acts.{acts_in}
+use Rattle.trace_summary.specs.Counting.{tellings}
+use Rattle.trace_summary.specs.Stacks.{calls_at, calls_of}
+use Rattle.trace_summary.specs.Streams.{FitHeads, stream_contents}
+use Rattle.trace_summary.specs.Tallies.{IsCounted}
+use Rattle.trace_summary.specs.declared.folded.Folded.{Folded}
+use Rattle.trace_summary.specs.declared.top.Top.{Top}
+use Rattle.trace_summary.specs.declared.view.ViewFault.TheVariants as views
+use Rattle.trace_lookup.specs.declared.place.Place.{Place}
+use Rattle.trace_reader.specs.Listings.{WritesStore}
+use Rattle.trace_reader.specs.Reading.{IsWhyNotRead}
+use Rattle.faults.specs.declared.complaint.Complaint.{Complaint}
+use Rattle.script_runner.specs.declared.fault.SimFault.{SimFault}
+use Rattle.commands.specs.Naming.{IsToldAt}
+use Rattle.commands.specs.Files.{OnlyLooks}
+use Rattle.commands.specs.Telling.{IsOfWriter}
+use Rattle.commands.specs.Viewing.{AreExported, IsFold, IsReadInto, IsViewed, IsTop, TellsWhy, counted, folded, folded_by, not_folded, refused, taken_by, too_many, not_told}
+use Rattle.commands.specs.declared.live.Unread.{Unread}
+use Rattle.commands.specs.declared.viewing.Uncounted.{Uncounted}
+use Rattle.commands.specs.declared.viewing.Uncounted.TheVariants as whys
+
+-- a trace was written whole, or why it wasn't
+pub read_so : (image : Image) (old now : Option (List ℕ)) (result : Result Unit Unread) → OnOk result ((text : List ℕ) × WritesStore as_bytes image text × Appends old now text) → OnOk result (IsStanding standings.Ours image) → IfErr result (λ unread. IsWhyNotRead unread.fault image) → IsReadInto image old now result
+read_so image old now (Ok done) wrote there why_not = (there, wrote)
+read_so image old now (Err unread) wrote there why_not = why_not
+
+-- a view that had seen nothing was given an export
+pub exported : (image : Image) (first : List Entry) (held : List ℕ) (seen : List Entry) (pending : List ℕ) (taken : List Entry) → first ≡ [] → held ≡ [] → IsStanding standings.Ours image
+    → ((text : List ℕ) × WritesStore as_bytes image text × Appends (stream_contents first held) (stream_contents seen pending) text)
+    → ((entries : List Entry) → FitHeads entries → stream_contents seen pending ≡ Some (bytes_of entries) → taken ≡ entries) → AreExported image taken
+exported image first held seen pending taken none empty there wrote are =
+    let behind = subst (λ (l : List ℕ). Appends (stream_contents [] l) (stream_contents seen pending) wrote.0) empty (subst (λ (l : List Entry). Appends (stream_contents l held) (stream_contents seen pending) wrote.0) none wrote.2) in
+    record {
+      there = there;
+      text = wrote.0;
+      writes = wrote.1;
+      are = λ entries fit is. are entries fit (ap Some (behind ∙ is));
+    }
+
+-- what is told where it isn't counted
+pub not_counted : {V : Type 0} (seen : V → List Entry) (Told : SimFault → Complaint → Type 0) (base : List ℕ) (image : Image) (why : Uncounted) (complaint : Complaint) → IsViewed seen image (Err why) → TellsWhy Told base why complaint → IsTop Told base image (Err complaint)
+not_counted seen Told base image (whys.Unread unread) complaint why_not told = refused unread.fault complaint why_not told
+not_counted seen Told base image (whys.View views.NoMemory) complaint why_not told = not_told complaint (inr told)
+not_counted seen Told base image (whys.View views.TooMany) complaint why_not told = elim told [
+  | inl rows ↦ too_many complaint rows
+  | inr memory ↦ not_told complaint (inr memory)
+]
+
+-- at the same place
+pub why_moved : (was now : Place) (store : FolderStore) (why : Uncounted) (complaint : Complaint) → now ≡ was → TellsWhy (IsToldAt now store) now.base.now why complaint → TellsWhy (IsToldAt was store) was.base.now why complaint
+why_moved was now store why complaint same told = subst (λ (place : Place). TellsWhy (IsToldAt place store) place.base.now why complaint) same told
+
+-- a look, and then perhaps one more
+pub looks_then : (old mid new : FolderStore) → OnlyLooks old mid → (new ≡ mid) ⊎ OnlyLooks mid new → OnlyLooks old new
+looks_then old mid new looks more = elim more [
+  | inl same ↦ subst (λ (store : FolderStore). OnlyLooks old store) (sym same) looks
+  | inr on ↦ reads_both honest_of clock_of reads_of images_of moments_of old mid new looks on
+]
+
+-- the store was honest before it
+pub honest_then : (mid new : FolderStore) → (new ≡ mid) ⊎ OnlyLooks mid new → honest_of new → honest_of mid
+honest_then mid new more h = elim more [
+  | inl same ↦ subst honest_of same h
+  | inr on ↦ on.was_honest h
+]
+
+-- a table was written out, or not
+pub is_top : (Told : SimFault → Complaint → Type 0) (base : List ℕ) (image : Image) (top : Top) (result : Result Unit Complaint) → AreExported image (taken_by top) → IsCounted top.tallies (tellings (taken_by top)) → IfErr result IsOfWriter → IsTop Told base image result
+is_top Told base image top (Ok done) are counts unwritten = counted top are counts
+is_top Told base image top (Err complaint) are counts unwritten = not_told complaint (inl unwritten)
+
+-- stacks were
+pub is_fold : (Told : SimFault → Complaint → Type 0) (base : List ℕ) (image : Image) (stacks : Folded) (result : Result Unit Complaint) → AreExported image (folded_by stacks) → ((text : List ℕ) → calls_at stacks.stacks.rows.rows text ≡ calls_of text (acts_in (folded_by stacks))) → IfErr result IsOfWriter → IsFold Told base image result
+is_fold Told base image stacks (Ok done) are calls unwritten = folded stacks are calls
+is_fold Told base image stacks (Err complaint) are calls unwritten = not_folded complaint (not_told complaint (inl unwritten))
+
+-- they couldn't be
+pub no_fold : (Told : SimFault → Complaint → Type 0) (base : List ℕ) (image : Image) (result : Result Unit Complaint) → IsErr result → IfErr result IsOfWriter → IsFold Told base image result
+no_fold Told base image (Ok done) err unwritten = absurd (cc)
+no_fold Told base image (Err complaint) err unwritten = not_folded complaint (not_told complaint (inl unwritten))

@@ -1,0 +1,4 @@
+use Rattle.commands.proofs.sites.files_to_write.Given as goal
+
+abbrev pub ghost-locked_at : goal.ghost-locked_at
+ghost-locked_at g a = g.world'

@@ -1,0 +1,76 @@
+-- What is done with a trace or a stream for the words of a command line, and how it is shown.
+use Rattle.std.specs.Prelude.{◌≡◌, ℕ, Bool, true, false, Option, Some, None, List, [], Result, Ok, Err, IfSome}
+use Rattle.std.specs.Io.KnownBytes.{Appends, Keeps}
+use Rattle.stores.specs.Events.{World}
+use Rattle.stores.specs.FolderStore.{locked_of}
+use Rattle.command_line.specs.declared.request.Asked.{Asked}
+use Rattle.command_line.specs.declared.request.Shown.{Shown}
+use Rattle.command_line.specs.declared.request.TraceRequest.{TraceRequest}
+use Rattle.command_line.specs.declared.request.TraceRequest.TheVariants as asks
+use Rattle.trace_reader.specs.Observing.{Observations}
+use Rattle.trace_client.specs.declared.stream.StreamStyle.{StreamStyle}
+use Rattle.commands.specs.Commands.{Serves, Changes, IsUntouched, IsStyleOf, EndsStream}
+use Rattle.faults.specs.Complaints.{status_told}
+use Rattle.commands.specs.Following.{Follows}
+use Rattle.import.specs.Incoming.{Outside, outside}
+use Rattle.commands.specs.Sites.{asked_in, IsAtPlace, AgreesOn, NamesTrace}
+use Rattle.faults.specs.declared.complaint.Complaint.{Complaint}
+use Rattle.commands.specs.declared.files.Files.{Files}
+use Rattle.shown_listings.specs.Listings.{Listing, Shows}
+use Rattle.trace_client.specs.Streams.{IsListed}
+use Rattle.commands.specs.declared.serving.Task.{Task}
+use Rattle.commands.specs.declared.serving.Task.TheVariants as tasks
+
+-- what isn't listed is shown as it is
+abbrev pub each_line : Shown
+each_line = record { is_json = false; choice = None; is_plain = false }
+
+-- what is asked is done with the files of a trace, by what is seen of the stream that comes in, as a listing that leaves them so
+abbrev pub ServesTrace : TraceRequest → Shown → Files → Outside → Files → Listing
+ServesTrace request shown old saw new result was now = (observed : Observations) × Serves request shown old new saw observed was now result
+
+-- how a trace is followed, as a listing
+abbrev pub KeepsOn : Bool → Shown → Files → Files → Listing
+KeepsOn is_pretty shown old new result was now = Follows is_pretty shown old new was now result
+
+-- what is done with the files of a trace, as a listing
+abbrev pub Does : Task → Shown → Files → Outside → Files → Listing
+Does (tasks.Asked request) shown files saw left = ServesTrace request shown files saw left
+Does (tasks.Followed is_pretty) shown files saw left = KeepsOn is_pretty shown files left
+
+-- the files that are made for what is asked, of which nothing was read yet; they are locked exactly where they are to be changed, and
+-- a count that is asked for is their own where they aren't to be written
+pub record AreMade (world : World) (request : TraceRequest) (files : Files) : Type 0 where
+  pub past : IsUntouched world files
+  pub locked : Changes request → locked_of files.store ≡ true
+  pub free : (Changes request → ⊥) → locked_of files.store ≡ false
+  pub place : IsAtPlace (asked_in request) files
+  pub agrees : NamesTrace request → AgreesOn (asked_in request) files.found
+
+-- files were made for what is asked, it was done with them, and they are left; or none could be had, and nothing is written
+pub data ServesFiles (world : World) (request : TraceRequest) (had was now : Option (List ℕ)) : Result Unit Complaint → Option Files → Type 0 where
+  served : {result : Result Unit Complaint} (files left : Files) → AreMade world request files → ServesTrace request each_line files (outside had 0 []) left result was now
+      → ServesFiles world request had was now result (Some left)
+  no_files : (complaint : Complaint) → status_told complaint ≡ 1 → Keeps was now → ServesFiles world request had was now (Err complaint) None
+
+-- the same, and what is done with them is shown so
+pub data ListsFiles (world : World) (request : TraceRequest) (shown : Shown) (had was now : Option (List ℕ)) : Result Unit Complaint → Option Files → Type 0 where
+  listed : {result : Result Unit Complaint} (files left : Files) → AreMade world request files → Shows shown (ServesTrace request shown files (outside had 0 []) left) result was now
+      → ListsFiles world request shown had was now result (Some left)
+  not_listed : (complaint : Complaint) → status_told complaint ≡ 1 → Keeps was now → ListsFiles world request shown had was now (Err complaint) None
+
+-- files were made for what is asked, and they were followed and shown so, and are left; or none could be had, and nothing is written
+pub data FollowsFiles (world : World) (asked : Asked) (is_pretty : Bool) (shown : Shown) (was now : Option (List ℕ)) : Result Unit Complaint → Option Files → Type 0 where
+  followed : {result : Result Unit Complaint} (files left : Files) → AreMade world (asks.List asked is_pretty) files → Shows shown (KeepsOn is_pretty shown files left) result was now
+      → FollowsFiles world asked is_pretty shown was now result (Some left)
+  not_followed : (complaint : Complaint) → status_told complaint ≡ 1 → Keeps was now → FollowsFiles world asked is_pretty shown was now (Err complaint) None
+
+-- a stream that had these bytes is listed in a style, to its end or until a fault
+abbrev pub ListsIn : StreamStyle → Option (List ℕ) → Listing
+ListsIn style had (Ok done) was now = IfSome had (λ bytes. (text : List ℕ) × IsListed style bytes (Ok tt) text × Appends was now text)
+ListsIn style had (Err complaint) was now = EndsStream style had was now complaint
+
+-- in the style that is asked for, with messages of up to so many bytes
+abbrev pub ListsStream : Bool → ℕ → Shown → Option (List ℕ) → Listing
+ListsStream is_pretty longest shown had result was now =
+    (style : StreamStyle) × IsStyleOf is_pretty shown style.lines × (style.longest ≡ longest) × ListsIn style had result was now

@@ -1,0 +1,87 @@
+//! What each open file of a trace holds by itself, whether or not the trace is refused.
+ghost use Rattle.std.specs.Prelude.{◌≡◌, ◌⊎◌, IsErr, IfErr, IfOk};
+ghost use Rattle.trace_store.specs.Moments.{Rose};
+ghost use Rattle.stores.specs.FolderStore.{reads_of, failures_of};
+ghost use Rattle.faults.specs.Complaints.{status_told};
+ghost use Rattle.trace_client.specs.Forms.{Form as Written};
+ghost use Rattle.trace_reader.specs.WritesOut.{form_of};
+ghost use Rattle.commands.specs.{Files.LooksOver, Commands.IsWrittenAs, Naming.IsToldAt, Salvaging.most_to_salvage, Salvaging.TellsSum, Salvaging.IsSalvage, Telling.IsOfMemory};
+
+use crate::commands::{style, written_out};
+use crate::doing::Doing;
+use crate::files::Files;
+use crate::informing::told;
+use command_line::{Form, Shown};
+use faults::{Complaint, Salvage};
+use std::alloc::AllocError;
+use std::io::Write;
+use trace_reader::{Host, Manner, ReadFault, Salvaged, Watched};
+
+/// How entries are written.
+fn manner(form: Form, shown: &Shown) -> Manner<'_>
+    ensures { IsWrittenAs form shown.now (form_of result) }
+{
+    match form {
+        Form::Lines { is_pretty } => Manner::Lines(style(is_pretty, shown)),
+        Form::Stream => Manner::Stream,
+    }
+}
+
+/// What a salvage came to, of which so many entries are shown.
+fn summary(files: &Files<'_>, salvaged: &Salvaged, shown: u64) -> Result<Complaint, AllocError>
+    ensures told { IfOk result (TellsSum salvaged.now) }
+    ensures status { IfOk result (λ complaint. status_told complaint ≡ 1) }
+{
+    Ok(Complaint::Salvaged(Salvage {
+        files: salvaged.files,
+        entries: salvaged.entries,
+        shown,
+        missing: salvaged.missing,
+        passed: files.passed_over()?,
+    }))
+}
+
+/// The same, also where there is no memory for it.
+fn summary_at_least(files: &Files<'_>, salvaged: &Salvaged, shown: u64) -> Complaint
+    ensures told { TellsSum salvaged.now result ⊎ IsOfMemory result }
+    ensures status { status_told result ≡ 1 }
+{
+    match summary(files, salvaged, shown) {
+        Ok(complaint) => complaint,
+        Err(fault) => Complaint::from(fault),
+    }
+}
+
+/// Writes what each open file holds by itself. It never succeeds: what is written isn't the trace.
+pub fn salvage<W: Write, H: Host>(
+    files: &mut Files<'_>,
+    form: Form,
+    shown: &Shown,
+    watched: &mut Watched<'_, W, H>,
+) -> Result<(), Complaint>
+    ensures salvage { (out : Written) × IsWrittenAs form shown.now out
+        × LooksOver files.old.store files.new.store (most_to_salvage (reads_of files.old.store))
+        (IfErr result (IsSalvage out (IsToldAt files.old.place files.new.store)
+        (Rose (failures_of files.old.store) (failures_of files.new.store))
+        (reads_of files.old.store) (W.contents watched.old.writer.now)
+        (W.contents watched.new.writer.now))) }
+    ensures never { IsErr result }
+    ensures status { IfErr result (λ complaint. status_told complaint ≡ 1) }
+{
+    let done = files.salvage(manner(form, shown), watched);
+    let flushed = watched.flush();
+    watched.host.clear();
+    match done {
+        Ok(salvaged) => match written_out(flushed) {
+            Ok(()) => {
+                if files.is_absent(salvaged.files) {
+                    Err(told(files, ReadFault::Absent, Doing::Other))
+                } else {
+                    Err(summary_at_least(files, &salvaged, watched.shown()))
+                }
+            }
+            Err(complaint) => Err(complaint),
+        },
+        Err(fault) => Err(told(files, fault, Doing::Other)),
+    }
+}

@@ -1,0 +1,207 @@
+//! What is asked of a stored trace, done and shown.
+ghost use Rattle.std.specs.Prelude.{◌≡◌, ℕ, List, Option, IfOk, IfErr};
+ghost use Rattle.command_line.specs.declared.request.TraceRequest.TheVariants as asks;
+ghost use Rattle.faults.specs.Complaints.{status_told};
+ghost use Rattle.stores.specs.Events.{World};
+ghost use Rattle.import.specs.Incoming.{outside};
+ghost use Rattle.commands.specs.Serving.{Does, AreMade, ServesFiles, ListsFiles, FollowsFiles};
+
+use crate::awaiting::await_trace;
+use crate::commands::serve_trace;
+use crate::files::Files;
+use crate::following::serve_following;
+use crate::sites::files_for;
+use command_line::{Asked, Shown, TraceRequest};
+use faults::Complaint;
+use shown_listings::{Console, Listable, Output, console_for, show, taken};
+use std::io::{Read, Write};
+use std::sync::Wait;
+use trace_reader::Watched;
+
+/// What is done with the files of a trace.
+enum Task<'a> {
+    /// What a request asks.
+    Asked(TraceRequest<'a>),
+    /// The trace is listed, and then what is added to it.
+    Followed { is_pretty: bool },
+}
+
+/// What is done with a trace, and its files.
+struct TraceListing<'a> {
+    task: Task<'a>,
+    files: Files<'a>,
+    console: Console,
+}
+
+/// Does it, and writes what comes of it.
+#[inline(always)]
+fn do_with<R: Wait, I: Read + Drop, W: Write>(
+    waiter: &R,
+    task: Task<'_>,
+    shown: &Shown,
+    files: &mut Files<'_>,
+    input: I,
+    watched: &mut Watched<'_, W, Console>,
+) -> Result<(), Complaint>
+    ensures { Does task.entry shown.now files.old
+        (outside (I.remaining input) 0 watched.old.host.now.observed.notes) files.new result
+        (W.contents watched.old.writer.now) (W.contents watched.new.writer.now) }
+{
+    match task {
+        Task::Asked(request) => serve_trace(request, shown, files, input, watched),
+        Task::Followed { is_pretty } => serve_following(waiter, files, is_pretty, shown, watched),
+    }
+}
+
+fn is_list(task: &Task<'_>) -> bool {
+    matches!(task, Task::Asked(TraceRequest::List { .. }))
+}
+
+/// Tells at the end of a listing whether more may come.
+fn tell_end(files: &Files<'_>, is_listed: bool, done: &Result<(), Complaint>) {
+    if is_listed && done.is_ok() {
+        files.tell_state();
+    }
+}
+
+/// Does it, and writes to the output, with a console for what it tells meanwhile.
+fn do_over<R: Wait, I: Read + Drop, W: Output>(
+    waiter: &R,
+    task: Task<'_>,
+    shown: &Shown,
+    files: &mut Files<'_>,
+    console: Console,
+    input: I,
+    output: &mut W,
+) -> Result<(), Complaint>
+    ensures { Does task.entry shown.now files.old
+        (outside (I.remaining input) 0 console.observed.notes) files.new result
+        (W.contents output.old) (W.contents output.new) }
+{
+    let mut console = console;
+    let mut writer = taken(files.alloc(), output);
+    let mut watched = Watched::new(&mut writer, &mut console);
+    let done = do_with(waiter, task, shown, files, input, &mut watched);
+    *output = taken(files.alloc(), &mut *watched.writer);
+    drop(watched);
+    drop(writer);
+    drop(console);
+    done
+}
+
+impl<'a> Listable for TraceListing<'a> {
+    type Left = Files<'a>;
+
+    ghost lists = { λ trace shown had left. Does trace.task shown trace.files (outside had 0 trace.console.observed.notes) left };
+
+    fn list<R: Wait, I: Read + Drop, W: Output>(
+        self,
+        waiter: &R,
+        shown: &Shown,
+        input: I,
+        output: &mut W,
+    ) -> (Result<(), Complaint>, Files<'a>) {
+        let TraceListing {
+            task,
+            mut files,
+            console,
+        } = self;
+        let is_listed = is_list(&task);
+        let done = do_over(waiter, task, shown, &mut files, console, input, output);
+        tell_end(&files, is_listed, &done);
+        (done, files)
+    }
+}
+
+/// Does with a trace what is asked, and hands on its files, where they could be had.
+pub fn serve_files<'a, R: Wait, I: Read + Drop, W: Output>(
+    rt: &HostRuntime,
+    waiter: &R,
+    request: TraceRequest<'a>,
+    input: I,
+    output: &mut W,
+) -> (Result<(), Complaint>, Option<Files<'a>>)
+    ghost world: { World }
+    ensures { ServesFiles world request.entry (I.remaining input) (W.contents output.old)
+        (W.contents output.new) result.0 result.1 }
+{
+    let mut files = match files_for(rt, &request) {
+        Ok(files) => files,
+        Err(complaint) => return (Err(complaint), None),
+    };
+    let console = console_for(rt, &request);
+    let task = Task::Asked(request);
+    let shown = Shown::each_line();
+    let done = do_over(waiter, task, &shown, &mut files, console, input, output);
+    (done, Some(files))
+}
+
+/// Does the same, and of what is listed so shows the lines that are chosen, as they are or as objects.
+pub fn list_files<'a, R: Wait, I: Read + Drop, W: Output>(
+    rt: &HostRuntime,
+    waiter: &R,
+    request: TraceRequest<'a>,
+    shown: Shown,
+    input: I,
+    output: &mut W,
+) -> (Result<(), Complaint>, Option<Files<'a>>)
+    ghost world: { World }
+    ensures { ListsFiles world request.entry shown (I.remaining input) (W.contents output.old)
+        (W.contents output.new) result.0 result.1 }
+{
+    let files = match files_for(rt, &request) {
+        Ok(files) => files,
+        Err(complaint) => return (Err(complaint), None),
+    };
+    let console = console_for(rt, &request);
+    let listing = TraceListing {
+        task: Task::Asked(request),
+        files,
+        console,
+    };
+    let (done, left) = show(rt, waiter, listing, shown, input, output);
+    (done, Some(left))
+}
+
+/// The files of a trace that is to be followed, once it is begun.
+fn files_to_follow<'a, R: Wait>(
+    rt: &HostRuntime,
+    waiter: &R,
+    asked: Asked<'a>,
+    is_pretty: bool,
+) -> Result<Files<'a>, Complaint>
+    ghost world: { World }
+    ensures made { IfOk result (AreMade world (asks.List asked.entry is_pretty)) }
+    ensures refused { IfErr result (λ complaint. status_told complaint ≡ 1) }
+{
+    await_trace(rt, waiter, &asked)?;
+    files_for(rt, &TraceRequest::List { asked, is_pretty })
+}
+
+/// Lists a trace, and goes on with what is added to it. It may wait for that forever. It hands on the files, where they could be
+/// had.
+pub fn follow_files<'a, R: Wait, I: Read + Drop, W: Output>(
+    rt: &HostRuntime,
+    waiter: &R,
+    asked: Asked<'a>,
+    is_pretty: bool,
+    shown: Shown,
+    input: I,
+    output: &mut W,
+) -> (Result<(), Complaint>, Option<Files<'a>>)
+    ghost world: { World }
+    ensures { FollowsFiles world asked.entry is_pretty shown (W.contents output.old)
+        (W.contents output.new) result.0 result.1 }
+{
+    let files = match files_to_follow(rt, waiter, asked, is_pretty) {
+        Ok(files) => files,
+        Err(complaint) => return (Err(complaint), None),
+    };
+    let listing = TraceListing {
+        task: Task::Followed { is_pretty },
+        files,
+        console: Console::new(*rt, true),
+    };
+    let (done, left) = show(rt, waiter, listing, shown, input, output);
+    (done, Some(left))
+}

@@ -1,0 +1,188 @@
+//! The entries of a trace are looked at, and what its messages tell is counted.
+ghost use Rattle.std.specs.Prelude.{◌≡◌, ◌⊎◌, [], IfOk, IfErr};
+ghost use Rattle.stores.specs.FolderStore.{reads_of};
+ghost use Rattle.faults.specs.Complaints.{status_told};
+ghost use Rattle.commands.specs.{Files.CallsToTell, Files.LooksOver, Files.OnlyLooks, Files.most_with, Live.most_to_read, Naming.IsToldAt, Telling.IsOfMemory, Telling.IsOfWriter, Viewing.folded_by, Viewing.taken_by, Viewing.IsFold, Viewing.IsViewed, Viewing.IsOfRows, Viewing.IsReadInto, Viewing.IsTop, Viewing.TellsWhy};
+
+use crate::commands::written_out;
+use crate::doing::Doing;
+use crate::files::Files;
+use crate::live::{Unread, read_live};
+use command_line::Ranking;
+use faults::{Complaint, fault_of_reading};
+use script_runner::SimFault;
+use std::alloc::{AllocError, Global};
+use std::io::{self, Write};
+use std::mem;
+use trace_reader::{Host, Manner, Watched};
+use trace_summary::{Folded, StreamView, Top, View, ViewFault};
+
+/// Why a trace isn't counted.
+#[derive(Clone, Copy)]
+pub enum Uncounted {
+    /// It isn't read to its end.
+    Unread(Unread),
+    /// What counts takes no more.
+    View(ViewFault),
+}
+
+/// Reads a trace into a writer, as an export writes it.
+fn read_into<W: Write, H: Host>(
+    files: &mut Files<'_>,
+    watched: &mut Watched<'_, W, H>,
+) -> Result<(), Unread>
+    ensures read { LooksOver files.old.store files.new.store
+        (most_to_read (reads_of files.old.store))
+        (IsReadInto (reads_of files.old.store) (W.contents watched.old.writer.now)
+        (W.contents watched.new.writer.now) result) }
+    ensures place { files.new.place ≡ files.old.place }
+{
+    let done = read_live(files, Manner::Stream, watched);
+    watched.host.clear();
+    done
+}
+
+/// Reads a trace, and hands its entries to a view that has seen none. The other one takes its place meanwhile.
+fn look_at<V: View + Drop, H: Host>(
+    files: &mut Files<'_>,
+    view: V,
+    other: V,
+    host: &mut H,
+) -> Result<V, Uncounted>
+    requires none { V.seen view ≡ [] }
+    requires other { V.seen other ≡ [] }
+    ensures viewed { LooksOver files.old.store files.new.store
+        (most_to_read (reads_of files.old.store))
+        (IsViewed V.seen (reads_of files.old.store) result) }
+    ensures place { files.new.place ≡ files.old.place }
+{
+    let alloc = files.alloc();
+    let mut first = StreamView::new(alloc, view);
+    let mut watched = Watched::new(&mut first, host);
+    let done = read_into(files, &mut watched);
+    let stream = mem::replace(&mut *watched.writer, StreamView::new(alloc, other));
+    drop(watched);
+    drop(first);
+    let (view, fault) = stream.into_view();
+    match (done, fault) {
+        (_, Some(fault)) => Err(Uncounted::View(fault)),
+        (Err(unread), None) => Err(Uncounted::Unread(unread)),
+        (Ok(()), None) => Ok(view),
+    }
+}
+
+/// Reads a trace, and counts what its messages tell.
+fn count<H: Host>(files: &mut Files<'_>, host: &mut H) -> Result<Top, Uncounted>
+    ensures counted { LooksOver files.old.store files.new.store
+        (most_to_read (reads_of files.old.store))
+        (IsViewed taken_by (reads_of files.old.store) result) }
+    ensures place { files.new.place ≡ files.old.place }
+{
+    let alloc = files.alloc();
+    look_at(files, Top::new(alloc), Top::new(alloc), host)
+}
+
+/// Reads a trace, and counts the stacks of its calls.
+fn count_stacks<H: Host>(files: &mut Files<'_>, host: &mut H) -> Result<Folded, Uncounted>
+    ensures counted { LooksOver files.old.store files.new.store
+        (most_to_read (reads_of files.old.store))
+        (IsViewed folded_by (reads_of files.old.store) result) }
+    ensures place { files.new.place ≡ files.old.place }
+{
+    let alloc = files.alloc();
+    look_at(files, Folded::new(alloc), Folded::new(alloc), host)
+}
+
+/// What is told of a trace that has more rows than are counted.
+fn too_many(files: &Files<'_>) -> Result<Complaint, AllocError>
+    ensures { IfOk result (IsOfRows files.now.place.base.now) }
+{
+    Ok(Complaint::TooManyRows {
+        name: String::from_str(files.alloc(), files.place.base)?,
+    })
+}
+
+/// The same, also where there is no memory for it.
+fn too_many_at_least(files: &Files<'_>) -> Complaint
+    ensures { IsOfRows files.now.place.base.now result ⊎ IsOfMemory result }
+{
+    match too_many(files) {
+        Ok(complaint) => complaint,
+        Err(fault) => Complaint::from(fault),
+    }
+}
+
+/// What is told of a trace that isn't counted, by the command of this name.
+fn told(files: &mut Files<'_>, why: Uncounted, command: &'static str) -> Complaint
+    ensures told { TellsWhy (IsToldAt files.old.place files.new.store) files.old.place.base.now why
+        result }
+    ensures status { status_told result ≡ 1 }
+    ensures only_reads { (files.new.store ≡ files.old.store)
+        ⊎ OnlyLooks files.old.store files.new.store }
+    ensures at_most { CallsToTell files.old.store files.new.store }
+{
+    match why {
+        Uncounted::Unread(unread) => {
+            files.explained(
+                fault_of_reading(unread.fault),
+                unread.doing(Doing::Viewing(command)),
+            )
+        }
+        Uncounted::View(ViewFault::NoMemory) => Complaint::from(SimFault::NoMemory),
+        Uncounted::View(ViewFault::TooMany) => too_many_at_least(files),
+    }
+}
+
+/// Writes out a table that was written so.
+fn write_out<W: Write>(written: io::Result<()>, out: &mut W) -> Result<(), Complaint>
+    ensures { IfErr result IsOfWriter }
+{
+    match written {
+        Ok(()) => written_out(out.flush()),
+        Err(fault) => written_out(Err(fault)),
+    }
+}
+
+/// Counts what the messages of a trace tell, and writes the rows that are asked for.
+pub fn top<W: Write, H: Host>(
+    files: &mut Files<'_>,
+    ranking: Ranking,
+    is_json: bool,
+    watched: &mut Watched<'_, W, H>,
+) -> Result<(), Complaint>
+    ensures ended { LooksOver files.old.store files.new.store
+        (most_with result (most_to_read (reads_of files.old.store)) (reads_of files.old.store))
+        (IsTop (IsToldAt files.old.place files.new.store) files.old.place.base.now
+        (reads_of files.old.store) result) }
+    ensures status { IfErr result (λ complaint. status_told complaint ≡ 1) }
+{
+    let top = match count(files, &mut *watched.host) {
+        Ok(top) => top,
+        Err(why) => return Err(told(files, why, "top")),
+    };
+    match top.write(files.alloc(), ranking, is_json, &mut *watched.writer) {
+        Ok(written) => write_out(written, &mut *watched.writer),
+        Err(fault) => Err(told(files, Uncounted::View(fault), "top")),
+    }
+}
+
+/// Counts the stacks of calls of a trace, and writes a line for each.
+pub fn fold<W: Write, H: Host>(
+    files: &mut Files<'_>,
+    watched: &mut Watched<'_, W, H>,
+) -> Result<(), Complaint>
+    ensures ended { LooksOver files.old.store files.new.store
+        (most_with result (most_to_read (reads_of files.old.store)) (reads_of files.old.store))
+        (IsFold (IsToldAt files.old.place files.new.store) files.old.place.base.now
+        (reads_of files.old.store) result) }
+    ensures status { IfErr result (λ complaint. status_told complaint ≡ 1) }
+{
+    let folded = match count_stacks(files, &mut *watched.host) {
+        Ok(folded) => folded,
+        Err(why) => return Err(told(files, why, "export")),
+    };
+    match folded.write(&mut *watched.writer) {
+        Ok(()) => written_out(watched.writer.flush()),
+        Err(fault) => written_out(Err(fault)),
+    }
+}

@@ -1,4 +1,0 @@
-use Rattle.recorder.proofs.sites.files_to_read.Given as goal
-
-abbrev pub ghost-at : goal.ghost-at
-ghost-at g a = g.world'

@@ -1,4 +1,0 @@
-use Rattle.recorder.proofs.sites.files_to_write.Given as goal
-
-abbrev pub ghost-locked_at : goal.ghost-locked_at
-ghost-locked_at g a = g.world'

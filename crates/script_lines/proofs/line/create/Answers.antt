@@ -1,0 +1,10 @@
+use Rattle.script_lines.specs.Spellings.{texts}
+use Rattle.script_lines.specs.Table.{Creates}
+use Rattle.script_lines.proofs.Keywords.{behind, no_keyword}
+use Rattle.script_lines.proofs.line.create.Goals as goal
+
+pub returns-in_err-kind : goal.returns-in_err-kind
+returns-in_err-kind c = rw c.from_residual.ensures (no_keyword Creates (texts c.args.words.now) (λ k others e. c.in_err-kind.ensures (k, others) e))
+
+pub returns : goal.returns
+returns c = behind Creates (texts c.args.words.now) (texts c.in_ok-kind.others.now) c.in_ok-kind.kind c.created.result c.in_ok-kind.ensures c.created.ensures

@@ -1,7 +1,0 @@
-use Rattle.trace_script.proofs.line.held_line.Goals as goal
-
-pub returns-in-Bytes : goal.returns-in-Bytes
-returns-in-Bytes c = rw c.in-Bytes.is c.file_bytes.ensures
-
-pub returns-in-Put : goal.returns-in-Put
-returns-in-Put c = rw c.in-Put.is c.message.ensures

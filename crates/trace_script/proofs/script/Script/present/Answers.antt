@@ -1,8 +1,0 @@
-use Rattle.std.proofs.Common.{◌∙◌, subst, List, ℕ}
-use Rattle.trace_script.specs.Spellings.{IsFound}
-use Rattle.trace_script.specs.Table.{Spells}
-use Rattle.trace_script.proofs.script.Script.present.Goals as goal
-
-pub allowed-requires-clause-spelled : goal.allowed-requires-clause-spelled
-allowed-requires-clause-spelled g c =
-    subst (λ (text : List ℕ). IsFound (λ it. Spells it text) c.in_ok-parse.field-0) (c.in-Ok.ensures.cases.0 ∙ c.deref.ensures.value) c.in_ok-parse.ensures.spells

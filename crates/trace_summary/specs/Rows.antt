@@ -1,0 +1,80 @@
+-- Rows under the texts that they are for.
+use Rattle.std.specs.Prelude.{◌≡◌, ℕ, ◌+◌, Bool, ◌||◌, Option, Some, List, Vec, codes, if◌then◌else◌}
+use Rattle.std.specs.declared.alloc.Global.{Global}
+use Rattle.std.specs.HashMap.{HashMap, get_by}
+use Rattle.std.specs.Map.{update}
+use Rattle.std.specs.Option.{option_map, unwrap_or}
+use Rattle.std.specs.Str.{bytes_eq}
+use Rattle.trace_summary.specs.Counting.{Telling, FunctionCounts, ProcessCounts, function_row, process_row, kind_row}
+use Rattle.trace_summary.specs.declared.row.FunctionRow.{FunctionRow}
+use Rattle.trace_summary.specs.declared.row.ProcessRow.{ProcessRow}
+
+module _ {R S : Type 0} where
+  -- the row of a text
+  abbrev pub row_at : HashMap (Vec ℕ Global) R S → List ℕ → Option R
+  row_at rows text = get_by (λ key. bytes_eq text key.items) rows
+
+  -- this row is put under the text, and the others stay
+  abbrev pub Puts : HashMap (Vec ℕ Global) R S → HashMap (Vec ℕ Global) R S → List ℕ → R → Type 0
+  Puts old new text row = (other : List ℕ) → row_at new other ≡ update bytes_eq (row_at old) text (Some row) other
+
+abbrev pub counts_of_function : FunctionRow → FunctionCounts
+counts_of_function row = record { calls = row.calls; returns = row.returns; exceptions = row.exceptions }
+
+abbrev pub counts_of_process : ProcessRow → ProcessCounts
+counts_of_process row = record { calls = row.calls; sent = row.sent; received = row.received }
+
+-- nothing is counted yet
+abbrev pub no_function_counts : FunctionCounts
+no_function_counts = record { calls = 0; returns = 0; exceptions = 0 }
+
+abbrev pub no_process_counts : ProcessCounts
+no_process_counts = record { calls = 0; sent = 0; received = 0 }
+
+abbrev pub one_if : Bool → ℕ
+one_if test = if test then 1 else 0
+
+-- with one message of this kind more
+abbrev pub function_counts_with : List ℕ → FunctionCounts → FunctionCounts
+function_counts_with kind counts = record {
+  calls = counts.calls + one_if (bytes_eq kind (codes "call"));
+  returns = counts.returns + one_if (bytes_eq kind (codes "return"));
+  exceptions = counts.exceptions + one_if (bytes_eq kind (codes "exception"));
+}
+
+abbrev pub process_counts_with : List ℕ → ProcessCounts → ProcessCounts
+process_counts_with kind counts = record {
+  calls = counts.calls + one_if (bytes_eq kind (codes "call"));
+  sent = counts.sent + one_if (bytes_eq kind (codes "send") || bytes_eq kind (codes "send_lost"));
+  received = counts.received + one_if (bytes_eq kind (codes "receive"));
+}
+
+module _ {S : Type 0} where
+  -- what is counted of a function; nothing where it has no row
+  abbrev pub function_counts_at : HashMap (Vec ℕ Global) FunctionRow S → List ℕ → FunctionCounts
+  function_counts_at rows function = unwrap_or (option_map counts_of_function (row_at rows function)) no_function_counts
+
+  -- of a process
+  abbrev pub process_counts_at : HashMap (Vec ℕ Global) ProcessRow S → List ℕ → ProcessCounts
+  process_counts_at rows process = unwrap_or (option_map counts_of_process (row_at rows process)) no_process_counts
+
+-- the kinds that are counted of functions
+abbrev pub is_of_functions : List ℕ → Bool
+is_of_functions kind = bytes_eq kind (codes "call") || (bytes_eq kind (codes "return") || bytes_eq kind (codes "exception"))
+
+-- the kinds that are counted of processes
+abbrev pub is_of_processes : List ℕ → Bool
+is_of_processes kind = bytes_eq kind (codes "call") || ((bytes_eq kind (codes "send") || bytes_eq kind (codes "send_lost")) || bytes_eq kind (codes "receive"))
+
+module _ {S : Type 0} where
+  -- each function has the row that these messages give it
+  abbrev pub AreFunctionsCounted : HashMap (Vec ℕ Global) FunctionRow S → List Telling → Type 0
+  AreFunctionsCounted rows told = (function : List ℕ) → option_map counts_of_function (row_at rows function) ≡ function_row function told
+
+  -- each process
+  abbrev pub AreProcessesCounted : HashMap (Vec ℕ Global) ProcessRow S → List Telling → Type 0
+  AreProcessesCounted rows told = (process : List ℕ) → option_map counts_of_process (row_at rows process) ≡ process_row process told
+
+  -- each kind
+  abbrev pub AreKindsCounted : HashMap (Vec ℕ Global) ℕ S → List Telling → Type 0
+  AreKindsCounted rows told = (word : List ℕ) → row_at rows word ≡ kind_row word told

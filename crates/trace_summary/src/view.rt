@@ -1,0 +1,35 @@
+//! What looks at the entries of a trace, one by one.
+
+ghost use Rattle.std.specs.Prelude.{◌≡◌, ◌++◌, ◌∷◌, [], List, OnOk, OnErr};
+ghost use Rattle.entry_codec.specs.{Entries.Entry, Seen.lent};
+ghost use Rattle.trace_summary.specs.declared.view.ViewFault.TheVariants.{NoMemory};
+
+use entry_codec::EntryRef;
+use std::alloc::AllocError;
+
+/// Why a view takes no more.
+#[derive(Clone, Copy, Debug, PartialEq, Eq)]
+pub enum ViewFault {
+    NoMemory,
+    /// It has more rows than it may.
+    TooMany,
+}
+
+impl From<AllocError> for ViewFault {
+    ghost from_gives = { λ _ fault. fault ≡ NoMemory };
+
+    fn from(_fault: AllocError) -> Self {
+        ViewFault::NoMemory
+    }
+}
+
+/// Looks at entries, the oldest first.
+pub trait View {
+    /// Those that it took.
+    ghost seen: { Self → List Entry };
+
+    /// Takes the next one, which may be a message longer than one that is stored. After a fault it takes no more.
+    fn take(&mut self, entry: EntryRef<'_>) -> Result<(), ViewFault>
+        ensures taken { OnOk result (seen self.new ≡ seen self.old ++ (lent entry.entry ∷ [])) }
+        ensures stays { OnErr result (seen self.new ≡ seen self.old) };
+}
