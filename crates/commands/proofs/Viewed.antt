@@ -27,14 +27,14 @@ use Rattle.commands.specs.Naming.{IsToldAt}
 use Rattle.commands.specs.Files.{OnlyLooks}
 use Rattle.commands.specs.Telling.{IsOfWriter}
 use Rattle.commands.specs.Viewing.{AreExported, IsFold, IsReadInto, IsViewed, IsTop, TellsWhy, counted, folded, folded_by, not_folded, refused, taken_by, too_many, not_told}
-use Rattle.commands.specs.declared.live.Unread.{Unread}
+use Rattle.commands.specs.declared.live.ReadFailure.{ReadFailure}
 use Rattle.commands.specs.declared.viewing.Uncounted.{Uncounted}
 use Rattle.commands.specs.declared.viewing.Uncounted.TheVariants as whys
 
 -- a trace was written whole, or why it wasn't
-pub read_so : (image : Image) (old now : Option (List ℕ)) (result : Result Unit Unread) → OnOk result ((text : List ℕ) × WritesStore as_bytes image text × Appends old now text) → OnOk result (IsStanding standings.Ours image) → IfErr result (λ unread. IsWhyNotRead unread.fault image) → IsReadInto image old now result
+pub read_so : (image : Image) (old now : Option (List ℕ)) (result : Result Unit ReadFailure) → OnOk result ((text : List ℕ) × WritesStore as_bytes image text × Appends old now text) → OnOk result (IsStanding standings.Ours image) → IfErr result (λ failure. IsWhyNotRead failure.fault image) → IsReadInto image old now result
 read_so image old now (Ok done) wrote there why_not = (there, wrote)
-read_so image old now (Err unread) wrote there why_not = why_not
+read_so image old now (Err failure) wrote there why_not = why_not
 
 -- a view that had seen nothing was given an export
 pub exported : (image : Image) (first : List Entry) (held : List ℕ) (seen : List Entry) (pending : List ℕ) (taken : List Entry) → first ≡ [] → held ≡ [] → IsStanding standings.Ours image
@@ -51,7 +51,7 @@ exported image first held seen pending taken none empty there wrote are =
 
 -- what is told where it isn't counted
 pub not_counted : {V : Type 0} (seen : V → List Entry) (Told : SimFault → Complaint → Type 0) (base : List ℕ) (image : Image) (why : Uncounted) (complaint : Complaint) → IsViewed seen image (Err why) → TellsWhy Told base why complaint → IsTop Told base image (Err complaint)
-not_counted seen Told base image (whys.Unread unread) complaint why_not told = refused unread.fault complaint why_not told
+not_counted seen Told base image (whys.ReadFailure failure) complaint why_not told = refused failure.fault complaint why_not told
 not_counted seen Told base image (whys.View views.NoMemory) complaint why_not told = not_told complaint (inr told)
 not_counted seen Told base image (whys.View views.TooMany) complaint why_not told = elim told [
   | inl rows ↦ too_many complaint rows

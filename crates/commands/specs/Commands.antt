@@ -61,7 +61,7 @@ use Rattle.import.specs.declared.fault.ImportFault.{ImportFault}
 use Rattle.trace_port.specs.Limits.{greatest_limit}
 use Rattle.script_runner.specs.PortOpenings.{first_told, FitsStore, GoesOnOrBegins}
 use Rattle.commands.specs.Openings.{wanted, TellsFault, KeepsTrace, IsWhyNotOpened}
-use Rattle.trace_lookup.specs.Places.{file_count, turn_of}
+use Rattle.trace_lookup.specs.Places.{file_count, run_end_of}
 use Rattle.trace_lookup.specs.declared.place.Place.{Place}
 use Rattle.script_runner.specs.Texts.{line_of}
 use Rattle.script_runner.specs.declared.answer.Answer.TheVariants.{Done}
@@ -149,7 +149,7 @@ pub data Feeds (place : Place) (spec : Spec) (rules : Rules) (old new : FolderSt
   -- no byte came
   nothing_came : {then : Outside} → EndsWithin rules.skip saw then → LooksOver old new (2 * length (reads_of old)) (HasNoForeign (reads_of old)) → observed ≡ then.observed → Keeps was now → Feeds place spec rules old new saw observed was now (Ok tt)
   -- the first byte couldn't be had
-  unread : {then : Outside} (fault : ImportFault) (complaint : Complaint) → IsUnread rules.skip saw then fault → LooksOver old new (2 * length (reads_of old) + most_to_tell (reads_of old)) (HasNoForeign (reads_of old)) → observed ≡ then.observed → Keeps was now → IsToldAt place new (import_fault fault) complaint
+  failure : {then : Outside} (fault : ImportFault) (complaint : Complaint) → IsUnread rules.skip saw then fault → LooksOver old new (2 * length (reads_of old) + most_to_tell (reads_of old)) (HasNoForeign (reads_of old)) → observed ≡ then.observed → Keeps was now → IsToldAt place new (import_fault fault) complaint
       → Feeds place spec rules old new saw observed was now (Err complaint)
   -- its files aren't a trace's, or that can't be known, and nothing was read
   refused : {first : FolderStore} (fault : SimFault) (complaint : Complaint) → (honest_of new → IsWhyNotOpened spec fault (reads_of old)) → OnlyLooks old first → CallsToLook old first → TellsFault (failures_of old) (failures_of first) fault → LooksBehind fault first new → observed ≡ saw.observed → Keeps was now → IsToldAt place new fault complaint
@@ -212,8 +212,8 @@ Serves (requests.Top asked ranking is_json) shown old new saw observed was now r
     × IfErr result (λ complaint. status_told complaint ≡ 1)
 Serves (requests.Wipe asked is_forced) shown old new saw observed was now result = (honest_of new.store → Clears (clearing_of is_forced) old.place old.store new.store was now result)
     × (honest_of new.store → IsNotToWipe (clearing_of is_forced) (reads_of old.store) → OnlyLooks old.store new.store) × (honest_of new.store → LeavesOnly clock_of moments_of old.store new.store (IsClearing (images_of old.store)))
-Serves (requests.Record asked) shown old new saw observed was now result = Records old.place (wanted old.place.kind (turn_of asked)) old.store new.store saw.remaining was now result
-Serves (requests.Import asked rules) shown old new saw observed was now result = Feeds old.place (wanted old.place.kind (turn_of asked)) rules old.store new.store saw observed was now result
+Serves (requests.Record asked) shown old new saw observed was now result = Records old.place (wanted old.place.kind (run_end_of asked)) old.store new.store saw.remaining was now result
+Serves (requests.Import asked rules) shown old new saw observed was now result = Feeds old.place (wanted old.place.kind (run_end_of asked)) rules old.store new.store saw observed was now result
 
 -- no device call was made yet on the files of a trace, whatever the world that they are part of
 abbrev pub IsUntouched : World → Files → Type 0

@@ -41,7 +41,7 @@ MayHaveChanged _ = ⊥
 
 -- files may have been opened so in the midst of a turn
 abbrev pub MayBeTorn : Result Opened ReadFault → Type 0
-MayBeTorn (Ok (opened.Wrap turn)) = turn.may_be_torn ≡ true
+MayBeTorn (Ok (opened.Wrap run_end)) = run_end.may_be_torn ≡ true
 MayBeTorn (Ok opened.Other) = Unit {0}
 MayBeTorn (Err fault) = MayHaveChanged fault
 

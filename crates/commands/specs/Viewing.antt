@@ -25,7 +25,7 @@ use Rattle.faults.specs.declared.complaint.Complaint.{Complaint}
 use Rattle.faults.specs.declared.complaint.Complaint.TheVariants as complaints
 use Rattle.script_runner.specs.declared.fault.SimFault.{SimFault}
 use Rattle.commands.specs.Telling.{IsOfMemory, IsOfWriter}
-use Rattle.commands.specs.declared.live.Unread.{Unread}
+use Rattle.commands.specs.declared.live.ReadFailure.{ReadFailure}
 use Rattle.commands.specs.declared.viewing.Uncounted.{Uncounted}
 use Rattle.commands.specs.declared.viewing.Uncounted.TheVariants as whys
 
@@ -45,14 +45,14 @@ pub record AreExported (image : Image) (taken : List Entry) : Type 0 where
   pub are : (entries : List Entry) → FitHeads entries → text ≡ bytes_of entries → taken ≡ entries
 
 -- the bytes of a writer grew by those that an export writes; or why the trace isn't read
-abbrev pub IsReadInto : Image → Option (List ℕ) → Option (List ℕ) → Result Unit Unread → Type 0
+abbrev pub IsReadInto : Image → Option (List ℕ) → Option (List ℕ) → Result Unit ReadFailure → Type 0
 IsReadInto image old new (Ok done) = IsStanding standings.Ours image × ((text : List ℕ) × WritesStore as_bytes image text × Appends old new text)
-IsReadInto image old new (Err unread) = IsWhyNotRead unread.fault image
+IsReadInto image old new (Err failure) = IsWhyNotRead failure.fault image
 
 -- what a reading came to: a view has seen these; or why the trace isn't read, or no more is taken
 abbrev pub IsViewed : {V : Type 0} → (V → List Entry) → Image → Result V Uncounted → Type 0
 IsViewed seen image (Ok view) = AreExported image (seen view)
-IsViewed seen image (Err (whys.Unread unread)) = IsWhyNotRead unread.fault image
+IsViewed seen image (Err (whys.ReadFailure failure)) = IsWhyNotRead failure.fault image
 IsViewed seen image (Err (whys.View fault)) = Unit {0}
 
 -- that there are too many rows is told with the name of the trace
@@ -62,7 +62,7 @@ IsOfRows base complaint = ⊥
 
 -- what is told of each, also where there is no memory for it
 abbrev pub TellsWhy : (SimFault → Complaint → Type 0) → List ℕ → Uncounted → Complaint → Type 0
-TellsWhy Told base (whys.Unread unread) complaint = Told (read_fault unread.fault) complaint
+TellsWhy Told base (whys.ReadFailure failure) complaint = Told (read_fault failure.fault) complaint
 TellsWhy Told base (whys.View views.NoMemory) complaint = IsOfMemory complaint
 TellsWhy Told base (whys.View views.TooMany) complaint = IsOfRows base complaint ⊎ IsOfMemory complaint
 

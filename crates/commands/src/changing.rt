@@ -17,11 +17,11 @@ ghost use Rattle.commands.specs.Openings.{wanted, most_to_begin, TellsFault, Kee
 ghost use Rattle.commands.specs.Files.{CallsToEnd, CallsToLook, CallsToKeep, CallsToClear, CallsToTryClearing, OnlyLooks, MayFail, FolderReads, RanAtDesk, WasRecorded, IsCounted, IsCount};
 
 use crate::counting::{count_kept, is_of_memory};
-use crate::doing::Doing;
 use crate::files::Files;
 use crate::importing::{self, Fed};
 use crate::opening::{find_own, open_store};
 use crate::reading::apart_for;
+use crate::stage::Stage;
 use command_line::Rules;
 use faults::{Complaint, Kept, fault_in_input};
 use import::{Incoming, Source};
@@ -32,7 +32,7 @@ use script_runner::{
 use std::alloc::AllocError;
 use std::io::{BufRead, Write};
 use stores::FolderStore;
-use trace_lookup::Turn;
+use trace_lookup::RunEnd;
 use trace_reader::{Clearing, Host, WipeFault, wipe_trace};
 use trace_store::Store;
 
@@ -85,28 +85,28 @@ impl Files<'_> {
     }
 
     /// Opens a port for it: goes on with the trace that is there, or begins one.
-    pub fn open(&mut self, turn: Turn) -> Result<(AnyOpening, Origin), SimFault>
+    pub fn open(&mut self, run_end: RunEnd) -> Result<(AnyOpening, Origin), SimFault>
         ensures suits { IfOk result (λ r. FitsStore ⟦<FolderStore as Store>⟧ r.0 self.new.store) }
         ensures opens { honest_of self.new.store
             → IfOk result (λ r. GoesOnOrBegins (reads_of self.old.store)
             (first_told r.0 (device_of ⟦<FolderStore as Store>⟧ self.new.store))
-            (wanted self.old.place.kind turn) greatest_limit r.1) }
+            (wanted self.old.place.kind run_end) greatest_limit r.1) }
         ensures ours { honest_of self.new.store
             → OnOk result (HasNoForeign (reads_of self.old.store)) }
         ensures why_not { honest_of self.new.store
-            → IfErr result (λ fault. IsWhyNotOpened (wanted self.old.place.kind turn) fault
+            → IfErr result (λ fault. IsWhyNotOpened (wanted self.old.place.kind run_end) fault
             (reads_of self.old.store)) }
         ensures untouched { honest_of self.new.store → HasForeign (reads_of self.old.store)
             → OnlyLooks self.old.store self.new.store }
         ensures any_moment { honest_of self.new.store
             → KeepsTrace (device_of ⟦<FolderStore as Store>⟧ self.old.store)
-            (device_of ⟦<FolderStore as Store>⟧ self.new.store) (wanted self.old.place.kind turn) }
+            (device_of ⟦<FolderStore as Store>⟧ self.new.store) (wanted self.old.place.kind run_end) }
         ensures device { OpensOn ⟦<FolderStore as Store>⟧ IsFaultOfDevice self.old.store
             self.new.store result (2 * length (reads_of self.old.store)
             + most_to_begin (reads_of self.old.store)) }
         ensures place { self.new.place ≡ self.old.place }
     {
-        open_store(self.alloc(), &mut self.store, self.place.kind, turn)
+        open_store(self.alloc(), &mut self.store, self.place.kind, run_end)
     }
 
     /// Runs a script's lines at the desk of a port over an opening.
@@ -223,7 +223,7 @@ impl Files<'_> {
     {
         let apart = apart_for(self.alloc(), &mut self.store, Some(&fault));
         let fault = fault_in_input(fault, skipped);
-        let complaint = self.told_at_least(fault, Doing::Importing, apart);
+        let complaint = self.told_at_least(fault, Stage::Importing, apart);
         let kept = if complaint.is_of_going_on() {
             self.kept(before, skipped, incoming).unwrap_or(None)
         } else {

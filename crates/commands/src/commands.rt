@@ -11,16 +11,16 @@ ghost use Rattle.commands.specs.{Live.most_to_read, Files.most_with, Files.OnlyL
 ghost use Rattle.stores.specs.declared.folder_store.FolderStore.{FolderStore};
 ghost use Rattle.import.specs.{Incoming.Outside, Incoming.outside, Beginning.Begins};
 ghost use Rattle.commands.specs.Openings.{wanted};
-ghost use Rattle.trace_lookup.specs.Places.{turn_of};
+ghost use Rattle.trace_lookup.specs.Places.{run_end_of};
 ghost use Rattle.script_runner.specs.Texts.{line_of};
 ghost use Rattle.script_runner.specs.declared.answer.Answer.TheVariants.{Done};
 
-use crate::doing::Doing;
 use crate::files::Files;
 use crate::importing::fault_of_import;
 use crate::informing::info;
 use crate::live::read_live;
 use crate::salvaging::salvage;
+use crate::stage::Stage;
 use crate::viewing::{fold, top};
 use command_line::{Rules, Shown, TraceRequest, Wanted};
 use faults::{Complaint, fault_of_reading, told};
@@ -29,8 +29,8 @@ use script_runner::{Answer, Answers, SimFault};
 use std::alloc::Global;
 use std::io::{self, BufReader, Read, Write};
 use trace_client::StreamStyle;
-use trace_lookup::Turn;
-use trace_reader::{Clearing, Host, Manner, Watched, run_stream};
+use trace_lookup::RunEnd;
+use trace_reader::{Clearing, Host, OutputForm, Watched, run_stream};
 use trace_text::{Notation, Style, Wording};
 
 /// What is read at a time, in bytes.
@@ -79,8 +79,8 @@ pub fn serve_trace<R: Read + Drop, W: Write, H: Host>(
         TraceRequest::List {
             asked: _,
             is_pretty,
-        } => read_trace(files, Manner::Lines(style(is_pretty, shown)), watched),
-        TraceRequest::Export(_) => read_trace(files, Manner::Stream, watched),
+        } => read_trace(files, OutputForm::Lines(style(is_pretty, shown)), watched),
+        TraceRequest::Export(_) => read_trace(files, OutputForm::Stream, watched),
         TraceRequest::Fold(_) => fold(files, watched),
         TraceRequest::Salvage { asked: _, form } => salvage(files, form, shown, watched),
         TraceRequest::Info { asked: _, is_json } => info(files, is_json, watched),
@@ -150,36 +150,36 @@ pub fn written_out(flushed: io::Result<()>) -> Result<(), Complaint>
 }
 
 /// What was done when it came that a trace isn't written out so.
-fn doing<W: Write, H: Host>(manner: Manner<'_>, watched: &Watched<'_, W, H>) -> Doing {
-    match manner {
-        Manner::Lines(_) => Doing::Listing {
+fn stage<W: Write, H: Host>(output_form: OutputForm<'_>, watched: &Watched<'_, W, H>) -> Stage {
+    match output_form {
+        OutputForm::Lines(_) => Stage::Listing {
             entries: watched.entries(),
             shown: watched.shown(),
         },
-        Manner::Stream => Doing::Exporting(watched.entries()),
+        OutputForm::Stream => Stage::Exporting(watched.entries()),
     }
 }
 
 /// Lists a trace, or writes it as an entry stream.
 fn read_trace<W: Write, H: Host>(
     files: &mut Files<'_>,
-    manner: Manner<'_>,
+    output_form: OutputForm<'_>,
     watched: &mut Watched<'_, W, H>,
 ) -> Result<(), Complaint>
     ensures { LooksOver files.old.store files.new.store
         (most_with result (most_to_read (reads_of files.old.store)) (reads_of files.old.store))
-        (IsRead (form_of manner.entry) (IsToldAt files.old.place files.new.store)
+        (IsRead (form_of output_form.entry) (IsToldAt files.old.place files.new.store)
         (reads_of files.old.store) (W.contents watched.old.writer.now)
         (W.contents watched.new.writer.now) result) }
 {
-    let done = read_live(files, manner, watched);
+    let done = read_live(files, output_form, watched);
     let flushed = watched.flush();
     watched.host.clear();
     match done {
         Ok(()) => written_out(flushed),
-        Err(unread) => {
-            let doing = unread.doing(doing(manner, watched));
-            Err(files.explained(fault_of_reading(unread.fault), doing))
+        Err(failure) => {
+            let stage = failure.stage(stage(output_form, watched));
+            Err(files.explained(fault_of_reading(failure.fault), stage))
         }
     }
 }
@@ -231,21 +231,21 @@ fn record<R: Read + Drop, W: Write, H: Host>(
     input: R,
     watched: &mut Watched<'_, W, H>,
 ) -> Result<(), Complaint>
-    ensures { Records files.old.place (wanted files.old.place.kind (turn_of asked.now))
+    ensures { Records files.old.place (wanted files.old.place.kind (run_end_of asked.now))
         files.old.store files.new.store (R.remaining input) (W.contents watched.old.writer.now)
         (W.contents watched.new.writer.now) result }
 {
     let Ok(mut reader) = BufReader::with_capacity(files.alloc(), BUFFER, input) else {
         return Err(Complaint::from(SimFault::NoMemory));
     };
-    match files.open(Turn::of(asked)) {
+    match files.open(RunEnd::of(asked)) {
         Ok((opened, origin)) => {
             files.tell_own(asked, origin);
             let done = files.record(opened, origin, &mut reader, &mut *watched.writer);
             files.tell_device();
             told(done)
         }
-        Err(fault) => Err(files.explained(fault, Doing::Opening)),
+        Err(fault) => Err(files.explained(fault, Stage::Opening)),
     }
 }
 
@@ -257,14 +257,14 @@ fn import<R: Read + Drop, W: Write, H: Host>(
     input: R,
     watched: &mut Watched<'_, W, H>,
 ) -> Result<(), Complaint>
-    ensures { Feeds files.old.place (wanted files.old.place.kind (turn_of asked.now)) rules
+    ensures { Feeds files.old.place (wanted files.old.place.kind (run_end_of asked.now)) rules
         files.old.store files.new.store
         (outside (R.remaining input) 0 (H.observed watched.old.host.now))
         (H.observed watched.new.host.now) (W.contents watched.old.writer.now)
         (W.contents watched.new.writer.now) result }
 {
     if let Err(fault) = files.check_own() {
-        return Err(files.explained(fault, Doing::Opening));
+        return Err(files.explained(fault, Stage::Opening));
     }
     let mut stream = Stream::over(input);
     match begin(
@@ -279,7 +279,7 @@ fn import<R: Read + Drop, W: Write, H: Host>(
             files.tell_nothing_came();
             Ok(())
         }
-        Err(fault) => Err(files.explained(fault_of_import(fault), Doing::Opening)),
+        Err(fault) => Err(files.explained(fault_of_import(fault), Stage::Opening)),
     }
 }
 
@@ -299,11 +299,11 @@ fn feed<I: Source, W: Write, H: Host>(
         → Begins rules.skip rules.longest saw
         (outside (I.remaining stream.old) (I.reads stream.old) (H.observed watched.old.host.now))
         incoming.old → Feeds files.old.place
-        (wanted files.old.place.kind (turn_of asked.now)) rules first files.new.store saw
+        (wanted files.old.place.kind (run_end_of asked.now)) rules first files.new.store saw
         (H.observed watched.new.host.now) (W.contents watched.old.writer.now)
         (W.contents watched.new.writer.now) result }
 {
-    match files.open(Turn::of(asked)) {
+    match files.open(RunEnd::of(asked)) {
         Ok((opened, origin)) => {
             files.tell_own(asked, origin);
             let (writer, host) = (&mut *watched.writer, &mut *watched.host);
@@ -312,6 +312,6 @@ fn feed<I: Source, W: Write, H: Host>(
             files.tell_too_long(rules.longest, incoming.too_long());
             files.import_told(done, rules.skip, incoming)
         }
-        Err(fault) => Err(files.explained(fault, Doing::Opening)),
+        Err(fault) => Err(files.explained(fault, Stage::Opening)),
     }
 }

@@ -6,9 +6,9 @@ ghost use Rattle.trace_reader.specs.{Looks.IsWhyGone, Sections.IsLookStopped};
 ghost use Rattle.commands.specs.Following.{style_in, number_in, where_in, found_anew, LooksAnew, IsWhyNotGoneOn, IsSeen, GoesOn, refusals_after, HasFollowed, Follows};
 
 use crate::commands::{style, written_out};
-use crate::doing::Doing;
 use crate::files::Files;
 use crate::live::is_changing;
+use crate::stage::Stage;
 use command_line::Shown;
 use faults::{Complaint, fault_of_reading};
 use std::io::Write;
@@ -126,11 +126,11 @@ fn follow<R: Wait, W: Write, H: Host>(
 }
 
 /// What was done when a fault came.
-fn doing(files: &Files<'_>, follower: &Follower<'_>) -> Doing {
+fn stage(files: &Files<'_>, follower: &Follower<'_>) -> Stage {
     if files.count() > 1 {
-        Doing::Other
+        Stage::Other
     } else {
-        Doing::Listing {
+        Stage::Listing {
             entries: follower.number(),
             shown: follower.shown(),
         }
@@ -152,10 +152,10 @@ pub fn serve_following<R: Wait, W: Write, H: Host>(
     let mut follower = Follower::new(files.alloc(), style(is_pretty, shown));
     let done = follow(rt, files, &mut follower, watched);
     let flushed = watched.flush();
-    let doing = doing(files, &follower);
+    let stage = stage(files, &follower);
     drop(follower);
     match done {
         Ok(()) => written_out(flushed),
-        Err(fault) => Err(files.explained(fault_of_reading(fault), doing)),
+        Err(fault) => Err(files.explained(fault_of_reading(fault), stage)),
     }
 }

@@ -5,8 +5,8 @@ ghost use Rattle.faults.specs.{Complaints.status_told, Faults.read_fault};
 ghost use Rattle.commands.specs.{Files.CallsToTell, Files.OnlyLooks, Files.LooksOver, Informing.most_to_sum, Informing.most_to_gather, Informing.most_to_inform, Informing.IsGathered, Informing.IsInfo, Naming.IsToldAt};
 ghost use Rattle.script_runner.specs.declared.fault.SimFault.TheVariants as faults;
 
-use crate::doing::Doing;
 use crate::files::Files;
+use crate::stage::Stage;
 use faults::{Complaint, fault_of_reading};
 use script_runner::SimFault;
 use std::alloc::{AllocError, Global};
@@ -67,11 +67,11 @@ fn look_over(files: &mut Files<'_>) -> Result<Info, ReadFault>
 }
 
 /// What was done when a trace was found not to be whole.
-fn doing_of(info: &Info) -> Doing {
+fn doing_of(info: &Info) -> Stage {
     if info.is_written {
-        Doing::ReadingAgain
+        Stage::ReadingAgain
     } else {
-        Doing::Counting(info.before_damage())
+        Stage::Counting(info.before_damage())
     }
 }
 
@@ -115,13 +115,13 @@ fn flush<W: Write>(out: &mut W) -> Result<(), SimFault>
 }
 
 /// What is told of a trace that isn't whole, or isn't read at all.
-pub fn told(files: &mut Files<'_>, fault: ReadFault, doing: Doing) -> Complaint
+pub fn told(files: &mut Files<'_>, fault: ReadFault, stage: Stage) -> Complaint
     ensures told { IsToldAt files.old.place files.new.store (read_fault fault) result }
     ensures status { status_told result ≡ 1 }
     ensures only_reads { OnlyLooks files.old.store files.new.store }
     ensures at_most { CallsToTell files.old.store files.new.store }
 {
-    files.explained(fault_of_reading(fault), doing)
+    files.explained(fault_of_reading(fault), stage)
 }
 
 /// Tells what a trace holds, in numbers; where it isn't whole, what could be read of it.
@@ -137,7 +137,7 @@ pub fn info<W: Write, H: Host>(
 {
     let info = match look_over(files) {
         Ok(info) => info,
-        Err(fault) => return Err(told(files, fault, Doing::Other)),
+        Err(fault) => return Err(told(files, fault, Stage::Other)),
     };
     if let Err(fault) = write_info(&info, files.alloc(), is_json, &mut *watched.writer) {
         return Err(Complaint::from(fault));

@@ -8,22 +8,22 @@ ghost use Rattle.trace_reader.specs.WritesOut.{form_of};
 ghost use Rattle.commands.specs.{Files.LooksOver, Commands.IsWrittenAs, Naming.IsToldAt, Salvaging.most_to_salvage, Salvaging.TellsSum, Salvaging.IsSalvage, Telling.IsOfMemory};
 
 use crate::commands::{style, written_out};
-use crate::doing::Doing;
 use crate::files::Files;
 use crate::informing::told;
+use crate::stage::Stage;
 use command_line::{Form, Shown};
 use faults::{Complaint, Salvage};
 use std::alloc::AllocError;
 use std::io::Write;
-use trace_reader::{Host, Manner, ReadFault, Salvaged, Watched};
+use trace_reader::{Host, OutputForm, ReadFault, Salvaged, Watched};
 
 /// How entries are written.
-fn manner(form: Form, shown: &Shown) -> Manner<'_>
+fn output_form(form: Form, shown: &Shown) -> OutputForm<'_>
     ensures { IsWrittenAs form shown.now (form_of result) }
 {
     match form {
-        Form::Lines { is_pretty } => Manner::Lines(style(is_pretty, shown)),
-        Form::Stream => Manner::Stream,
+        Form::Lines { is_pretty } => OutputForm::Lines(style(is_pretty, shown)),
+        Form::Stream => OutputForm::Stream,
     }
 }
 
@@ -68,20 +68,20 @@ pub fn salvage<W: Write, H: Host>(
     ensures never { IsErr result }
     ensures status { IfErr result (λ complaint. status_told complaint ≡ 1) }
 {
-    let done = files.salvage(manner(form, shown), watched);
+    let done = files.salvage(output_form(form, shown), watched);
     let flushed = watched.flush();
     watched.host.clear();
     match done {
         Ok(salvaged) => match written_out(flushed) {
             Ok(()) => {
                 if files.is_absent(salvaged.files) {
-                    Err(told(files, ReadFault::Absent, Doing::Other))
+                    Err(told(files, ReadFault::Absent, Stage::Other))
                 } else {
                     Err(summary_at_least(files, &salvaged, watched.shown()))
                 }
             }
             Err(complaint) => Err(complaint),
         },
-        Err(fault) => Err(told(files, fault, Doing::Other)),
+        Err(fault) => Err(told(files, fault, Stage::Other)),
     }
 }

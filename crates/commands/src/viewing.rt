@@ -5,23 +5,23 @@ ghost use Rattle.faults.specs.Complaints.{status_told};
 ghost use Rattle.commands.specs.{Files.CallsToTell, Files.LooksOver, Files.OnlyLooks, Files.most_with, Live.most_to_read, Naming.IsToldAt, Telling.IsOfMemory, Telling.IsOfWriter, Viewing.folded_by, Viewing.taken_by, Viewing.IsFold, Viewing.IsViewed, Viewing.IsOfRows, Viewing.IsReadInto, Viewing.IsTop, Viewing.TellsWhy};
 
 use crate::commands::written_out;
-use crate::doing::Doing;
 use crate::files::Files;
-use crate::live::{Unread, read_live};
+use crate::live::{ReadFailure, read_live};
+use crate::stage::Stage;
 use command_line::Ranking;
 use faults::{Complaint, fault_of_reading};
 use script_runner::SimFault;
 use std::alloc::{AllocError, Global};
 use std::io::{self, Write};
 use std::mem;
-use trace_reader::{Host, Manner, Watched};
+use trace_reader::{Host, OutputForm, Watched};
 use trace_summary::{Folded, StreamView, Top, View, ViewFault};
 
 /// Why a trace isn't counted.
 #[derive(Clone, Copy)]
 pub enum Uncounted {
     /// It isn't read to its end.
-    Unread(Unread),
+    ReadFailure(ReadFailure),
     /// What counts takes no more.
     View(ViewFault),
 }
@@ -30,14 +30,14 @@ pub enum Uncounted {
 fn read_into<W: Write, H: Host>(
     files: &mut Files<'_>,
     watched: &mut Watched<'_, W, H>,
-) -> Result<(), Unread>
+) -> Result<(), ReadFailure>
     ensures read { LooksOver files.old.store files.new.store
         (most_to_read (reads_of files.old.store))
         (IsReadInto (reads_of files.old.store) (W.contents watched.old.writer.now)
         (W.contents watched.new.writer.now) result) }
     ensures place { files.new.place ≡ files.old.place }
 {
-    let done = read_live(files, Manner::Stream, watched);
+    let done = read_live(files, OutputForm::Stream, watched);
     watched.host.clear();
     done
 }
@@ -66,7 +66,7 @@ fn look_at<V: View + Drop, H: Host>(
     let (view, fault) = stream.into_view();
     match (done, fault) {
         (_, Some(fault)) => Err(Uncounted::View(fault)),
-        (Err(unread), None) => Err(Uncounted::Unread(unread)),
+        (Err(failure), None) => Err(Uncounted::ReadFailure(failure)),
         (Ok(()), None) => Ok(view),
     }
 }
@@ -122,10 +122,10 @@ fn told(files: &mut Files<'_>, why: Uncounted, command: &'static str) -> Complai
     ensures at_most { CallsToTell files.old.store files.new.store }
 {
     match why {
-        Uncounted::Unread(unread) => {
+        Uncounted::ReadFailure(failure) => {
             files.explained(
-                fault_of_reading(unread.fault),
-                unread.doing(Doing::Viewing(command)),
+                fault_of_reading(failure.fault),
+                failure.stage(Stage::Viewing(command)),
             )
         }
         Uncounted::View(ViewFault::NoMemory) => Complaint::from(SimFault::NoMemory),

@@ -4,8 +4,8 @@ use Rattle.std.specs.Fmt.{decimal}
 use Rattle.command_line.specs.declared.request.Wanted.{Wanted}
 use Rattle.trace_lookup.specs.declared.place.Kind.{Kind}
 use Rattle.trace_lookup.specs.declared.place.Kind.TheVariants as kinds
-use Rattle.trace_lookup.specs.declared.place.Turn.{Turn}
-use Rattle.trace_lookup.specs.declared.place.Turn.TheVariants as turning
+use Rattle.trace_lookup.specs.declared.place.RunEnd.{RunEnd}
+use Rattle.trace_lookup.specs.declared.place.RunEnd.TheVariants as turning
 
 -- one file, or one more than the runs that a wrap keeps
 abbrev pub file_count : Kind → ℕ
@@ -27,9 +27,9 @@ size_of None = standard_size
 size_of (Some size) = size
 
 -- what ends a run of a new wrap: the time where one is asked for, else the size
-abbrev pub turn_by : Option ℕ → Option ℕ → Turn
-turn_by size None = turning.Size (size_of size)
-turn_by size (Some millis) = turning.Time millis
+abbrev pub run_end_by : Option ℕ → Option ℕ → RunEnd
+run_end_by size None = turning.Size (size_of size)
+run_end_by size (Some millis) = turning.Time millis
 
-abbrev pub turn_of : Wanted → Turn
-turn_of wanted = turn_by wanted.size wanted.time
+abbrev pub run_end_of : Wanted → RunEnd
+run_end_of wanted = run_end_by wanted.size wanted.time

@@ -1,7 +1,7 @@
 //! Where a trace is stored.
 ghost use Rattle.std.specs.Prelude.{◌≡◌, ◌≤◌, [], unwrap_or};
 ghost use Rattle.std.specs.Option.{option_copied};
-ghost use Rattle.trace_lookup.specs.Places.{file_count, turn_of};
+ghost use Rattle.trace_lookup.specs.Places.{file_count, run_end_of};
 
 use crate::lookup::Found;
 use command_line::{Asked, Shape, Wanted};
@@ -19,7 +19,7 @@ pub enum Kind {
 
 /// What ends a run of a wrap.
 #[derive(Clone, Copy, Debug, PartialEq, Eq)]
-pub enum Turn {
+pub enum RunEnd {
     /// More than so many bytes.
     Size(u32),
     /// So many milliseconds.
@@ -35,14 +35,14 @@ const STANDARD_RUNS: u16 = 8;
 /// Bytes of a run of a wrap where the command line doesn't say.
 const STANDARD_SIZE: u32 = 131_072;
 
-impl Turn {
+impl RunEnd {
     /// What ends a run of a new wrap, as the command line asks for it.
-    pub fn of(wanted: &Wanted<'_>) -> Turn
-        ensures { result ≡ turn_of wanted.now }
+    pub fn of(wanted: &Wanted<'_>) -> RunEnd
+        ensures { result ≡ run_end_of wanted.now }
     {
         match wanted.time {
-            Some(millis) => Turn::Time(millis),
-            None => Turn::Size(wanted.size.unwrap_or(STANDARD_SIZE)),
+            Some(millis) => RunEnd::Time(millis),
+            None => RunEnd::Size(wanted.size.unwrap_or(STANDARD_SIZE)),
         }
     }
 }

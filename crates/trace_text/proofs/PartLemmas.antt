@@ -13,7 +13,7 @@ use Rattle.std.proofs.lemmas.Slice.Eq.{bytes_eq-Decides}
 use Rattle.ext_format.specs.declared.fault.DecodeFault.{DecodeFault}
 use Rattle.ext_format.specs.declared.fault.DecodeFault.TheVariants.{TooBig}
 use Rattle.ext_format.specs.Reading.{◌>>=◌, Fails, Read, number_at, sized_at}
-use Rattle.trace_text.specs.declared.manner.Manner.TheVariants.{First, Behind}
+use Rattle.trace_text.specs.declared.separator.Separator.TheVariants.{First, Behind}
 use Rattle.trace_text.specs.declared.message.Opening.{Opening}
 use Rattle.trace_text.specs.declared.told.Told.{Told as Written}
 use Rattle.trace_text.specs.declared.sight.Sight.{Sight}

@@ -13,7 +13,7 @@ pub mod PrettyWords
 pub mod Sights
 pub mod Printed
 pub mod BigText
-pub mod Manners
+pub mod Separators
 pub mod PrettyKinds
 pub mod KindWords
 pub mod PrettyLines

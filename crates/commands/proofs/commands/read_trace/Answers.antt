@@ -30,7 +30,7 @@ returns-in-Err g c =
       told = λ h.
           let before = c.explained.ensures.only_reads.was_honest h in
           let e = c.in-Err.ensures in
-          refused c.in-Err.unread.fault c.read_live-done.new.watched.entries _ c.explained.result (e.why_not before) (e.written before) c.flush-flushed.ensures.bytes
-          (told_moved c.args.files.now.place c.read_live-done.new.files.place c.explained.new.self.store c.fault_of_reading.result (read_fault c.in-Err.unread.fault) c.explained.result
+          refused c.in-Err.failure.fault c.read_live-done.new.watched.entries _ c.explained.result (e.why_not before) (e.written before) c.flush-flushed.ensures.bytes
+          (told_moved c.args.files.now.place c.read_live-done.new.files.place c.explained.new.self.store c.fault_of_reading.result (read_fault c.in-Err.failure.fault) c.explained.result
           c.read_live-done.ensures.place c.fault_of_reading.ensures c.explained.ensures.named);
     }

@@ -34,6 +34,6 @@ returns-in-Err-clause-writes g c = record {
   there = λ h. search rules;
   why_not = λ h. c.in-Err.ensures.why_not h;
   written = λ h.
-      subst (λ w. IsWrittenInTurn (form_of c.args.manner) c.in-Err.fault (reads_of c.args.files.now.store) (g.W.Write.contents c.args.watched.now.writer.now) (g.W.Write.contents w) c.begin.new.self.entries) (search rules)
-      (opening_left (form_of c.args.manner) c.in-Err.fault (reads_of c.args.files.now.store) (g.W.Write.contents c.args.watched.now.writer.now) c.begin.new.self.entries c.in-Err.ensures.fault c.requires.several c.begin.ensures.none);
+      subst (λ w. IsWrittenInTurn (form_of c.args.output_form) c.in-Err.fault (reads_of c.args.files.now.store) (g.W.Write.contents c.args.watched.now.writer.now) (g.W.Write.contents w) c.begin.new.self.entries) (search rules)
+      (opening_left (form_of c.args.output_form) c.in-Err.fault (reads_of c.args.files.now.store) (g.W.Write.contents c.args.watched.now.writer.now) c.begin.new.self.entries c.in-Err.ensures.fault c.requires.several c.begin.ensures.none);
 }

@@ -2,7 +2,7 @@
 
 /// What was done when a fault came, as far as it says what to do next.
 #[derive(Clone, Copy, PartialEq, Eq)]
-pub enum Doing {
+pub enum Stage {
     /// So many entries are read, and so many of them listed.
     Listing { entries: u64, shown: u64 },
     /// So many entries are written.
@@ -18,15 +18,15 @@ pub enum Doing {
     Other,
 }
 
-impl Doing {
+impl Stage {
     /// The command that does it.
     pub fn command(self) -> &'static str {
         match self {
-            Doing::Exporting(_) => "export",
-            Doing::Counting(_) => "info",
-            Doing::Viewing(command) => command,
-            Doing::Opening | Doing::Importing => "import",
-            Doing::Listing { .. } | Doing::ReadingAgain | Doing::Other => "list",
+            Stage::Exporting(_) => "export",
+            Stage::Counting(_) => "info",
+            Stage::Viewing(command) => command,
+            Stage::Opening | Stage::Importing => "import",
+            Stage::Listing { .. } | Stage::ReadingAgain | Stage::Other => "list",
         }
     }
 }
