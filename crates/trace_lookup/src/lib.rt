@@ -5,8 +5,9 @@
 //! the place of the trace: what is found says of which kind it is, and where nothing is, what is asked does (`IsPlaceFor`).
 //! `Place::names` answers the names of its files (`AreNames`): the name that is asked for; of a wrap that name with a number and
 //! the suffix behind it, for one file more than those whose entries it keeps (`name_of`, `file_count`). `RunEnd::of` says by
-//! which size or time a new wrap goes on to its next file (`run_end_of`). `is_crowded` says that so many files can't be open at once only
-//! where the system says so (`IsTooMany`). No contract says that what is found stands in the files. Nothing is written here.
+//! which size or time a new wrap goes on to its next file (`run_end_of`). `is_crowded` says that so many files can't be open at
+//! once only where the system says so (`IsTooMany`). No contract says that what is found stands in the files. Nothing is written
+//! here.
 #![tactic(auto)]
 
 mod lookup;
