@@ -13,7 +13,7 @@ use trace_store::{DeviceFault, Store};
 pub const FRONT_SIZE: usize = 36;
 
 /// What the front of a file tells of its segment.
-#[derive(Clone, Copy, Debug)]
+#[derive(Clone, Copy)]
 pub enum Front {
     Closed,
     /// It is open without a lawful header, or too long.
@@ -22,7 +22,7 @@ pub enum Front {
 }
 
 /// What one look at a file tells.
-#[derive(Clone, Copy, Debug)]
+#[derive(Clone, Copy)]
 pub struct FileLook {
     pub sort: Sort,
     pub front: Front,
