@@ -37,7 +37,7 @@ pub struct Wanted<'a> {
 }
 
 /// When an import flushes.
-#[derive(Clone, Copy)]
+#[derive(Clone, Copy, PartialEq, Eq)]
 pub enum Flushing {
     /// After each entry.
     Always,
