@@ -19,7 +19,7 @@ _dbgrec() {
     case $before in
     --kind) offered="file wrap" ;;
     --flush) offered="always paused never" ;;
-    --as) offered="stream folded" ;;
+    --as) offered="stream folded perfetto" ;;
     --by) offered="function process kind" ;;
     --sort) offered="count exceptions total mean longest" ;;
     --only)

@@ -40,6 +40,7 @@ import locking
 import long_messages
 import machine
 import memory
+import perfetto
 import pretty
 import reaching
 import readings
@@ -55,7 +56,7 @@ import wording
 from cases import Skipped
 from program import Program
 
-GROUPS = (rows, scripts, emitting, readings, listing, pretty, long_messages, fragments, forms, choosing, json_listing, recording, importing, info, top, folding, foreign, absent, keeping, telling, crashes, images, machine, faults, locking, replacing, live, following, windows, salvage, large, wording, documents, installing, memory, libraries, reaching)
+GROUPS = (rows, scripts, emitting, readings, listing, pretty, long_messages, fragments, forms, choosing, json_listing, recording, importing, info, top, folding, perfetto, foreign, absent, keeping, telling, crashes, images, machine, faults, locking, replacing, live, following, windows, salvage, large, wording, documents, installing, memory, libraries, reaching)
 
 
 def words():

@@ -82,7 +82,7 @@ def an_export_is_a_stream_unless_it_says_folded(program):
     entries = stored_as(program, MIXED)
     same(program.good("export", "t", "--as", "stream"), b"".join(entries))
     same(program.good("export", "t"), b"".join(entries))
-    for words in (("--as", "perfetto"), ("--as",), ("--as", "folded", "--salvage")):
+    for words in (("--as", "stacks"), ("--as",), ("--as", "folded", "--salvage")):
         outcome = program.run("export", "t", *words)
         same((words, outcome.status, outcome.output), (words, 2, b""))
         assert outcome.errors.startswith(b"error: "), outcome

@@ -25,7 +25,7 @@ VALUES = {
     "--kind": ["file", "wrap"],
     "--flush": ["always", "never", "paused"],
     "--only": sorted(KINDS),
-    "--as": ["folded", "stream"],
+    "--as": ["folded", "perfetto", "stream"],
     "--by": ["function", "kind", "process"],
     "--sort": ["count", "exceptions", "longest", "mean", "total"],
 }

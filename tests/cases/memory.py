@@ -13,7 +13,7 @@ from refusing import each_refusal
 from rows import CASES as ROWS
 from segments import FILE_HEADER, segment
 from shortages import NO_MEMORY, Kept, Script, joined, tells_no_memory
-from top import call, fails, returns, sends
+from top import call, fails, receives, returns, sends
 
 CASES, case = group()
 
@@ -154,6 +154,15 @@ def a_table_that_is_refused_memory_is_a_beginning(program):
         kept.program.good("import", "t", *kind, stdin=b"".join(entries))
         for words in ((), ("--json",), ("--by", "process"), ("--by", "kind", "--json")):
             kept.reads("top", "t", *words)
+
+
+@case
+def events_that_are_refused_memory_are_a_beginning(program):
+    for kind in KINDS[:2]:
+        kept = Kept(program, kind[-1])
+        entries = [call(1, "f", 1), call(1, "g", 2), sends(99, 2), receives(99, 2), returns(1, "f", 3), message(LONGER), drop(2), call(1, "f", 4)]
+        kept.program.good("import", "t", *kind, stdin=b"".join(entries))
+        kept.reads("export", "--as", "perfetto", "t")
 
 
 @case

@@ -281,9 +281,9 @@ fn form<'a>(alloc: Global) -> Arg<'a> {
         alloc,
         "as",
         "FORM",
-        "What is written: the entry stream, or the stacks of calls, each with its time, as programs for flame graphs read them",
+        "What is written: the entry stream, the stacks of calls, each with its time, as programs for flame graphs read them, or a JSON of all messages over time, as Perfetto, chrome://tracing and speedscope open it",
     )
-    .value_parser(["stream", "folded"].as_slice())
+    .value_parser(["stream", "folded", "perfetto"].as_slice())
     .default_value("stream")
 }
 
@@ -631,11 +631,12 @@ fn export_in<'a>(matches: &ArgMatches<'a>) -> TraceRequest<'a> {
     let asked = asked_in(matches);
     if matches.get_flag("salvage") {
         let form = Form::Stream;
-        TraceRequest::Salvage { asked, form }
-    } else if let Some("folded") = matches.get_str("as") {
-        TraceRequest::Fold(asked)
-    } else {
-        TraceRequest::Export(asked)
+        return TraceRequest::Salvage { asked, form };
+    }
+    match matches.get_str("as") {
+        Some("folded") => TraceRequest::Fold(asked),
+        Some("perfetto") => TraceRequest::Draw(asked),
+        _ => TraceRequest::Export(asked),
     }
 }
 

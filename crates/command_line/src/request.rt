@@ -152,6 +152,8 @@ pub enum TraceRequest<'a> {
     Export(Asked<'a>),
     /// Write the stacks of its calls.
     Fold(Asked<'a>),
+    /// Write what it tells as events, for a viewer of these.
+    Draw(Asked<'a>),
     /// Write what each of its open files holds, whether or not they are a trace together.
     Salvage {
         asked: Asked<'a>,

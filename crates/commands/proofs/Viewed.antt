@@ -57,6 +57,7 @@ not_counted seen Told base image (whys.View views.TooMany) complaint why_not tol
   | inl rows ↦ too_many complaint rows
   | inr memory ↦ not_told complaint (inr memory)
 ]
+not_counted seen Told base image (whys.View views.Write) complaint why_not told = not_told complaint (inl told)
 
 -- at the same place
 pub why_moved : (was now : Place) (store : FolderStore) (why : Uncounted) (complaint : Complaint) → now ≡ was → TellsWhy (IsToldAt now store) now.base.now why complaint → TellsWhy (IsToldAt was store) was.base.now why complaint

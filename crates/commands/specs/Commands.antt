@@ -49,7 +49,7 @@ use Rattle.faults.specs.Faults.{read_fault, wipe_fault}
 use Rattle.commands.specs.Telling.{IsOfMemory, IsOfWriter}
 use Rattle.commands.specs.Naming.{IsToldAt}
 use Rattle.commands.specs.Informing.{most_to_inform, IsInfo}
-use Rattle.commands.specs.Viewing.{IsFold, IsTop}
+use Rattle.commands.specs.Viewing.{IsDrawn, IsFold, IsTop}
 use Rattle.commands.specs.Salvaging.{most_to_salvage, IsSalvage}
 use Rattle.commands.specs.Live.{most_to_read}
 use Rattle.commands.specs.Files.{most_with, most_to_tell, CallsToOpen, CallsToClear, CallsToTryClearing, CallsToLook, CallsToEnd, OnlyLooks, LooksWell, LooksBehind, LooksOver, MayFail, WasRecorded, IsKeptOf}
@@ -191,6 +191,7 @@ abbrev pub Changes : TraceRequest → Type 0
 Changes (requests.List asked is_pretty) = ⊥
 Changes (requests.Export asked) = ⊥
 Changes (requests.Fold asked) = ⊥
+Changes (requests.Draw asked) = ⊥
 Changes (requests.Salvage asked form) = ⊥
 Changes (requests.Info asked is_json) = ⊥
 Changes (requests.Top asked ranking is_json) = ⊥
@@ -206,6 +207,9 @@ Serves (requests.Salvage asked form) shown old new saw observed was now result =
 Serves (requests.Info asked is_json) shown old new saw observed was now result = LooksOver old.store new.store (most_to_inform result (reads_of old.store)) (IsInfo (IsToldAt old.place new.store) (reads_of old.store) result) × IfErr result (λ complaint. status_told complaint ≡ 1)
 Serves (requests.Fold asked) shown old new saw observed was now result =
     LooksOver old.store new.store (most_with result (most_to_read (reads_of old.store)) (reads_of old.store)) (IsFold (IsToldAt old.place new.store) old.place.base.now (reads_of old.store) result)
+    × IfErr result (λ complaint. status_told complaint ≡ 1)
+Serves (requests.Draw asked) shown old new saw observed was now result =
+    LooksOver old.store new.store (most_with result (most_to_read (reads_of old.store)) (reads_of old.store)) (IsDrawn (IsToldAt old.place new.store) old.place.base.now (reads_of old.store) result)
     × IfErr result (λ complaint. status_told complaint ≡ 1)
 Serves (requests.Top asked ranking is_json) shown old new saw observed was now result =
     LooksOver old.store new.store (most_with result (most_to_read (reads_of old.store)) (reads_of old.store)) (IsTop (IsToldAt old.place new.store) old.place.base.now (reads_of old.store) result)

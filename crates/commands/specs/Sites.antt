@@ -20,6 +20,7 @@ asked_in (requests.Import wanted rules) = wanted.asked
 asked_in (requests.List asked is_pretty) = asked
 asked_in (requests.Export asked) = asked
 asked_in (requests.Fold asked) = asked
+asked_in (requests.Draw asked) = asked
 asked_in (requests.Salvage asked form) = asked
 asked_in (requests.Info asked is_json) = asked
 asked_in (requests.Top asked ranking is_json) = asked

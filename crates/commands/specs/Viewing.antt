@@ -14,6 +14,7 @@ use Rattle.trace_summary.specs.Acts.{acts_in}
 use Rattle.trace_summary.specs.Stacks.{calls_at, calls_of}
 use Rattle.trace_summary.specs.declared.folded.Folded.{Folded}
 use Rattle.trace_summary.specs.contracts.folded.FoldedView.TheImpl as folded_view
+use Rattle.trace_summary.specs.declared.perfetto.Perfetto.{Perfetto}
 use Rattle.trace_summary.specs.declared.top.Top.{Top}
 use Rattle.trace_summary.specs.contracts.top.TopView.TheImpl as top_view
 use Rattle.trace_summary.specs.declared.view.ViewFault.TheVariants as views
@@ -36,6 +37,10 @@ taken_by top = top_view.ghosts.seen top
 -- those whose stacks were counted
 abbrev pub folded_by : Folded → List Entry
 folded_by folded = folded_view.ghosts.seen folded
+
+-- those for which events were written
+abbrev pub drawn_by : (W : Type 0) → Perfetto W → List Entry
+drawn_by W perfetto = perfetto.taken.entries
 
 -- the entries that an export of a trace has: whichever have its text, they are these
 pub record AreExported (image : Image) (taken : List Entry) : Type 0 where
@@ -65,6 +70,7 @@ abbrev pub TellsWhy : (SimFault → Complaint → Type 0) → List ℕ → Uncou
 TellsWhy Told base (whys.ReadFailure failure) complaint = Told (read_fault failure.fault) complaint
 TellsWhy Told base (whys.View views.NoMemory) complaint = IsOfMemory complaint
 TellsWhy Told base (whys.View views.TooMany) complaint = IsOfRows base complaint ⊎ IsOfMemory complaint
+TellsWhy Told base (whys.View views.Write) complaint = IsOfWriter complaint
 
 -- how it ended: all entries that an export of the trace has were counted, and that was told; or why it isn't read; or there are too many rows; or it couldn't be told
 pub data IsTop (Told : SimFault → Complaint → Type 0) (base : List ℕ) (image : Image) : Result Unit Complaint → Type 0 where
@@ -77,3 +83,8 @@ pub data IsTop (Told : SimFault → Complaint → Type 0) (base : List ℕ) (ima
 pub data IsFold (Told : SimFault → Complaint → Type 0) (base : List ℕ) (image : Image) : Result Unit Complaint → Type 0 where
   folded : (folded : Folded) → AreExported image (folded_by folded) → ((text : List ℕ) → calls_at folded.stacks.rows.rows text ≡ calls_of text (acts_in (folded_by folded))) → IsFold Told base image (Ok tt)
   not_folded : (complaint : Complaint) → IsTop Told base image (Err complaint) → IsFold Told base image (Err complaint)
+
+-- the same of events: what they are written for has taken all entries that an export of the trace has
+pub data IsDrawn (Told : SimFault → Complaint → Type 0) (base : List ℕ) (image : Image) : Result Unit Complaint → Type 0 where
+  drawn : (entries : List Entry) → AreExported image entries → IsDrawn Told base image (Ok tt)
+  not_drawn : (complaint : Complaint) → IsTop Told base image (Err complaint) → IsDrawn Told base image (Err complaint)

@@ -21,7 +21,7 @@ use crate::informing::info;
 use crate::live::read_live;
 use crate::salvaging::salvage;
 use crate::stage::Stage;
-use crate::viewing::{fold, top};
+use crate::viewing::{draw, fold, top};
 use command_line::{Rules, Shown, TraceRequest, Wanted};
 use faults::{Complaint, fault_of_reading, told};
 use import::{Incoming, Source, Stream, begin};
@@ -82,6 +82,7 @@ pub fn serve_trace<R: Read + Drop, W: Write, H: Host>(
         } => read_trace(files, OutputForm::Lines(style(is_pretty, shown)), watched),
         TraceRequest::Export(_) => read_trace(files, OutputForm::Stream, watched),
         TraceRequest::Fold(_) => fold(files, watched),
+        TraceRequest::Draw(_) => draw(files, watched),
         TraceRequest::Salvage { asked: _, form } => salvage(files, form, shown, watched),
         TraceRequest::Info { asked: _, is_json } => info(files, is_json, watched),
         TraceRequest::Top {

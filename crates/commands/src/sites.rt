@@ -29,6 +29,7 @@ pub fn files_for<'a>(rt: &HostRuntime, request: &TraceRequest<'a>) -> Result<Fil
         }
         | TraceRequest::Export(asked)
         | TraceRequest::Fold(asked)
+        | TraceRequest::Draw(asked)
         | TraceRequest::Salvage { asked, form: _ }
         | TraceRequest::Info { asked, is_json: _ }
         | TraceRequest::Top {

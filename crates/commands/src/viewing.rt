@@ -2,7 +2,7 @@
 ghost use Rattle.std.specs.Prelude.{◌≡◌, ◌⊎◌, [], IfOk, IfErr};
 ghost use Rattle.stores.specs.FolderStore.{reads_of};
 ghost use Rattle.faults.specs.Complaints.{status_told};
-ghost use Rattle.commands.specs.{Files.CallsToTell, Files.LooksOver, Files.OnlyLooks, Files.most_with, Live.most_to_read, Naming.IsToldAt, Telling.IsOfMemory, Telling.IsOfWriter, Viewing.folded_by, Viewing.taken_by, Viewing.IsFold, Viewing.IsViewed, Viewing.IsOfRows, Viewing.IsReadInto, Viewing.IsTop, Viewing.TellsWhy};
+ghost use Rattle.commands.specs.{Files.CallsToTell, Files.LooksOver, Files.OnlyLooks, Files.most_with, Live.most_to_read, Naming.IsToldAt, Telling.IsOfMemory, Telling.IsOfWriter, Viewing.drawn_by, Viewing.folded_by, Viewing.taken_by, Viewing.IsDrawn, Viewing.IsFold, Viewing.IsViewed, Viewing.IsOfRows, Viewing.IsReadInto, Viewing.IsTop, Viewing.TellsWhy};
 
 use crate::commands::written_out;
 use crate::files::Files;
@@ -15,7 +15,7 @@ use std::alloc::{AllocError, Global};
 use std::io::{self, Write};
 use std::mem;
 use trace_reader::{Host, OutputForm, Watched};
-use trace_summary::{Folded, StreamView, Top, View, ViewFault};
+use trace_summary::{Folded, Perfetto, StreamView, Top, View, ViewFault};
 
 /// Why a trace isn't counted.
 #[derive(Clone, Copy)]
@@ -93,6 +93,22 @@ fn count_stacks<H: Host>(files: &mut Files<'_>, host: &mut H) -> Result<Folded, 
     look_at(files, Folded::new(alloc), Folded::new(alloc), host)
 }
 
+/// Reads a trace, and writes events for what its entries tell.
+fn draw_into<'w, W: Write, H: Host>(
+    files: &mut Files<'_>,
+    out: &'w mut W,
+    host: &mut H,
+) -> Result<Perfetto<'w, W>, Uncounted>
+    ensures drawn { LooksOver files.old.store files.new.store
+        (most_to_read (reads_of files.old.store))
+        (IsViewed (drawn_by W) (reads_of files.old.store) result) }
+    ensures place { files.new.place ≡ files.old.place }
+{
+    let alloc = files.alloc();
+    let view = Perfetto::new(alloc, Some(out));
+    look_at(files, view, Perfetto::new(alloc, None), host)
+}
+
 /// What is told of a trace that has more rows than are counted.
 fn too_many(files: &Files<'_>) -> Result<Complaint, AllocError>
     ensures { IfOk result (IsOfRows files.now.place.base.now) }
@@ -130,6 +146,7 @@ fn told(files: &mut Files<'_>, why: Uncounted, command: &'static str) -> Complai
         }
         Uncounted::View(ViewFault::NoMemory) => Complaint::from(SimFault::NoMemory),
         Uncounted::View(ViewFault::TooMany) => too_many_at_least(files),
+        Uncounted::View(ViewFault::Write) => Complaint::from(SimFault::Write),
     }
 }
 
@@ -185,4 +202,29 @@ pub fn fold<W: Write, H: Host>(
         Ok(()) => written_out(watched.writer.flush()),
         Err(fault) => written_out(Err(fault)),
     }
+}
+
+/// Writes events for what the entries of a trace tell. Where no time is told, standard error says how there are some.
+pub fn draw<W: Write, H: Host>(
+    files: &mut Files<'_>,
+    watched: &mut Watched<'_, W, H>,
+) -> Result<(), Complaint>
+    ensures ended { LooksOver files.old.store files.new.store
+        (most_with result (most_to_read (reads_of files.old.store)) (reads_of files.old.store))
+        (IsDrawn (IsToldAt files.old.place files.new.store) files.old.place.base.now
+        (reads_of files.old.store) result) }
+    ensures status { IfErr result (λ complaint. status_told complaint ≡ 1) }
+{
+    let mut drawn = match draw_into(files, &mut *watched.writer, &mut *watched.host) {
+        Ok(drawn) => drawn,
+        Err(why) => return Err(told(files, why, "export")),
+    };
+    let ended = drawn.end();
+    drop(drawn);
+    match ended {
+        Ok(true) => {}
+        Ok(false) => files.tell_no_times(),
+        Err(fault) => return Err(told(files, Uncounted::View(fault), "export")),
+    }
+    written_out(watched.writer.flush())
 }

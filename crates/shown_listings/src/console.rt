@@ -133,6 +133,7 @@ pub fn console_for(rt: &HostRuntime, request: &TraceRequest<'_>) -> Console
         TraceRequest::List { .. } => beside_output(rt),
         TraceRequest::Export(_) => beside_output(rt),
         TraceRequest::Fold(_) => beside_output(rt),
+        TraceRequest::Draw(_) => beside_output(rt),
         TraceRequest::Salvage { .. } => beside_output(rt),
         TraceRequest::Info { .. } => beside_output(rt),
         TraceRequest::Top { .. } => beside_output(rt),

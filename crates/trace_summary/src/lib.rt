@@ -9,13 +9,20 @@
 #![tactic(auto)]
 
 mod acts;
+mod arrows;
+mod clock;
+mod drawing;
+mod event;
+mod events;
 mod folded;
 mod functions;
 mod info;
 mod json;
 mod lines;
+mod member_text;
 mod messages;
 mod open_stack;
+mod perfetto;
 mod processes;
 mod row;
 mod rows;
@@ -31,10 +38,12 @@ mod tallies;
 mod text;
 mod times;
 mod top;
+mod tracks;
 mod view;
 
 pub use folded::Folded;
 pub use info::{Info, Part, Totals};
+pub use perfetto::Perfetto;
 pub use stream_laws::lawful_fit;
 pub use stream_view::StreamView;
 pub use taken::Taken;

@@ -13,6 +13,8 @@ pub enum ViewFault {
     NoMemory,
     /// It has more rows than it may.
     TooMany,
+    /// What it makes of the entries can't be written.
+    Write,
 }
 
 impl From<AllocError> for ViewFault {

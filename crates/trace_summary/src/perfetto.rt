@@ -1,0 +1,84 @@
+//! A trace as a drawing: the Trace Event Format, which Perfetto, chrome://tracing and speedscope open.
+
+ghost use Rattle.std.specs.Prelude.{◌≡◌, []};
+
+use crate::drawing::Drawing;
+use crate::taken::Taken;
+use crate::view::{View, ViewFault};
+use entry_codec::EntryRef;
+use std::alloc::Global;
+use std::io::Write;
+use trace_text::FactReader;
+
+/// Writes events for the entries that it takes.
+#[derive(Drop)]
+pub struct Perfetto<'w, W> {
+    reader: FactReader,
+    drawing: Drawing<'w, W>,
+    /// Why no more is taken.
+    fault: Option<ViewFault>,
+    taken: Taken,
+}
+
+impl<'w, W: Write> Perfetto<'w, W> {
+    /// No entry was taken yet. Without a writer nothing is written.
+    pub fn new(alloc: Global, out: Option<&'w mut W>) -> Perfetto<'w, W>
+        ensures { result.taken.entries ≡ [] }
+    {
+        Perfetto {
+            reader: FactReader::new(alloc),
+            drawing: Drawing::new(alloc, out),
+            fault: None,
+            taken: Taken::new(),
+        }
+    }
+
+    /// Writes what stands after the events of all entries. Whether a time was told.
+    pub fn end(&mut self) -> Result<bool, ViewFault> {
+        if let Some(fault) = self.fault {
+            return Err(fault);
+        }
+        self.drawing.end()?;
+        Ok(self.drawing.clock.first.is_some())
+    }
+}
+
+impl<W: Write> View for Perfetto<'_, W> {
+    ghost seen = { λ perfetto. perfetto.taken.entries };
+
+    fn take(&mut self, entry: EntryRef<'_>) -> Result<(), ViewFault> {
+        if let Some(fault) = self.fault {
+            return Err(fault);
+        }
+        if let Err(fault) = draw_entry(&mut self.reader, &mut self.drawing, entry) {
+            self.fault = Some(fault);
+            return Err(fault);
+        }
+        self.taken.note(entry);
+        Ok(())
+    }
+}
+
+/// Draws an entry.
+fn draw_entry<W: Write>(
+    reader: &mut FactReader,
+    drawing: &mut Drawing<'_, W>,
+    entry: EntryRef<'_>,
+) -> Result<(), ViewFault> {
+    match entry {
+        EntryRef::Message(bytes) => draw_message(reader, drawing, bytes),
+        EntryRef::Drop(count) => drawing.lost(count),
+    }
+}
+
+/// Draws a message.
+fn draw_message<W: Write>(
+    reader: &mut FactReader,
+    drawing: &mut Drawing<'_, W>,
+    bytes: &[u8],
+) -> Result<(), ViewFault> {
+    match reader.read(bytes)? {
+        Some(facts) => drawing.message(&facts),
+        None => drawing.unread(bytes.len()),
+    }
+}
