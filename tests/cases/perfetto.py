@@ -13,7 +13,7 @@ from importing import TRACES, stream_of
 from program import PATIENCE, Outcome, same
 from telling import damaged
 from terms import short_atom
-from top import call, exported, fails, function, pid, pid_text, returns, stored_as, told_at, whole
+from top import Count, call, exported, fails, function, pid, pid_text, returns, stored_as, told_at, whole
 
 CASES, case = group()
 
@@ -271,11 +271,11 @@ def monotonic_times_are_told_in_nanoseconds(program):
 
 @case
 def what_otp_traced_is_drawn(program):
-    timed = {"plain": False, "stamped": True, "mono": True, "wrap": False, "ip": False, "node": False, "forms": True}
-    same(sorted(timed), sorted(TRACES))
     for name in TRACES:
-        told = drawn(program, *kept(stream_of(name)), timed=timed[name])
-        same((name, "first_time_in_nanoseconds" in told["otherData"]), (name, timed[name]))
+        entries = kept(stream_of(name))
+        times = Count(entries).moments
+        told = drawn(program, *entries, timed=bool(times))
+        same((name, told["otherData"].get("first_time_in_nanoseconds")), (name, str(times[0]) if times else None))
 
 
 # ---- faults
