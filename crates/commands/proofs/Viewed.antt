@@ -26,7 +26,7 @@ use Rattle.script_runner.specs.declared.fault.SimFault.{SimFault}
 use Rattle.commands.specs.Naming.{IsToldAt}
 use Rattle.commands.specs.Files.{OnlyLooks}
 use Rattle.commands.specs.Telling.{IsOfWriter}
-use Rattle.commands.specs.Viewing.{AreExported, IsFold, IsReadInto, IsViewed, IsTop, TellsWhy, counted, folded, folded_by, not_folded, refused, taken_by, too_many, not_told}
+use Rattle.commands.specs.Viewing.{AreExported, IsDrawn, IsFold, IsReadInto, IsViewed, IsTop, TellsWhy, counted, drawn, folded, folded_by, not_drawn, not_folded, refused, taken_by, too_many, not_told}
 use Rattle.commands.specs.declared.live.ReadFailure.{ReadFailure}
 use Rattle.commands.specs.declared.viewing.Uncounted.{Uncounted}
 use Rattle.commands.specs.declared.viewing.Uncounted.TheVariants as whys
@@ -87,7 +87,12 @@ pub is_fold : (Told : SimFault → Complaint → Type 0) (base : List ℕ) (imag
 is_fold Told base image stacks (Ok done) are calls unwritten = folded stacks are calls
 is_fold Told base image stacks (Err complaint) are calls unwritten = not_folded complaint (not_told complaint (inl unwritten))
 
--- they couldn't be
+-- events were
+pub is_drawn : (Told : SimFault → Complaint → Type 0) (base : List ℕ) (image : Image) (entries : List Entry) (result : Result Unit Complaint) → AreExported image entries → IfErr result IsOfWriter → IsDrawn Told base image result
+is_drawn Told base image entries (Ok done) are unwritten = drawn entries are
+is_drawn Told base image entries (Err complaint) are unwritten = not_drawn complaint (not_told complaint (inl unwritten))
+
+-- stacks couldn't be
 pub no_fold : (Told : SimFault → Complaint → Type 0) (base : List ℕ) (image : Image) (result : Result Unit Complaint) → IsErr result → IfErr result IsOfWriter → IsFold Told base image result
 no_fold Told base image (Ok done) err unwritten = absurd (cc)
 no_fold Told base image (Err complaint) err unwritten = not_folded complaint (not_told complaint (inl unwritten))

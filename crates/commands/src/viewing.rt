@@ -222,9 +222,10 @@ pub fn draw<W: Write, H: Host>(
     let ended = drawn.end();
     drop(drawn);
     match ended {
-        Ok(true) => {}
-        Ok(false) => files.tell_no_times(),
-        Err(fault) => return Err(told(files, Uncounted::View(fault), "export")),
+        Ok(has_times) => {
+            files.tell_times(has_times);
+            written_out(watched.writer.flush())
+        }
+        Err(fault) => Err(told(files, Uncounted::View(fault), "export")),
     }
-    written_out(watched.writer.flush())
 }
