@@ -1,7 +1,7 @@
 //! What a table of a trace has.
 
 /// What a row of it stands for.
-#[derive(Clone, Copy, Debug, PartialEq, Eq)]
+#[derive(Clone, Copy)]
 pub enum Grouping {
     Function,
     Process,
@@ -9,7 +9,7 @@ pub enum Grouping {
 }
 
 /// By what its rows are in order, the greatest first.
-#[derive(Clone, Copy, Debug, PartialEq, Eq)]
+#[derive(Clone, Copy)]
 pub enum Order {
     /// Calls of a function or by a process, messages of a kind.
     Count,
@@ -23,7 +23,7 @@ pub enum Order {
 }
 
 /// The rows that are shown.
-#[derive(Clone, Copy, Debug, PartialEq, Eq)]
+#[derive(Clone, Copy)]
 pub struct Ranking {
     pub by: Grouping,
     /// Where it isn't said, by total time where there are times, and else by count.

@@ -9,14 +9,14 @@ use std::alloc::AllocError;
 use trace_text::Choice;
 
 /// How a trace is stored, as a command line says it.
-#[derive(Clone, Copy, Debug, PartialEq, Eq)]
+#[derive(Clone, Copy)]
 pub enum Shape {
     File,
     Wrap,
 }
 
 /// What a command line says of where a trace is; None stands for what it doesn't say.
-#[derive(Clone, Copy, Debug, PartialEq, Eq)]
+#[derive(Clone, Copy)]
 pub struct Asked<'a> {
     pub base: &'a str,
     pub shape: Option<Shape>,
@@ -26,7 +26,7 @@ pub struct Asked<'a> {
 }
 
 /// What a command line asks of a trace that is made where there is none.
-#[derive(Clone, Copy, Debug, PartialEq, Eq)]
+#[derive(Clone, Copy)]
 pub struct Wanted<'a> {
     pub asked: Asked<'a>,
     /// The bytes of entries that end a run of a wrap, where the command line says so.
@@ -38,7 +38,7 @@ pub struct Wanted<'a> {
 }
 
 /// When an import flushes.
-#[derive(Clone, Copy, Debug, PartialEq, Eq)]
+#[derive(Clone, Copy)]
 pub enum Flushing {
     /// After each entry.
     Always,
@@ -49,7 +49,7 @@ pub enum Flushing {
 }
 
 /// What becomes of a trace where its stream ends between two entries.
-#[derive(Clone, Copy, Debug, PartialEq, Eq)]
+#[derive(Clone, Copy)]
 pub enum Ending {
     /// It is sealed.
     Seal,
@@ -58,7 +58,7 @@ pub enum Ending {
 }
 
 /// How an import begins, flushes and ends.
-#[derive(Clone, Copy, Debug, PartialEq, Eq)]
+#[derive(Clone, Copy)]
 pub struct Rules {
     /// The bytes of its input that it passes over first.
     pub skip: u64,
@@ -69,7 +69,7 @@ pub struct Rules {
 }
 
 /// How a listing is shown.
-#[derive(Debug, Drop)]
+#[derive(Drop)]
 pub struct Shown {
     /// A JSON object for each line.
     pub is_json: bool,
@@ -97,7 +97,7 @@ impl Shown {
 }
 
 /// What a command line asks for.
-#[derive(Debug, Drop)]
+#[derive(Drop)]
 pub enum Request<'a> {
     /// Run a script over a store in memory.
     Sim,
@@ -126,7 +126,7 @@ pub enum Request<'a> {
 }
 
 /// How entries are written.
-#[derive(Clone, Copy, Debug, PartialEq, Eq)]
+#[derive(Clone, Copy)]
 pub enum Form {
     /// As lines.
     Lines {
@@ -138,7 +138,7 @@ pub enum Form {
 }
 
 /// What a command line asks of a stored trace.
-#[derive(Clone, Copy, Debug, PartialEq, Eq)]
+#[derive(Clone, Copy)]
 pub enum TraceRequest<'a> {
     /// Record what a script says.
     Record(Wanted<'a>),

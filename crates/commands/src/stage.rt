@@ -1,7 +1,7 @@
 //! What was done when a fault came.
 
 /// What was done when a fault came, as far as it says what to do next.
-#[derive(Clone, Copy, PartialEq, Eq)]
+#[derive(Clone, Copy)]
 pub enum Stage {
     /// So many entries are read, and so many of them listed.
     Listing { entries: u64, shown: u64 },

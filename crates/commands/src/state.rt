@@ -1,12 +1,9 @@
 //! What the first bytes of files tell of a trace, and the gates in them, without its entries.
 
-use segment::read_header;
+use segment::{FIRST_GATE, read_header};
 use std::fs::File;
 use std::io::{self, ErrorKind};
 use std::os::unix::fs::FileExt;
-
-/// Where the gate of the first batch is.
-const FIRST_GATE: u64 = 36;
 
 /// Whether a file is open: it has 37 bytes or more, and the first is 01.
 pub fn is_open(rt: &HostRuntime, name: &str) -> io::Result<bool> {

@@ -4,7 +4,6 @@ use Rattle.std.specs.Prelude.{OnOk}
 use Rattle.std.proofs.lemmas.Bool.{ltb-true, and_parts}
 use Rattle.trace_terms.specs.Data.{Data, int, Members, no_members, member}
 use Rattle.ext_format.specs.Fits.{Fits, AllFit}
-use Rattle.ext_format.specs.Members.{member_count}
 use Rattle.ext_format.specs.Canonical.{is_byte, are_bytes}
 
 -- a fact holds also where a call answered `Ok`
@@ -19,7 +18,3 @@ byte_fits t e = absurd cc
 pub bytes_fit : (ts : Members) → are_bytes ts ≡ true → AllFit ts
 bytes_fit no_members e = tt
 bytes_fit (member t ts) e = let both = and_parts (is_byte t) (are_bytes ts) e in (byte_fits t both.0, bytes_fit ts both.1)
-
-pub none_fit : (ts : Members) → member_count ts ≡ 0 → AllFit ts
-none_fit no_members e = tt
-none_fit (member t ts) e = absurd (omega arith)

@@ -9,7 +9,7 @@ use crate::fault::DecodeFault;
 use crate::tag::{Tag, tag_named};
 
 /// How many bytes a number has, where a tag chooses.
-#[derive(Clone, Copy, Debug, PartialEq, Eq)]
+#[derive(Clone, Copy)]
 pub enum Bytes {
     One,
     Four,

@@ -49,7 +49,7 @@ pub const LIST_EXT: u8 = 108;
 pub const BINARY_EXT: u8 = 109;
 
 /// What stands after a tag byte.
-#[derive(Clone, Copy, Debug, PartialEq, Eq)]
+#[derive(Clone, Copy)]
 pub enum Tag {
     /// SMALL_INTEGER_EXT: a byte, an unsigned number.
     SmallIntegerExt,

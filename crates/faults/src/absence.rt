@@ -78,7 +78,7 @@ pub fn wrap_instead(
     place: &Place<'_>,
     command: &'static str,
 ) -> Result<Option<Advice>, AllocError> {
-    if place.kind != Kind::File {
+    if !matches!(place.kind, Kind::File) {
         return Ok(None);
     }
     let Some(Member { base, suffix }) = wrap_of(*rt, place.base)? else {

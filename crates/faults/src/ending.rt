@@ -46,7 +46,7 @@ fn fail_to_read(rt: &impl Eprint, complaint: &Complaint, reason: Option<io::Erro
 }
 
 /// Why the system refused a read of standard input, and a write of standard output, where it did.
-#[derive(Clone, Copy, Debug)]
+#[derive(Clone, Copy)]
 pub struct Reasons {
     pub unread: Option<io::Error>,
     pub unwritten: Option<io::Error>,

@@ -7,7 +7,7 @@ use script_runner::SimFault;
 use std::fmt;
 
 /// How much of its input an import kept.
-#[derive(Clone, Copy, Debug, PartialEq, Eq)]
+#[derive(Clone, Copy)]
 pub struct Kept {
     /// How many entries.
     pub entries: u64,

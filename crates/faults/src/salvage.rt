@@ -4,7 +4,7 @@ use std::fmt;
 use trace_lookup::Shown;
 
 /// What came of a salvage.
-#[derive(Debug, Drop)]
+#[derive(Drop)]
 pub struct Salvage {
     /// How many files are written.
     pub files: u64,
@@ -19,7 +19,7 @@ pub struct Salvage {
 }
 
 /// A number of things.
-#[derive(Clone, Copy, Debug)]
+#[derive(Clone, Copy)]
 struct Count {
     number: u64,
     one: &'static str,

@@ -6,17 +6,14 @@ ghost use Rattle.foreign_files.specs.{Fronts.IsFront, Standing.IsHead, Standing.
 ghost use Rattle.segment.specs.DeviceCalls.{DeviceReads, TellsDevice};
 
 use crate::sort::{Sort, sort_of};
-use segment::{Head, head_from};
+use segment::{Head, LEAST_LENGTH, head_from};
 use trace_store::{DeviceFault, Store};
 
 /// How many bytes of a file are looked at.
 pub const FRONT_SIZE: usize = 36;
 
-/// The length from which a file may be open.
-const LEAST_LENGTH: u64 = 37;
-
 /// What the front of a file tells of its segment.
-#[derive(Clone, Copy, Debug)]
+#[derive(Clone, Copy)]
 pub enum Front {
     Closed,
     /// It is open without a lawful header, or too long.
@@ -25,7 +22,7 @@ pub enum Front {
 }
 
 /// What one look at a file tells.
-#[derive(Clone, Copy, Debug)]
+#[derive(Clone, Copy)]
 pub struct FileLook {
     pub sort: Sort,
     pub front: Front,

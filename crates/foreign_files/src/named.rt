@@ -1,7 +1,7 @@
 //! The files that are named to a person.
 
 /// Files of a store that don't belong together.
-#[derive(Clone, Copy, Debug, PartialEq, Eq)]
+#[derive(Clone, Copy)]
 pub enum Disagreement {
     /// The file isn't the one of its generation.
     One { file: u32 },

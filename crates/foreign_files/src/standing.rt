@@ -8,7 +8,7 @@ use crate::sort::{Sort, sort_at};
 use trace_store::{DeviceFault, Store};
 
 /// What stands in the files of a store.
-#[derive(Clone, Copy, Debug, PartialEq, Eq)]
+#[derive(Clone, Copy)]
 pub enum Standing {
     /// Each file is empty.
     Absent,

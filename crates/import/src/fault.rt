@@ -6,7 +6,7 @@ use std::alloc::AllocError;
 use trace_port::PortFault;
 
 /// Why an import ends before the end of its stream, or there within an entry.
-#[derive(Clone, Copy, Debug, PartialEq, Eq)]
+#[derive(Clone, Copy)]
 pub enum ImportFault {
     /// The stream couldn't be read.
     Read,

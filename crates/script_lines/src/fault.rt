@@ -5,7 +5,7 @@ ghost use Rattle.script_lines.specs.declared.fault.ScriptFault.TheVariants as fa
 use std::alloc::AllocError;
 
 /// Why a script gives no further line.
-#[derive(Clone, Copy, Debug, PartialEq, Eq)]
+#[derive(Clone, Copy)]
 pub enum ScriptFault {
     /// A line, counted from 1, isn't a command.
     BadCommand { line: u64 },

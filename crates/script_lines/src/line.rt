@@ -17,7 +17,7 @@ use stores::Pick;
 const MOST_FILES: u32 = 1001;
 
 /// What a crash leaves of what is unsynced.
-#[derive(Clone, Copy, Debug, PartialEq, Eq)]
+#[derive(Clone, Copy)]
 pub enum Unsynced {
     /// What a read gives.
     Kept,

@@ -12,7 +12,7 @@ use trace_port::PortFault;
 use tracees::{HandFault, Receipt};
 
 /// What a line is answered.
-#[derive(Clone, Copy, Debug, PartialEq, Eq)]
+#[derive(Clone, Copy)]
 pub enum Answer {
     Done,
     /// The line isn't one for the present state.

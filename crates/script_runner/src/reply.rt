@@ -6,14 +6,14 @@ use crate::refusal::Refusal;
 use script_lines::Unsynced;
 
 /// How a port came to be held.
-#[derive(Clone, Copy, Debug, PartialEq, Eq)]
+#[derive(Clone, Copy)]
 pub enum Origin {
     Created,
     Resumed,
 }
 
 /// Why a port is held no longer.
-#[derive(Clone, Copy, Debug, PartialEq, Eq)]
+#[derive(Clone, Copy)]
 pub enum Leave {
     Abandoned,
     Closed,

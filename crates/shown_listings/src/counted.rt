@@ -17,7 +17,7 @@ const HEAD: usize = 48;
 const OBJECT: &[u8] = b"{\"n\":";
 
 /// How many entries are listed, and how many of them as opaque.
-#[derive(Clone, Copy, Debug)]
+#[derive(Clone, Copy)]
 struct Sight {
     entries: u64,
     opaque: u64,

@@ -13,5 +13,4 @@ pub mod FolderStore
 pub mod MemDisk
 pub mod Crashes
 pub mod MemStore
-pub mod CopyLaws
 pub mod Standing

@@ -13,7 +13,7 @@ use std::fs;
 use stores::FolderStore;
 
 /// What stands there.
-#[derive(Clone, Copy, Debug)]
+#[derive(Clone, Copy)]
 pub enum Found {
     /// No file with bytes.
     Nothing,

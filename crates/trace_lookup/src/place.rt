@@ -9,7 +9,7 @@ use std::alloc::{AllocError, Global};
 use wrap_port::file_name;
 
 /// How a trace is stored.
-#[derive(Clone, Copy, Debug, PartialEq, Eq)]
+#[derive(Clone, Copy)]
 pub enum Kind {
     /// In one file.
     File,
@@ -18,7 +18,7 @@ pub enum Kind {
 }
 
 /// What ends a run of a wrap.
-#[derive(Clone, Copy, Debug, PartialEq, Eq)]
+#[derive(Clone, Copy)]
 pub enum RunEnd {
     /// More than so many bytes.
     Size(u32),
@@ -48,7 +48,7 @@ impl RunEnd {
 }
 
 /// Where a trace is stored: a file of this name, or files whose names are this, a number and the suffix.
-#[derive(Clone, Copy, Debug, PartialEq, Eq)]
+#[derive(Clone, Copy)]
 pub struct Place<'a> {
     pub kind: Kind,
     pub base: &'a str,

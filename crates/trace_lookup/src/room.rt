@@ -10,7 +10,7 @@ use std::io;
 const BESIDE: u32 = 2;
 
 /// The first of several files that can't be open beside the others, and why.
-#[derive(Clone, Copy, Debug)]
+#[derive(Clone, Copy)]
 pub struct Crowded {
     pub file: u32,
     pub reason: io::Error,

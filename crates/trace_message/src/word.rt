@@ -4,7 +4,7 @@ ghost use Rattle.std.specs.Str.{bytes_eq, chars};
 ghost use Rattle.trace_message.specs.Words.{text_of, word_named};
 
 /// The atoms that trace messages are told with.
-#[derive(Clone, Copy, Debug, PartialEq, Eq)]
+#[derive(Clone, Copy)]
 pub enum Word {
     Trace,
     TraceTs,

@@ -192,7 +192,7 @@ impl Info {
     /// Whether the newest file is sealed.
     fn ends_sealed(&self) -> bool {
         match self.parts.last() {
-            Some(newest) => newest.summary.end == End::Sealed,
+            Some(newest) => matches!(newest.summary.end, End::Sealed),
             None => false,
         }
     }

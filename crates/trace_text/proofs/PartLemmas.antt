@@ -375,9 +375,6 @@ seen_told t seen tag who word more is tells there =
     let same : tag ∷ who ∷ word ∷ more ≡ sight o.a ∷ sight o.b ∷ sight o.c ∷ sight o.d ∷ sights o.us = sym there ∙ is ∙ ap members_seen o.is in
     record { tagged = ap (λ (g : Sight). is_tag g.sort) (let e : tag ≡ sight o.a = cc in e) ∙ o.tagged; traced = ap (λ (g : Sight). is_tracee g.sort) (let e : who ≡ sight o.b = cc in e) ∙ o.traced; worded = ap (λ (g : Sight). is_atom g.sort) (let e : word ≡ sight o.c = cc in e) ∙ o.worded }
 
-pub told_long : (t : AnyTerm) (seen : List Sight) → seen ≡ members_seen t → tells_function (sight t).kind ≡ true → 4 ≤ length seen
-told_long t seen is tells = let o = tells_so t tells in omega (arith, ap length (is ∙ ap members_seen o.is))
-
 pub four_fit : {t : AnyTerm} {text : List ℕ} {tag who word more : Sight} (h : HasFourth t text tag who word more) → tag.sizes.first + who.sizes.first + word.sizes.first + 5 ≤ length text
 four_fit h =
     omega (

@@ -8,7 +8,7 @@ ghost use Rattle.trace_text.specs.Choosing.{asks_of, asks_no_text, asks_nothing,
 use crate::message::front;
 
 /// Which entries of a trace are to be listed: those that all of this holds of; None stands for what isn't asked for.
-#[derive(Debug, Default, Drop)]
+#[derive(Default, Drop)]
 pub struct Choice {
     /// The number of the first entry.
     pub from: Option<u64>,

@@ -6,7 +6,7 @@ ghost use Rattle.trace_text.specs.Separators.{before, then_one};
 use std::alloc::AllocError;
 
 /// How a term stands among others.
-#[derive(Clone, Copy, Debug, PartialEq, Eq)]
+#[derive(Clone, Copy)]
 pub enum Separator {
     /// After another member.
     Behind,

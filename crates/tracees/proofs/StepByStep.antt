@@ -19,9 +19,6 @@ use Rattle.tracees.proofs.Places.{written, not_written}
 abbrev pub RunsOn : {P : Type 0} → (P → Told) → State P → State P → (steps left : List Step) → List Reply → Type 0
 RunsOn {P} told first now steps left replies = (more : List Reply) (last : State P) → Run told now left more last → Run told first steps (replies ++ more) last
 
-pub runs_none : {P : Type 0} (told : P → Told) (first : State P) (steps : List Step) (replies : List Reply) → replies ≡ [] → RunsOn told first first steps (drop 0 steps) replies
-runs_none told first steps replies none more last run = subst (λ (l : List Reply). Run told first steps (l ++ more) last) (sym none) run
-
 pub runs_more : {P : Type 0} (told : P → Told) (first now after : State P) (steps : List Step) (i : ℕ) (x : Step) (replies longer : List Reply) (reply : Reply)
     → i < length steps → RunsOn told first now steps (drop i steps) replies → IsStep told now after (get_or steps i x) reply → longer ≡ replies ++ reply ∷ []
     → RunsOn told first after steps (drop (i + 1) steps) longer

@@ -75,7 +75,7 @@ pub trait Bookkeeping: Send + Drop {
 }
 
 /// A book of plain counts, which doesn't tell how many messages were flushed.
-#[derive(Debug, Drop)]
+#[derive(Drop)]
 pub struct PlainBook {
     attached: u32,
     messages: u64,
@@ -83,7 +83,7 @@ pub struct PlainBook {
 }
 
 /// An account of plain counts.
-#[derive(Debug, Drop)]
+#[derive(Drop)]
 pub struct PlainAccount {
     messages: u64,
     drops: u64,

@@ -10,7 +10,7 @@ use std::alloc::Global;
 use trace_message::{Event, Stamp};
 
 /// What a tracee is to do.
-#[derive(Debug, Drop)]
+#[derive(Drop)]
 pub enum Act {
     /// Takes in an event.
     Emit { event: Event, stamp: Stamp },
@@ -21,14 +21,14 @@ pub enum Act {
 }
 
 /// Why an act failed.
-#[derive(Debug, Drop)]
+#[derive(Drop)]
 pub enum ActFault {
     Emit(EmitFault),
     Hand(HandFault),
 }
 
 /// How far a job is. Acts are named by their indices.
-#[derive(Debug, Drop)]
+#[derive(Drop)]
 pub enum JobState {
     Ready,
     /// All acts were done.

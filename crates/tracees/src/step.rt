@@ -9,7 +9,7 @@ use trace_message::{Event, Stamp};
 use trace_port::PortFault;
 
 /// What is to be done. Desks and tracees are named by their indices.
-#[derive(Debug, Drop)]
+#[derive(Drop)]
 pub enum Step {
     /// The tracee takes in an event.
     Emit {
@@ -40,7 +40,7 @@ pub enum Step {
 }
 
 /// What came of a step.
-#[derive(Debug, Drop)]
+#[derive(Drop)]
 pub enum Reply {
     Offer(Offer),
     EmitRefused(EmitFault),
