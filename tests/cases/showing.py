@@ -3,12 +3,12 @@
 import os
 import pty
 import subprocess
+import time
 
 from cases import group
 from entries import drop, message
-from importing import stream_of
-from program import PATIENCE, Outcome, read_to_end, same
-from salvage import damaged_and_whole
+from following import LONG
+from program import PATIENCE, read_to_end, same
 from top import call, fails, pid_text, returns, sends, told_at, whole
 
 CASES, case = group()
@@ -82,10 +82,8 @@ def times_are_told_since_the_first_or_the_last(program):
 
 @case
 def monotonic_times_are_told_since_the_first(program):
-    entries = [told_at(1, "receive", b"\x61\x07", at=None)] * 0
-    for nanos in (-5, 1_000_000_000):
-        parts = b"\x83\x68\x05\x77\x08trace_ts" + sends(1)[5:][len(b"\x83\x68\x05\x77\x05trace") :] + whole(nanos)
-        entries.append(message(parts.replace(b"\x83\x68\x05", b"\x83\x68\x06", 1)))
+    sent = sends(1)[5:].removeprefix(b"\x83\x68\x05\x77\x05trace")
+    entries = [message(b"\x83\x68\x06\x77\x08trace_ts" + sent + whole(nanos)) for nanos in (-5, 1_000_000_000)]
     program.good("import", "t", stdin=b"".join(entries))
     text = "{trace_ts,<n@h.1.0.1>,send,7,<n@h.99.0.1>,%d}"
     shows(program, row(0, "+0.000000000", "send", text % -5) + row(1, "+1.000000005", "send", text % 1_000_000_000) + END)
@@ -193,22 +191,16 @@ def rows_on_a_terminal_have_colours_and_its_width(program):
 @case
 def what_is_added_is_shown_from_now_on(program):
     program.good("import", "t", "--keep-open", stdin=b"".join(NESTED[:2]))
-    with program.start("show", "-f", "--from", "1", "t") as both:
+    with program.start("show", "-f", "--from", "1", "t") as both, program.start("show", "-f", "t") as follower:
         same(both.line() + "\n", row(1, TIMES[1], "call", TEXTS[1]))
-        with program.start("show", "-f", "t") as follower:
-            program.good("import", "t", "--keep-open", stdin=NESTED[2])
-            same(both.line() + "\n", row(2, TIMES[2], "call", TEXTS[2]))
-            first = follower.line() + "\n"
-            # it may have begun after the entry came
-            program.good("import", "t", stdin=b"".join(NESTED[3:]))
-            left = first + follower.end().output.decode()
-            expected = rows(chosen=(2, 3, 4)) + END
-            assert expected.endswith(left), left
+        time.sleep(LONG)
+        program.good("import", "t", stdin=b"".join(NESTED[2:]))
+        same(follower.end().output.decode(), rows(chosen=(2, 3, 4)) + END)
+        same(both.end().output.decode(), rows(chosen=(2, 3, 4)) + END)
 
 
 @case
-def what_single_files_hold_is_shown(program):
-    (program.folder / "t").write_bytes(b"")
+def what_a_wrap_no_longer_holds_is_told(program):
     program.good("import", "w", "--kind", "wrap", "--size", "100", "--count", "2", stdin=b"".join(NESTED))
     listed = program.good("list", "w", "-p").decode().splitlines()
     first, lost = listed[0].split()[2], listed[0].split()[4]

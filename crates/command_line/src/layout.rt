@@ -4,7 +4,7 @@ ghost use Rattle.std.specs.Prelude.{◌≡◌};
 ghost use Rattle.command_line.specs.Layouts.{shows_each, may_cut};
 
 /// What the column of times has.
-#[derive(Clone, Copy, Debug, PartialEq, Eq)]
+#[derive(Clone, Copy)]
 pub enum TimeColumn {
     /// The time of day; of monotonic time what passed since the first that is shown.
     Clock,
@@ -15,7 +15,7 @@ pub enum TimeColumn {
 }
 
 /// Where rows have colours.
-#[derive(Clone, Copy, Debug, PartialEq, Eq)]
+#[derive(Clone, Copy)]
 pub enum Colours {
     Always,
     Never,
@@ -23,7 +23,7 @@ pub enum Colours {
 }
 
 /// A moment of a trace, in nanoseconds.
-#[derive(Clone, Copy, Debug, PartialEq, Eq)]
+#[derive(Clone, Copy)]
 pub enum Moment {
     /// Of each day, since midnight.
     OfDay(i64),
@@ -34,7 +34,7 @@ pub enum Moment {
 }
 
 /// How a listing is laid out for a person.
-#[derive(Debug, Drop)]
+#[derive(Drop)]
 pub struct Layout {
     pub times: TimeColumn,
     pub colours: Colours,

@@ -1,18 +1,19 @@
 -- What rows are made of, and lists of rows.
-use Rattle.std.proofs.Common.{◌≡◌, ◌≢◌, ℕ, ◌+◌, ◌<◌, ◌≤◌, Bool, true, false, ◌||◌, ◌==◌, cond, Option, List, [], ◌∷◌, ◌++◌, map, length, take, drop, refl, sym, ◌∙◌, ap, subst, append_assoc, append-nil, arith}
+use Rattle.std.proofs.Common.{◌≡◌, ◌≢◌, ℕ, ◌+◌, ◌-◌, ◌<◌, ◌≤◌, Bool, true, false, ◌||◌, ◌==◌, cond, Option, List, [], ◌∷◌, ◌++◌, map, length, take, drop, refl, sym, ◌∙◌, ap, subst, append_assoc, append-nil, arith}
 use Rattle.std.proofs.lemmas.Bool.{or_parts, ltb-false, eqb-false}
-use Rattle.std.proofs.lemmas.List.{drop-drop, take-append-drop}
-use Rattle.std.proofs.lemmas.List.Elements.{All-append, All-map, All-cons, All-nil}
+use Rattle.std.proofs.lemmas.List.{drop-drop, take-append-drop, drop_all, length-drop}
+use Rattle.std.proofs.Math.Seq.{take-append_seam, take-length}
+use Rattle.std.proofs.lemmas.List.Elements.{All-append, All-map, All-cons, All-nil, All-push}
 use Rattle.std.specs.Prelude.{nat_lt, slice_index_or, is_some, Some, None, option_and_then, codes, IsUtf8, IfSome, MatchOption}
 use Rattle.serde_json.specs.Data.{Data}
 use Rattle.serde_json.specs.Read.{read}
 use Rattle.serde_json.specs.Find.{get, as_str}
 use Rattle.std.specs.List.{All}
-use Rattle.std.specs.Io.KnownBytes.{Appends}
+use Rattle.std.specs.Io.KnownBytes.{Appends, Keeps}
 use Rattle.std.proofs.KnownBytes.{Appends-trans, Appends-nil}
 use Rattle.shown_listings.specs.declared.given.Given.{Given}
-use Rattle.shown_listings.specs.Ends.{text_of_lines}
-use Rattle.shown_listings.specs.Rows.{shown_byte, unfed_byte, cut_sign, ShowsText, whole, front, HasNoFeed, ShowsInRow, IsRow, HaveRows, none, with_row, left_out, text_of_rows, Sends, AreLines, text_in}
+use Rattle.shown_listings.specs.Ends.{text_of_lines, counted}
+use Rattle.shown_listings.specs.Rows.{shown_byte, unfed_byte, cut_sign, ShowsText, whole, front, HasNoFeed, ShowsInRow, IsRow, HaveRows, none, with_row, left_out, text_of_rows, Sends, AreLines, given_lines, text_in, bit, laid_contents}
 
 abbrev other : ℕ → Type 0
 other byte = byte ≢ 10
@@ -92,6 +93,13 @@ rows-left each cut _ _ l lacks none = left_out l lacks none
 rows-left each cut _ _ l lacks (with_row line first {lines} {rows} was more) = with_row line first was (rows-left each cut lines rows l lacks more)
 rows-left each cut _ _ l lacks (left_out line {lines} {rows} so more) = left_out line so (rows-left each cut lines rows l lacks more)
 
+pub rows-grown-at : (each cut : Bool) (lines later rows more : List (List ℕ)) (l r : List ℕ) → IsRow cut l r → later ≡ lines ++ l ∷ [] → more ≡ rows ++ r ∷ [] → HaveRows each cut lines rows → HaveRows each cut later more
+rows-grown-at each cut lines later rows more l r is came laid have =
+    subst (λ ls. HaveRows each cut ls more) (sym came) (subst (λ rs. HaveRows each cut (lines ++ l ∷ []) rs) (sym laid) (rows-grown each cut lines rows l r is have))
+
+pub rows-left-at : (each cut : Bool) (lines later rows : List (List ℕ)) (l : List ℕ) → each ≡ false → later ≡ lines ++ l ∷ [] → HaveRows each cut lines rows → HaveRows each cut later rows
+rows-left-at each cut lines later rows l lacks came have = subst (λ ls. HaveRows each cut ls rows) (sym came) (rows-left each cut lines rows l lacks have)
+
 pub lines-grown : (lines : List (List ℕ)) (line : List ℕ) → text_of_lines (lines ++ line ∷ []) ≡ text_of_lines lines ++ (line ++ 10 ∷ [])
 lines-grown [] line = refl
 lines-grown (first ∷ lines) line =
@@ -100,6 +108,10 @@ lines-grown (first ∷ lines) line =
 pub text_of_rows-grown : (rows : List (List ℕ)) (r : List ℕ) → text_of_rows (rows ++ r ∷ []) ≡ text_of_rows rows ++ r
 text_of_rows-grown [] r = append-nil r
 text_of_rows-grown (first ∷ rows) r = ap (λ l. first ++ l) (text_of_rows-grown rows r) ∙ sym (append_assoc first (text_of_rows rows) r)
+
+-- What is behind a place is all of it.
+pub rest-whole : (n : ℕ) (bytes : List ℕ) → take (length bytes - n) (drop n bytes) ≡ drop n bytes
+rest-whole n bytes = ap (λ k. take k (drop n bytes)) (sym (length-drop n bytes)) ∙ take-length (drop n bytes)
 
 -- A part of what is left was taken.
 pub sends-more : (was now : Option (List ℕ)) (written later : Given) (n count : ℕ) (bytes all : List ℕ) → Sends was written (drop n bytes) all
@@ -151,3 +163,63 @@ row-told cut line text row same shows = record { text = text; shows = shows; sam
 pub matched : {A : Type 0} (r : Option A) (N : Type 0) (P Q : A → Type 0) → ((x : A) → P x → Q x) → MatchOption r N P → MatchOption r N Q
 matched None N P Q f is = is
 matched (Some x) N P Q f is = f x is
+
+-- ---- a line more
+
+-- The line that came whole has no line feed of its own.
+pub lines_whole-grown : (lines later : List (List ℕ)) (line rest left : List ℕ) → AreLines lines line → HasNoFeed rest → later ≡ lines ++ (line ++ rest) ∷ [] → left ≡ [] → AreLines later left
+lines_whole-grown lines later line rest left are other_rest came cleared =
+    let P : List (List ℕ) → Type 0 = λ l. All HasNoFeed l in
+    let Q : List ℕ → Type 0 = λ l. HasNoFeed l in
+    record {
+      each = subst P (sym came) (All-push HasNoFeed lines (line ++ rest) are.each (All-append other line rest are.last other_rest));
+      last = subst Q (sym cleared) (All-nil other);
+    }
+
+-- More of a line came.
+pub line-grown : (lines : List (List ℕ)) (line more after : List ℕ) → AreLines lines line → HasNoFeed more → after ≡ line ++ more → AreLines lines after
+line-grown lines line more after are other_more came =
+    let Q : List ℕ → Type 0 = λ l. HasNoFeed l in
+    record { each = are.each; last = subst Q (sym came) (All-append other line more are.last other_more) }
+
+-- It is what was given, with what came of it before.
+pub given-grown : (lines later : List (List ℕ)) (line rest left : List ℕ) → later ≡ lines ++ (line ++ rest) ∷ [] → left ≡ [] → given_lines later left ≡ given_lines lines line ++ (rest ++ 10 ∷ [])
+given-grown lines later line rest left came cleared =
+    let text = text_of_lines lines in
+    ap (λ l. given_lines l left) came ∙ ap (λ l. text_of_lines (lines ++ (line ++ rest) ∷ []) ++ l) cleared ∙ append-nil (text_of_lines (lines ++ (line ++ rest) ∷ []))
+    ∙ lines-grown lines (line ++ rest) ∙ ap (λ l. text ++ l) (append_assoc line rest (10 ∷ [])) ∙ sym (append_assoc text line (rest ++ 10 ∷ []))
+
+-- All was sent, and the next row is to be.
+pub sends-next : (now : Option (List ℕ)) (written : Given) (taken : ℕ) (sent row : List ℕ) (rows later : List (List ℕ)) → length sent ≤ taken → Sends now written (drop taken sent) (text_of_rows rows) → later ≡ rows ++ row ∷ []
+    → Sends now written row (text_of_rows later)
+sends-next now written taken sent row rows later all was came =
+    let is : written.bytes ≡ text_of_rows rows = sym (append-nil written.bytes) ∙ ap (λ l. written.bytes ++ l) (sym (drop_all taken sent all)) ∙ was.is in
+    record {
+      held = was.held;
+      is = ap (λ l. l ++ row) is ∙ sym (text_of_rows-grown rows row) ∙ sym (ap text_of_rows came);
+    }
+
+-- What is given up again leaves the line as it was.
+pub line-back : (line rest after : List ℕ) (held : ℕ) → held ≡ length line → after ≡ take held (line ++ rest) → after ≡ line
+line-back line rest after held size back = back ∙ ap (λ n. take n (line ++ rest)) size ∙ take-append_seam line rest
+
+-- What a writer holds grows by what is given.
+pub contents-grown : (each cut each_then cut_then : Bool) (start later : Option (List ℕ)) (given after part : List ℕ) → each_then ≡ each → cut_then ≡ cut → later ≡ start → after ≡ given ++ part
+    → Appends (laid_contents each cut start given) (laid_contents each_then cut_then later after) part
+unfolding laid_contents
+contents-grown each cut each_then cut_then start later given after part same_each same_cut same grown =
+    let whole_text : counted later ++ after ≡ (counted start ++ given) ++ part = ap (λ s. counted s ++ after) same ∙ ap (λ l. counted start ++ l) grown ∙ sym (append_assoc (counted start) given part) in
+    ap (λ b. bit b ∷ bit cut_then ∷ (counted later ++ after)) same_each ∙ ap (λ b. bit each ∷ bit b ∷ (counted later ++ after)) same_cut ∙ ap (λ l. bit each ∷ bit cut ∷ l) whole_text
+
+pub contents-kept : (each cut each_then cut_then : Bool) (start later : Option (List ℕ)) (given after : List ℕ) → each_then ≡ each → cut_then ≡ cut → later ≡ start → after ≡ given
+    → Keeps (laid_contents each cut start given) (laid_contents each_then cut_then later after)
+unfolding laid_contents
+contents-kept each cut each_then cut_then start later given after same_each same_cut same kept =
+    ap (λ b. bit b ∷ bit cut_then ∷ (counted later ++ after)) same_each ∙ ap (λ b. bit each ∷ bit b ∷ (counted later ++ after)) same_cut
+    ∙ ap (λ s. bit each ∷ bit cut ∷ (counted s ++ after)) same ∙ ap (λ l. bit each ∷ bit cut ∷ (counted start ++ l)) kept
+
+pub matched-some : {A : Type 0} (o : Option A) (x : A) (N : Type 0) (P : A → Type 0) → o ≡ Some x → MatchOption o N P → P x
+matched-some o x N P e is = subst (λ k. MatchOption k N P) e is
+
+pub matched-none : {A : Type 0} (o : Option A) (N : Type 0) (P : A → Type 0) → o ≡ None → MatchOption o N P → N
+matched-none o N P e is = subst (λ k. MatchOption k N P) e is

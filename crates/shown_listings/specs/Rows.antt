@@ -1,10 +1,10 @@
 -- The rows of a listing for people, one for a line.
-use Rattle.std.specs.Prelude.{◌≡◌, ◌≢◌, ℕ, Bool, true, false, ◌||◌, ◌==◌, nat_lt, Option, List, [], ◌∷◌, ◌++◌, map, take, codes, if◌then◌else◌, option_and_then, IfSome, IsUtf8}
+use Rattle.std.specs.Prelude.{◌≡◌, ◌≢◌, ℕ, Bool, true, false, ◌||◌, ◌==◌, nat_lt, Option, Some, List, [], ◌∷◌, ◌++◌, map, take, codes, if◌then◌else◌, option_and_then, IfSome, IsUtf8}
 use Rattle.std.specs.List.{All}
 use Rattle.std.specs.Coded.{coded_list, coded_ℕ, Coded-set, Π_prop, →_prop}
 use Rattle.shown_listings.specs.Growth.{Appends-prop}
 use Rattle.std.specs.Io.KnownBytes.{Appends}
-use Rattle.shown_listings.specs.Ends.{text_of_lines}
+use Rattle.shown_listings.specs.Ends.{text_of_lines, counted}
 use Rattle.shown_listings.specs.declared.given.Given.{Given}
 use Rattle.serde_json.specs.Read.{read}
 use Rattle.serde_json.specs.Find.{get, as_str}
@@ -74,6 +74,14 @@ given_lines lines rest = text_of_lines lines ++ rest
 pub record AreLines (lines : List (List ℕ)) (rest : List ℕ) : Type 0 where
   pub each : All HasNoFeed lines
   pub last : HasNoFeed rest
+
+abbrev pub bit : Bool → ℕ
+bit false = 0
+bit true = 1
+
+-- A writer of rows holds, as a writer, which rows it has, what the one below held when it was made, and what it was given since.
+unfoldable pub laid_contents : Bool → Bool → Option (List ℕ) → List ℕ → Option (List ℕ)
+laid_contents each cut start given = Some (bit each ∷ bit cut ∷ (counted start ++ given))
 
 pub Sends-prop : (now : Option (List ℕ)) (written : Given) (left all : List ℕ) → IsProp (Sends now written left all)
 Sends-prop now written left all = λ p q. λ i. record {

@@ -12,7 +12,7 @@ const SECOND: u64 = 1_000_000_000;
 const DAY: u64 = 86_400;
 
 /// The time that a message tells, in nanoseconds.
-#[derive(Clone, Copy, Debug, PartialEq, Eq)]
+#[derive(Clone, Copy)]
 pub enum Stamp {
     /// Since the beginning of 1970.
     Wall(i64),
@@ -63,7 +63,7 @@ impl fmt::Display for TimeOfDay {
 }
 
 /// How finely seconds are told.
-#[derive(Clone, Copy, Debug, PartialEq, Eq)]
+#[derive(Clone, Copy)]
 pub enum Fineness {
     Micros,
     Nanos,

@@ -1,7 +1,7 @@
 //! A writer that lays out a listing for a person.
-ghost use Rattle.std.specs.Prelude.{◌≡◌, ◌≤◌, ◌++◌, ◌∷◌, ℕ, Option, List, [], true, false, length, take, drop, OnOk, OnErr, IfOk, MatchResult};
+ghost use Rattle.std.specs.Prelude.{◌≡◌, ◌≤◌, ◌<◌, ◌+◌, ◌++◌, ◌∷◌, ℕ, Option, List, [], length, take, drop, OnOk, OnErr, MatchOption};
 ghost use Rattle.std.specs.Io.{WritesAtMost, KnownBytes.Keeps, KnownBytes.WriteAppends};
-ghost use Rattle.shown_listings.specs.{Ends.end_contents, Rows.HaveRows, Rows.AreLines, Rows.AreLines-prop, Rows.Sends, Rows.Sends-prop, Rows.HasNoFeed, Rows.text_of_rows, Rows.given_lines};
+ghost use Rattle.shown_listings.specs.{Rows.HaveRows, Rows.AreLines, Rows.AreLines-prop, Rows.Sends, Rows.Sends-prop, Rows.HasNoFeed, Rows.text_of_rows, Rows.given_lines, Rows.laid_contents};
 
 use crate::given::Given;
 use crate::look::Look;
@@ -15,7 +15,7 @@ use std::io::{self, ErrorKind, Write};
 const FEED: u8 = b'\n';
 
 /// How the rows of a listing ended.
-#[derive(Clone, Copy, Debug, PartialEq, Eq)]
+#[derive(Clone, Copy)]
 pub enum RowsEnd {
     /// All of them are written.
     Written,
@@ -132,15 +132,18 @@ impl<'a, W: Write> LaidOut<'a, W> {
         let held = self.line.len();
         self.line.extend_from_slice(rest)?;
         match self.rows.row_of(&self.look, &self.line) {
-            Ok(row) => {
+            Ok(Some(row)) => {
                 self.lines.note(&self.line);
-                if let Some(row) = row {
-                    self.laid.note(&row);
-                    self.unsent = Unsent {
-                        bytes: row,
-                        taken: 0,
-                    };
-                }
+                self.laid.note(&row);
+                self.unsent = Unsent {
+                    bytes: row,
+                    taken: 0,
+                };
+                self.line.clear();
+                Ok(())
+            }
+            Ok(None) => {
+                self.lines.note(&self.line);
                 self.line.clear();
                 Ok(())
             }
@@ -152,23 +155,59 @@ impl<'a, W: Write> LaidOut<'a, W> {
     }
 }
 
+/// How many bytes come before the first line feed; None where there is none.
+fn line_end(bytes: &[u8]) -> Option<usize>
+    ensures { MatchOption result (HasNoFeed bytes.now) (λ place. (place < length bytes.now)
+        × HasNoFeed (take place bytes.now)
+        × (take (place + 1) bytes.now ≡ take place bytes.now ++ 10 ∷ [])) }
+{
+    for (index, byte) in bytes.iter().enumerate() {
+        if *byte == FEED {
+            return Some(index);
+        }
+    }
+    None
+}
+
+impl<W: Write> LaidOut<'_, W> {
+    /// Takes bytes up to the end of a line, or all.
+    fn take(&mut self, bytes: &[u8]) -> Result<usize, AllocError>
+        requires { length self.old.unsent.bytes.items ≤ self.old.unsent.taken }
+        ensures look { self.new.look ≡ self.old.look }
+        ensures bound { WritesAtMost result bytes.now }
+        ensures bytes { WriteAppends
+            (laid_contents self.old.look.shows_each self.old.look.may_cut self.old.written.start
+                (given_lines self.old.lines.items self.old.line.items))
+            (laid_contents self.new.look.shows_each self.new.look.may_cut self.new.written.start
+                (given_lines self.new.lines.items self.new.line.items)) result bytes.now }
+    {
+        match line_end(bytes) {
+            Some(place) => {
+                self.end_line(&bytes[..place])?;
+                Ok(place + 1)
+            }
+            None => {
+                self.go_on(bytes)?;
+                Ok(bytes.len())
+            }
+        }
+    }
+}
+
 impl<W: Write> Write for LaidOut<'_, W> {
-    ghost contents = { λ laid. end_contents laid.written.start (given_lines laid.lines.items laid.line.items) };
+    ghost contents = { λ laid. laid_contents laid.look.shows_each laid.look.may_cut laid.written.start (given_lines laid.lines.items laid.line.items) };
 
     fn write(&mut self, bytes: &[u8]) -> io::Result<usize>
         ensures bound { WritesAtMost result bytes.now }
         ensures bytes { WriteAppends
-            (end_contents self.old.written.start (given_lines self.old.lines.items self.old.line.items))
-            (end_contents self.new.written.start (given_lines self.new.lines.items self.new.line.items))
-            result bytes.now }
+            (laid_contents self.old.look.shows_each self.old.look.may_cut self.old.written.start
+                (given_lines self.old.lines.items self.old.line.items))
+            (laid_contents self.new.look.shows_each self.new.look.may_cut self.new.written.start
+                (given_lines self.new.lines.items self.new.line.items)) result bytes.now }
         ensures look { self.new.look ≡ self.old.look }
     {
         self.send()?;
-        let taken = match bytes.iter().position(|byte| *byte == FEED) {
-            Some(place) => self.end_line(&bytes[..place]).map(|_| place + 1),
-            None => self.go_on(bytes).map(|_| bytes.len()),
-        };
-        match taken {
+        match self.take(bytes) {
             Ok(count) => Ok(count),
             Err(AllocError) => {
                 self.is_out_of_memory = true;
@@ -179,8 +218,10 @@ impl<W: Write> Write for LaidOut<'_, W> {
 
     fn flush(&mut self) -> io::Result<()>
         ensures stay { Keeps
-            (end_contents self.old.written.start (given_lines self.old.lines.items self.old.line.items))
-            (end_contents self.new.written.start (given_lines self.new.lines.items self.new.line.items)) }
+            (laid_contents self.old.look.shows_each self.old.look.may_cut self.old.written.start
+                (given_lines self.old.lines.items self.old.line.items))
+            (laid_contents self.new.look.shows_each self.new.look.may_cut self.new.written.start
+                (given_lines self.new.lines.items self.new.line.items)) }
     {
         self.send()?;
         self.rows.begin();

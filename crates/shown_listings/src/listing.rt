@@ -170,9 +170,10 @@ fn list_laid_out<S: Listable, R: Wait, I: Read + Drop, W: Output>(
     let look = Look::new(layout, screen_of(rt, layout));
     let mut laid = LaidOut::new(rt.alloc(), taken(rt.alloc(), output), look);
     let (done, left) = list_shown(rt.alloc(), waiter, listing, shown, input, &mut laid);
-    let end = laid.end();
+    let ended = laid.end();
     *output = rows_out(laid);
-    (told_with(done, end), left)
+    let told = told_with(done, ended);
+    (told, left)
 }
 
 /// Shows a listing of the entries that are chosen. Where standard error is a terminal it says how many of these are opaque.

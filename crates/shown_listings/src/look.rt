@@ -7,7 +7,7 @@ use command_line::{Layout, Moment, TimeColumn};
 use std::cmp::Ordering;
 
 /// What rows are written to.
-#[derive(Clone, Copy, Debug, PartialEq, Eq)]
+#[derive(Clone, Copy)]
 pub struct Screen {
     pub is_coloured: bool,
     /// The columns that it has, where rows are cut there.
@@ -15,7 +15,7 @@ pub struct Screen {
 }
 
 /// How rows look, and which are shown.
-#[derive(Clone, Copy, Debug, PartialEq, Eq)]
+#[derive(Clone, Copy)]
 pub struct Look<'a> {
     pub times: TimeColumn,
     pub is_coloured: bool,

@@ -15,7 +15,7 @@ pub struct Told<'a> {
 }
 
 /// Where a message stands among the calls of its process.
-#[derive(Clone, Copy, Debug, PartialEq, Eq)]
+#[derive(Clone, Copy)]
 pub struct Nested {
     /// How many calls are open around it.
     pub depth: usize,

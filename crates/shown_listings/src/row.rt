@@ -11,7 +11,7 @@ const FEED: u8 = b'\n';
 const CUT_SIGN: [u8; 3] = [0xe2, 0x80, 0xa6];
 
 /// How much of a text is shown; None stands for all of it.
-#[derive(Clone, Copy, Debug, PartialEq, Eq)]
+#[derive(Clone, Copy)]
 pub struct Room {
     pub bytes: Option<usize>,
     pub columns: Option<usize>,

@@ -1,7 +1,7 @@
 use Rattle.std.proofs.Common.{◌≡◌, ◌++◌, List, ℕ, drop, take, ◌∙◌, ap, subst}
 use Rattle.std.specs.Io.KnownBytes.{Appends}
 use Rattle.shown_listings.specs.declared.given.Given.{Given}
-use Rattle.shown_listings.proofs.RowLemmas.{sends-more}
+use Rattle.shown_listings.proofs.RowLemmas.{sends-more, rest-whole}
 use Rattle.shown_listings.proofs.sending.send.Goals as goal
 
 pub rest-preserved : goal.rest-preserved
@@ -10,10 +10,12 @@ rest-preserved g c =
     let taken = c.rest.unsent.taken in
     let count = c.in_ok-count.count in
     let contents = g.W.Write.contents in
-    let Took : List ℕ → Type 0 = λ all. Appends (contents c.rest.out) (contents c.write.new.self) (take count (drop taken all)) in
-    let Came : List ℕ → Type 0 = λ all. c.note.new.self ≡ record c.rest.written { bytes = c.rest.written.bytes ++ take count (drop taken all) } in
-    let took : Took bytes = subst Took c.deref.ensures.value c.in_ok-count.ensures.bytes in
-    let came : Came bytes = subst Came c.deref.ensures.value c.note.ensures in
+    let all = c.deref.result.now in
+    let Took : List ℕ → Type 0 = λ rest. Appends (contents c.rest.out) (contents c.write.new.self) (take count rest) in
+    let Came : List ℕ → Type 0 = λ rest. c.note.new.self ≡ record c.rest.written { bytes = c.rest.written.bytes ++ take count rest } in
+    let rest : drop taken all ≡ drop taken bytes = ap (λ l. drop taken l) c.deref.ensures.value in
+    let took : Took (drop taken bytes) = subst Took rest (subst Took (rest-whole taken all) c.in_ok-count.ensures.bytes) in
+    let came : Came (drop taken bytes) = subst Came rest (subst Came (rest-whole taken all) c.note.ensures) in
     record {
       same = c.rest.invariant.same;
       start = ap (λ (w : Given). w.start) came ∙ c.rest.invariant.start;
