@@ -148,7 +148,7 @@ fn told_with(done: Result<(), Complaint>, end: RowsEnd) -> Result<(), Complaint>
 
 /// The writer to which rows went.
 fn rows_out<W: Write>(laid: LaidOut<'_, W>) -> W
-    ensures { result ≡ laid.out }
+    ensures { result ≡ laid.entry.out }
 {
     laid.out
 }
