@@ -49,6 +49,7 @@ import replacing
 import rows
 import salvage
 import scripts
+import showing
 import telling
 import top
 import windows
@@ -56,7 +57,7 @@ import wording
 from cases import Skipped
 from program import Program
 
-GROUPS = (rows, scripts, emitting, readings, listing, pretty, long_messages, fragments, forms, choosing, json_listing, recording, importing, info, top, folding, perfetto, foreign, absent, keeping, telling, crashes, images, machine, faults, locking, replacing, live, following, windows, salvage, large, wording, documents, installing, memory, libraries, reaching)
+GROUPS = (rows, scripts, emitting, readings, listing, pretty, long_messages, fragments, forms, choosing, json_listing, recording, importing, info, top, folding, perfetto, foreign, absent, keeping, telling, crashes, images, machine, faults, locking, replacing, live, following, showing, windows, salvage, large, wording, documents, installing, memory, libraries, reaching)
 
 
 def words():

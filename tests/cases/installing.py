@@ -26,6 +26,7 @@ VALUES = {
     "--flush": ["always", "never", "paused"],
     "--only": sorted(KINDS),
     "--as": ["folded", "perfetto", "stream"],
+    "--color": ["always", "auto", "never"],
     "--by": ["function", "kind", "process"],
     "--sort": ["count", "exceptions", "longest", "mean", "total"],
 }

@@ -16,12 +16,17 @@ OF_FILES = {"--kind", "--suffix", "--count"}
 
 OF_NEW_FILES = OF_FILES | {"--size", "--time"}
 
-OF_LISTINGS = {"--pretty", "--json", "--from", "--to", "--only", "--pid", "--mfa"}
+OF_CHOICES = {"--from", "--to", "--only", "--pid", "--mfa"}
+
+OF_LISTINGS = {"--pretty", "--json"} | OF_CHOICES
+
+OF_ROWS = {"--relative", "--delta", "--since", "--until", "--grep", "--color", "--full", "--width", "--longest-text"}
 
 COMMANDS = {
     "import": OF_NEW_FILES | {"--flush", "--keep-open", "--skip", "--longest", "--after-failure"},
     "record": OF_NEW_FILES | {"--after-failure"},
     "list": OF_FILES | OF_LISTINGS | {"--follow", "--salvage"},
+    "show": OF_FILES | OF_CHOICES | OF_ROWS | {"--follow", "--salvage"},
     "export": OF_FILES | {"--as", "--salvage"},
     "info": OF_FILES | {"--json"},
     "top": OF_FILES | {"--by", "--sort", "--limit", "--json"},

@@ -3,6 +3,7 @@ ghost use Rattle.std.specs.Prelude.{◌≡◌, IfOk, string_bytes};
 ghost use Rattle.std.specs.Option.{option_map, option_copied};
 
 use crate::function::{Function, function_in};
+use crate::layout_words::{layout_in, with_layout};
 use crate::process::is_process;
 use crate::ranking::{Grouping, Order, Ranking};
 use crate::request::{
@@ -27,7 +28,7 @@ const LEAST_KEPT: u32 = 65_531;
 const DEFAULT_LIMIT: u32 = 20;
 
 /// An option with a value.
-fn option<'a>(alloc: Global, name: &'a str, value: &'a str, about: &'a str) -> Arg<'a> {
+pub fn option<'a>(alloc: Global, name: &'a str, value: &'a str, about: &'a str) -> Arg<'a> {
     Arg::new(alloc, name)
         .long(name)
         .value_name(value)
@@ -35,7 +36,7 @@ fn option<'a>(alloc: Global, name: &'a str, value: &'a str, about: &'a str) -> A
 }
 
 /// An option without a value.
-fn flag<'a>(alloc: Global, name: &'a str, about: &'a str) -> Arg<'a> {
+pub fn flag<'a>(alloc: Global, name: &'a str, about: &'a str) -> Arg<'a> {
     Arg::new(alloc, name)
         .long(name)
         .action(ArgAction::SetTrue)
@@ -234,16 +235,22 @@ fn mfa<'a>(alloc: Global) -> Arg<'a> {
     )
 }
 
-/// A listing, and the options that say how it is shown and which of its lines.
+/// A listing, and the options that say which of its lines are shown.
 fn with_choice<'a>(alloc: Global, command: Command<'a>) -> Result<Command<'a>, AllocError> {
     command
-        .arg(pretty(alloc))?
-        .arg(flag(alloc, "json", "As JSON objects, one for each line"))?
         .arg(from(alloc))?
         .arg(to(alloc))?
         .arg(only(alloc))?
         .arg(pid(alloc))?
         .arg(mfa(alloc))
+}
+
+/// The same, and the options that say how its lines are written.
+fn with_style<'a>(alloc: Global, command: Command<'a>) -> Result<Command<'a>, AllocError> {
+    let command = command
+        .arg(pretty(alloc))?
+        .arg(flag(alloc, "json", "As JSON objects, one for each line"))?;
+    with_choice(alloc, command)
 }
 
 /// The option that goes on with what is added.
@@ -273,7 +280,18 @@ fn list<'a>(alloc: Global, command: Command<'a>) -> Result<Command<'a>, AllocErr
     )?
     .arg(follow(alloc))?
     .arg(salvage(alloc).conflicts_with("follow")?)?;
-    with_choice(alloc, command)
+    with_style(alloc, command)
+}
+
+fn show<'a>(alloc: Global, command: Command<'a>) -> Result<Command<'a>, AllocError> {
+    let command = of_files(
+        alloc,
+        command,
+        "BASE may be -: then an entry stream is read from standard input. With -f what is there already is shown with --from alone.\n\nExample: dbgrec show trace",
+    )?
+    .arg(follow(alloc))?
+    .arg(salvage(alloc).conflicts_with("follow")?)?;
+    with_layout(alloc, with_choice(alloc, command)?)
 }
 
 fn form<'a>(alloc: Global) -> Arg<'a> {
@@ -363,16 +381,20 @@ fn stream<'a>(alloc: Global, command: Command<'a>) -> Result<Command<'a>, AllocE
             alloc,
             "Shows messages of up to so many bytes in full, up to 256M, as --pretty does [default: 16M]",
         ))?;
-    with_choice(alloc, command)
+    with_style(alloc, command)
 }
 
 /// The commands, and what the help says that each does.
-const COMMANDS: [(&str, &str); 9] = [
+const COMMANDS: [(&str, &str); 10] = [
     (
         "import",
         "Records the entry stream of a node from standard input, and seals the trace at its end",
     ),
     ("list", "Lists a stored trace on standard output"),
+    (
+        "show",
+        "Shows a stored trace to a person: times, calls that go in by their depth, colours",
+    ),
     (
         "export",
         "Writes a stored trace on standard output, as the entry stream that dbg:trace_client reads",
@@ -406,6 +428,7 @@ fn with_options<'a>(
     match name {
         "import" => import(alloc, command),
         "list" => list(alloc, command),
+        "show" => show(alloc, command),
         "export" => export(alloc, command),
         "info" => info(alloc, command),
         "top" => top(alloc, command),
@@ -538,7 +561,7 @@ fn process_asked<'a>(matches: &ArgMatches<'a>) -> Result<Option<&'a str>, Misuse
 }
 
 /// A text that is kept.
-fn kept(alloc: Global, text: Option<&str>) -> Result<Option<String>, AllocError>
+pub fn kept(alloc: Global, text: Option<&str>) -> Result<Option<String>, AllocError>
     ensures { IfOk result (λ kept. option_map string_bytes kept ≡ option_copied text.entry) }
 {
     match text {
@@ -612,12 +635,13 @@ fn shown_in<'a>(alloc: Global, matches: &ArgMatches<'a>) -> Result<Shown, Misuse
         is_json: matches.get_flag("json"),
         choice: choice_in(alloc, matches)?,
         is_plain: !is_pretty(matches),
+        layout: None,
     })
 }
 
 /// The listing that is asked for.
-fn list_in<'a>(matches: &ArgMatches<'a>) -> TraceRequest<'a> {
-    let (asked, is_pretty) = (asked_in(matches), is_pretty(matches));
+fn list_in<'a>(matches: &ArgMatches<'a>, is_pretty: bool) -> TraceRequest<'a> {
+    let asked = asked_in(matches);
     if matches.get_flag("salvage") {
         let form = Form::Lines { is_pretty };
         TraceRequest::Salvage { asked, form }
@@ -685,7 +709,7 @@ fn trace_request_in<'a>(
             wanted: wanted_in(matches)?,
             rules: rules_in(matches)?,
         }),
-        "list" => Some(list_in(matches)),
+        "list" => Some(list_in(matches, is_pretty(matches))),
         "export" => Some(export_in(matches)),
         "info" => Some(TraceRequest::Info {
             asked: asked_in(matches),
@@ -700,11 +724,45 @@ fn trace_request_in<'a>(
     })
 }
 
+/// What is asked of a trace, or of a stream, that is shown to a person.
+fn show_in<'a>(alloc: Global, matches: &ArgMatches<'a>) -> Result<Request<'a>, Misuse<'a>> {
+    let asked = asked_in(matches);
+    let is_stream = asked.base == "-";
+    let follows = matches.get_flag("follow") && !is_stream;
+    let is_from_now = follows && matches.get_one::<u64>("from").is_none();
+    let shown = Shown {
+        is_json: true,
+        choice: choice_in(alloc, matches)?,
+        is_plain: false,
+        layout: Some(layout_in(alloc, matches, is_from_now)?),
+    };
+    let is_pretty = true;
+    Ok(if is_stream {
+        Request::Stream {
+            is_pretty,
+            longest: DEFAULT_LONGEST,
+            shown,
+        }
+    } else if follows {
+        Request::Follow {
+            asked,
+            is_pretty,
+            shown,
+        }
+    } else {
+        let request = list_in(matches, is_pretty);
+        Request::Listing { request, shown }
+    })
+}
+
 /// What the words that were found ask for.
 fn request_in<'a>(alloc: Global, matches: &ArgMatches<'a>) -> Result<Request<'a>, Misuse<'a>> {
     let Some((name, matches)) = matches.subcommand() else {
         return Ok(Request::Sim);
     };
+    if name == "show" {
+        return show_in(alloc, matches);
+    }
     if name == "list" && matches.get_flag("follow") {
         return Ok(Request::Follow {
             asked: asked_in(matches),

@@ -9,12 +9,16 @@
 
 mod command;
 mod function;
+mod layout;
+mod layout_words;
+mod moment;
 mod process;
 mod ranking;
 mod request;
 mod size;
 
 pub use command::asked_for;
+pub use layout::{Colours, Layout, Moment, TimeColumn};
 pub use ranking::{Grouping, Order, Ranking};
 pub use request::{
     Asked, Ending, Flushing, Form, Misuse, Request, Rules, Shape, Shown, TraceRequest, Wanted,

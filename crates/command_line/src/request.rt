@@ -2,6 +2,7 @@
 
 ghost use Rattle.std.specs.Prelude.{◌≡◌, None, false};
 
+use crate::layout::Layout;
 use crate::ranking::Ranking;
 use clap::Error;
 use std::alloc::AllocError;
@@ -76,17 +77,21 @@ pub struct Shown {
     pub choice: Option<Choice>,
     /// It isn't readable: it may have lines that are opaque for want of `--pretty`.
     pub is_plain: bool,
+    /// How it is laid out for a person, where it is.
+    pub layout: Option<Layout>,
 }
 
 impl Shown {
     /// Each line, as it is.
     pub fn each_line() -> Shown
-        ensures { result ≡ record { is_json = false; choice = None; is_plain = false } }
+        ensures { result ≡ record
+            { is_json = false; choice = None; is_plain = false; layout = None } }
     {
         Shown {
             is_json: false,
             choice: None,
             is_plain: false,
+            layout: None,
         }
     }
 }
@@ -199,6 +204,8 @@ pub enum Misuse<'a> {
     Process(&'a str),
     /// The value of `--mfa`.
     Function(&'a str),
+    /// The value of `--since` or `--until`.
+    Moment(&'a str),
 }
 
 impl From<Error> for Misuse<'_> {

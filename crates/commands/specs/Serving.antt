@@ -23,7 +23,7 @@ use Rattle.commands.specs.declared.serving.Task.TheVariants as tasks
 
 -- what isn't listed is shown as it is
 abbrev pub each_line : Shown
-each_line = record { is_json = false; choice = None; is_plain = false }
+each_line = record { is_json = false; choice = None; is_plain = false; layout = None }
 
 -- what is asked is done with the files of a trace, by what is seen of the stream that comes in, as a listing that leaves them so
 abbrev pub ServesTrace : TraceRequest → Shown → Files → Outside → Files → Listing

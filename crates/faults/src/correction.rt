@@ -35,6 +35,10 @@ const A_PROCESS: &str =
 const A_FUNCTION: &str =
     "a module, as lists, a function, as lists:seq, or one of so many arguments, as lists:seq/2";
 
+/// What may stand for the time of `--since` or `--until`.
+const A_MOMENT: &str =
+    "a time of day, as 12:04:31.5, a time, as 2026-05-01T12:04:31, or seconds of a monotonic clock, as 17.25";
+
 /// What is said where a shell made several names of one, as of `w*`.
 const ONE_NAME: &str =
     "One name is taken. That of a wrap is what the names of its files begin with: w, where they are w0, w1 and so on.";
@@ -109,5 +113,6 @@ pub fn correct(rt: &(impl Print + Eprint), alloc: Global, misuse: Misuse<'_>) ->
         Misuse::Kind(word) => refuse(rt, word, "--only <KIND[,KIND..]>", KINDS),
         Misuse::Process(text) => refuse(rt, text, "--pid <PID>", A_PROCESS),
         Misuse::Function(text) => refuse(rt, text, "--mfa <M[:F[/A]]>", A_FUNCTION),
+        Misuse::Moment(text) => refuse(rt, text, "--since or --until <TIME>", A_MOMENT),
     }
 }

@@ -2,4 +2,6 @@ pub mod EndHanded
 pub mod EndHolding
 pub mod Ending
 pub mod FilledLines
+pub mod Laying
 pub mod Passing
+pub mod RowLemmas

@@ -1,6 +1,11 @@
 -- Listings, and how they are shown.
-use Rattle.std.specs.Prelude.{◌≡◌, ℕ, Bool, true, false, not, ◌&&◌, is_some, Option, Some, None, List, Result, IfErr}
+use Rattle.std.specs.Prelude.{◌≡◌, ℕ, Bool, true, false, not, ◌&&◌, is_some, Option, Some, None, List, [], ◌++◌, Result, IfErr, IsErr}
 use Rattle.std.specs.Io.KnownBytes.{Appends}
+use Rattle.command_line.specs.declared.layout.Layout.{Layout}
+use Rattle.command_line.specs.Layouts.{shows_each, may_cut}
+use Rattle.shown_listings.specs.declared.laid_out.RowsEnd.{RowsEnd}
+use Rattle.shown_listings.specs.declared.laid_out.RowsEnd.TheVariants as ends
+use Rattle.shown_listings.specs.Rows.{HaveRows, AreLines, given_lines, text_of_rows}
 use Rattle.trace_text.specs.declared.choice.Choice.{Choice}
 use Rattle.command_line.specs.declared.request.Shown.{Shown}
 use Rattle.shown_listings.specs.Ends.{Passed}
@@ -40,5 +45,42 @@ abbrev pub ShowsBy : Bool → Listing → Listing
 ShowsBy false Lists result was now = Lists result was now
 ShowsBy true Lists result was now = UpToEnd Lists result was now
 
+-- A text was laid out, as far as it came: its lines have rows, and the first bytes of these are written, or all.
+pub record HasRows (layout : Layout) (whole : Type 0) (text : List ℕ) (was now : Option (List ℕ)) : Type 0 where
+  pub lines : List (List ℕ)
+  pub rest : List ℕ
+  pub is : given_lines lines rest ≡ text
+  pub each : AreLines lines rest
+  pub rows : List (List ℕ)
+  pub have : ∥ HaveRows (shows_each layout) (may_cut layout) lines rows ∥₁
+  pub written : List ℕ
+  pub left : List ℕ
+  pub front : written ++ left ≡ text_of_rows rows
+  pub all : whole → left ≡ []
+  pub shown : Appends was now written
+
+-- All that is listed went to a writer that held some bytes before. Where a text came to these, it was laid out.
+pub record LaysOut (layout : Layout) (whole : Type 0) (Lists : Option (List ℕ) → Option (List ℕ) → Type 0) (was now : Option (List ℕ)) : Type 0 where
+  pub held : List ℕ
+  pub holds : Option (List ℕ)
+  pub lists : Lists (Some held) holds
+  pub laid : (text : List ℕ) → Appends (Some held) holds text → HasRows layout whole text was now
+
+-- How it is told that a listing ended: as it did, unless its rows couldn't be written, or there was no memory for one.
+abbrev pub IsToldWith : RowsEnd → Result Unit Complaint → Result Unit Complaint → Type 0
+IsToldWith ends.Written done result = result ≡ done
+IsToldWith ends.Unwritten done result = IfErr result (λ complaint. complaint ≡ complaints.Fault faults.Write None) × IsErr result
+IsToldWith ends.NoMemory done result = IfErr result (λ complaint. complaint ≡ complaints.Fault faults.NoMemory None) × IsErr result
+
+-- a listing that is laid out for a person
+abbrev pub IsLaidOut : Layout → Listing → Listing
+IsLaidOut layout Lists result was now =
+    (end : RowsEnd) × (done : Result Unit Complaint) × LaysOut layout (end ≡ ends.Written) (Lists done) was now × IsToldWith end done result
+
+-- how a listing is shown: as it is, or laid out
+abbrev pub ShowsAs : Option Layout → Listing → Listing
+ShowsAs None Lists result was now = Lists result was now
+ShowsAs (Some layout) Lists result was now = IsLaidOut layout Lists result was now
+
 abbrev pub Shows : Shown → Listing → Listing
-Shows shown Lists result was now = ShowsBy (may_end shown.choice) Lists result was now
+Shows shown Lists result was now = ShowsAs shown.layout (ShowsBy (may_end shown.choice) Lists) result was now

@@ -10,14 +10,25 @@
 //! says what stands on standard error. Which lines a listing has is said where it is made.
 #![tactic(auto)]
 
+mod clock_text;
 mod console;
 mod counted;
 mod end_writer;
 mod given;
 mod inlet;
+mod laid_out;
 mod laws;
 mod listing;
+mod look;
+mod nesting;
+mod noted;
+mod notices;
 mod outlet;
+mod row;
+mod rows;
+mod screen;
+mod sending;
+mod shown_object;
 
 pub use console::{Console, console_for};
 pub use inlet::Inlet;

@@ -4,12 +4,15 @@ ghost use Rattle.std.specs.Io.KnownBytes.{Keeps};
 ghost use Rattle.script_runner.specs.declared.fault.SimFault.TheVariants as faults;
 ghost use Rattle.command_line.specs.declared.request.Shown.{Shown};
 ghost use Rattle.faults.specs.declared.complaint.Complaint.TheVariants as complaints;
-ghost use Rattle.shown_listings.specs.Listings.{Listing, UpToEnd, IsToldBy, may_end, Shows};
+ghost use Rattle.shown_listings.specs.Listings.{Listing, UpToEnd, IsToldBy, IsLaidOut, IsToldWith, may_end, ShowsBy, Shows};
 
 use crate::counted::Counted;
 use crate::end_writer::EndWriter;
+use crate::laid_out::{LaidOut, RowsEnd};
+use crate::look::Look;
 use crate::outlet::{Output, taken};
-use command_line::Shown;
+use crate::screen::screen_of;
+use command_line::{Layout, Shown};
 use faults::Complaint;
 use script_runner::SimFault;
 use std::alloc::Global;
@@ -40,6 +43,12 @@ pub trait Listable {
 impl<W: Output> Output for EndWriter<W> {
     fn none(alloc: Global) -> EndWriter<W> {
         EndWriter::new(W::none(alloc))
+    }
+}
+
+impl<W: Output> Output for LaidOut<'_, W> {
+    fn none(alloc: Global) -> Self {
+        LaidOut::new(alloc, W::none(alloc), Look::PLAIN)
     }
 }
 
@@ -115,7 +124,8 @@ fn list_shown<S: Listable, R: Wait, I: Read + Drop, W: Output>(
     input: I,
     output: &mut W,
 ) -> (Result<(), Complaint>, S::Left)
-    ensures { Shows shown.now (S.lists listing shown.now (I.remaining input) result.1) result.0
+    ensures { ShowsBy (may_end shown.now.choice)
+        (S.lists listing shown.now (I.remaining input) result.1) result.0
         (W.contents output.old) (W.contents output.new) }
 {
     if may_end(&shown.choice) {
@@ -123,6 +133,47 @@ fn list_shown<S: Listable, R: Wait, I: Read + Drop, W: Output>(
     } else {
         listing.list(waiter, shown, input, output)
     }
+}
+
+/// How a listing ended, by how its rows did.
+fn told_with(done: Result<(), Complaint>, end: RowsEnd) -> Result<(), Complaint>
+    ensures { IsToldWith end done result }
+{
+    match end {
+        RowsEnd::Written => done,
+        RowsEnd::Unwritten => Err(Complaint::from(SimFault::Write)),
+        RowsEnd::NoMemory => Err(Complaint::from(SimFault::NoMemory)),
+    }
+}
+
+/// The writer to which rows went.
+fn rows_out<W: Write>(laid: LaidOut<'_, W>) -> W
+    ensures { result ≡ laid.entry.out }
+{
+    laid.out
+}
+
+/// Lists what is shown, laid out for a person.
+fn list_laid_out<S: Listable, R: Wait, I: Read + Drop, W: Output>(
+    rt: &HostRuntime,
+    waiter: &R,
+    listing: S,
+    shown: &Shown,
+    layout: &Layout,
+    input: I,
+    output: &mut W,
+) -> (Result<(), Complaint>, S::Left)
+    ensures { IsLaidOut layout.now (ShowsBy (may_end shown.now.choice)
+        (S.lists listing shown.now (I.remaining input) result.1)) result.0
+        (W.contents output.old) (W.contents output.new) }
+{
+    let look = Look::new(layout, screen_of(rt, layout));
+    let mut laid = LaidOut::new(rt.alloc(), taken(rt.alloc(), output), look);
+    let (done, left) = list_shown(rt.alloc(), waiter, listing, shown, input, &mut laid);
+    let ended = laid.end();
+    *output = rows_out(laid);
+    let told = told_with(done, ended);
+    (told, left)
 }
 
 /// Shows a listing of the entries that are chosen. Where standard error is a terminal it says how many of these are opaque.
@@ -139,5 +190,8 @@ pub fn show<S: Listable, R: Wait, I: Read + Drop, W: Output>(
 {
     let is_on = shown.is_plain && rt.stderr().is_terminal();
     let counted = Counted::new(rt, listing, is_on);
-    list_shown(rt.alloc(), waiter, counted, &shown, input, output)
+    match &shown.layout {
+        Some(layout) => list_laid_out(rt, waiter, counted, &shown, layout, input, output),
+        None => list_shown(rt.alloc(), waiter, counted, &shown, input, output),
+    }
 }

@@ -1,0 +1,127 @@
+//! Moments, as a command line says them.
+
+use crate::layout::Moment;
+
+/// The nanoseconds of a second.
+const SECOND: i64 = 1_000_000_000;
+
+/// The seconds of a day.
+const DAY: i64 = 86_400;
+
+/// How many nanoseconds each digit behind the point stands for.
+const PLACES: [i64; 9] = [
+    100_000_000,
+    10_000_000,
+    1_000_000,
+    100_000,
+    10_000,
+    1_000,
+    100,
+    10,
+    1,
+];
+
+/// A number of one to so many digits, and nothing else.
+fn digits(text: &str, most: usize) -> Option<i64> {
+    if text.is_empty() || text.len() > most || !text.bytes().all(|byte| byte.is_ascii_digit()) {
+        return None;
+    }
+    text.parse::<i64>().ok()
+}
+
+/// The nanoseconds that digits behind a point stand for. None where they aren't one to nine digits.
+fn fraction(text: &str) -> Option<i64> {
+    digits(text, PLACES.len())?;
+    let mut nanos: i64 = 0;
+    for (byte, place) in text.bytes().zip(PLACES) {
+        let part = i64::from(byte.wrapping_sub(b'0')).checked_mul(place)?;
+        nanos = nanos.checked_add(part)?;
+    }
+    Some(nanos)
+}
+
+/// The nanoseconds of seconds, which may have digits behind a point.
+fn seconds_in(text: &str, most: usize) -> Option<(i64, i64)> {
+    match text.split_once('.') {
+        Some((seconds, rest)) => Some((digits(seconds, most)?, fraction(rest)?)),
+        None => Some((digits(text, most)?, 0)),
+    }
+}
+
+/// The nanoseconds since midnight of HH:MM:SS, which may have digits behind a point.
+fn time_of_day(text: &str) -> Option<i64> {
+    let (hours, rest) = text.split_once(':')?;
+    let (minutes, rest) = rest.split_once(':')?;
+    let (hours, minutes) = (digits(hours, 2)?, digits(minutes, 2)?);
+    let (seconds, nanos) = seconds_in(rest, 2)?;
+    if hours > 23 || minutes > 59 || seconds > 59 {
+        return None;
+    }
+    let minutes = hours.checked_mul(60)?.checked_add(minutes)?;
+    let seconds = minutes.checked_mul(60)?.checked_add(seconds)?;
+    seconds.checked_mul(SECOND)?.checked_add(nanos)
+}
+
+/// Whether a year has a day more than others.
+fn is_leap(year: i64) -> bool {
+    year % 4 == 0 && (year % 100 != 0 || year % 400 == 0)
+}
+
+/// The days of each month of a year.
+fn months_of(year: i64) -> [i64; 12] {
+    let february = if is_leap(year) { 29 } else { 28 };
+    [31, february, 31, 30, 31, 30, 31, 31, 30, 31, 30, 31]
+}
+
+/// The days from the beginning of 1970 to that of a year from 1970 on.
+fn days_before(year: i64) -> Option<i64> {
+    let past = year.checked_sub(1)?;
+    let leaps = (past / 4).checked_sub(past / 100)?.checked_add(past / 400)?;
+    year.checked_sub(1970)?
+        .checked_mul(365)?
+        .checked_add(leaps.checked_sub(477)?)
+}
+
+/// The days from the beginning of 1970 to YYYY-MM-DD. None where that is no day, or is before.
+fn day_in(text: &str) -> Option<i64> {
+    let (year, rest) = text.split_once('-')?;
+    let (month, day) = rest.split_once('-')?;
+    let (year, month, day) = (digits(year, 4)?, digits(month, 2)?, digits(day, 2)?);
+    if year < 1970 || month < 1 || day < 1 {
+        return None;
+    }
+    let mut days = days_before(year)?;
+    for (index, length) in months_of(year).iter().enumerate() {
+        let number = i64::try_from(index).ok()?.checked_add(1)?;
+        if number == month {
+            return if day > *length {
+                None
+            } else {
+                days.checked_add(day.checked_sub(1)?)
+            };
+        }
+        days = days.checked_add(*length)?;
+    }
+    None
+}
+
+/// The moment that a text names: HH:MM:SS of each day, YYYY-MM-DDTHH:MM:SS, or seconds of a monotonic clock, each with digits
+/// behind a point or without. None where it names none.
+pub fn moment_in(text: &str) -> Option<Moment> {
+    if let Some((day, time)) = text.split_once('T') {
+        let seconds = day_in(day)?.checked_mul(DAY)?;
+        let nanos = seconds.checked_mul(SECOND)?;
+        return Some(Moment::Dated(nanos.checked_add(time_of_day(time)?)?));
+    }
+    if text.contains(':') {
+        return Some(Moment::OfDay(time_of_day(text)?));
+    }
+    let (is_negative, text) = match text.strip_prefix('-') {
+        Some(rest) => (true, rest),
+        None => (false, text),
+    };
+    let (seconds, nanos) = seconds_in(text, 10)?;
+    let nanos = seconds.checked_mul(SECOND)?.checked_add(nanos)?;
+    let nanos = if is_negative { nanos.checked_neg()? } else { nanos };
+    Some(Moment::Monotonic(nanos))
+}

@@ -1,0 +1,99 @@
+-- The rows of a listing for people, one for a line.
+use Rattle.std.specs.Prelude.{◌≡◌, ◌≢◌, ℕ, Bool, true, false, ◌||◌, ◌==◌, nat_lt, Option, Some, List, [], ◌∷◌, ◌++◌, map, take, codes, if◌then◌else◌, option_and_then, IfSome, IsUtf8}
+use Rattle.std.specs.List.{All}
+use Rattle.std.specs.Coded.{coded_list, coded_ℕ, Coded-set, Π_prop, →_prop}
+use Rattle.shown_listings.specs.Growth.{Appends-prop}
+use Rattle.std.specs.Io.KnownBytes.{Appends}
+use Rattle.shown_listings.specs.Ends.{text_of_lines, counted}
+use Rattle.shown_listings.specs.declared.given.Given.{Given}
+use Rattle.serde_json.specs.Read.{read}
+use Rattle.serde_json.specs.Find.{get, as_str}
+
+
+-- what a byte of a text is shown as: one that governs a terminal as a blank
+abbrev pub shown_byte : ℕ → ℕ
+shown_byte byte = if nat_lt byte 32 || byte == 127 then 32 else byte
+
+-- what a byte beside a text is shown as: a line feed as a blank
+abbrev pub unfed_byte : ℕ → ℕ
+unfed_byte byte = if byte == 10 then 32 else byte
+
+-- the sign behind a text that is cut
+abbrev pub cut_sign : List ℕ
+cut_sign = 226 ∷ 128 ∷ 166 ∷ []
+
+-- the text of the entry of an object, as the kit reads JSON
+unfoldable pub text_in : List ℕ → Option (List ℕ)
+text_in line = option_and_then as_str (option_and_then (get (codes "text")) (read line))
+
+-- a text is shown whole; or, where it may be cut, its first bytes with the sign behind them
+pub data ShowsText (cut : Bool) (text : List ℕ) : List ℕ → Type 0 where
+  whole : ShowsText cut text (map shown_byte text)
+  front : (n : ℕ) → cut ≡ true → ShowsText cut text (map shown_byte (take n text) ++ cut_sign)
+
+-- none of the bytes is a line feed
+abbrev pub HasNoFeed : List ℕ → Type 0
+HasNoFeed bytes = All (λ byte. byte ≢ 10) bytes
+
+-- a row is one line, in which a text is shown
+pub record ShowsInRow (cut : Bool) (text row : List ℕ) : Type 0 where
+  pub before : List ℕ
+  pub part : List ℕ
+  pub after : List ℕ
+  pub shows : ShowsText cut text part
+  pub is : row ≡ ((before ++ part) ++ after) ++ 10 ∷ []
+  pub one_line : HasNoFeed ((before ++ part) ++ after)
+
+-- the row of a line: of an entry it shows the text
+pub record IsRow (cut : Bool) (line row : List ℕ) : Type 0 where
+  pub text : List ℕ
+  pub shows : ShowsInRow cut text row
+  pub same : IsUtf8 line → IfSome (text_in line) (λ told. told ≡ text)
+
+-- each line has its row, in their order; only where not each need have one, some have none
+pub data HaveRows (each cut : Bool) : List (List ℕ) → List (List ℕ) → Type 0 where
+  none : HaveRows each cut [] []
+  with_row : (line row : List ℕ) {lines rows : List (List ℕ)} → IsRow cut line row → HaveRows each cut lines rows → HaveRows each cut (line ∷ lines) (row ∷ rows)
+  left_out : (line : List ℕ) {lines rows : List (List ℕ)} → each ≡ false → HaveRows each cut lines rows → HaveRows each cut (line ∷ lines) rows
+
+-- rows, one behind the other
+abbrev pub text_of_rows : List (List ℕ) → List ℕ
+text_of_rows [] = []
+text_of_rows (row ∷ rows) = row ++ text_of_rows rows
+
+-- what a writer was given stands behind what it held, and with what is left it is all of these bytes
+pub record Sends (now : Option (List ℕ)) (written : Given) (left all : List ℕ) : Type 0 where
+  pub held : Appends written.start now written.bytes
+  pub is : written.bytes ++ left ≡ all
+
+-- lines that came, each with its line feed, and what came of the next one
+abbrev pub given_lines : List (List ℕ) → List ℕ → List ℕ
+given_lines lines rest = text_of_lines lines ++ rest
+
+-- none of them has a line feed of its own
+pub record AreLines (lines : List (List ℕ)) (rest : List ℕ) : Type 0 where
+  pub each : All HasNoFeed lines
+  pub last : HasNoFeed rest
+
+abbrev pub bit : Bool → ℕ
+bit false = 0
+bit true = 1
+
+-- A writer of rows holds, as a writer, which rows it has, what the one below held when it was made, and what it was given since.
+unfoldable pub laid_contents : Bool → Bool → Option (List ℕ) → List ℕ → Option (List ℕ)
+laid_contents each cut start given = Some (bit each ∷ bit cut ∷ (counted start ++ given))
+
+pub Sends-prop : (now : Option (List ℕ)) (written : Given) (left all : List ℕ) → IsProp (Sends now written left all)
+Sends-prop now written left all = λ p q. λ i. record {
+  held = Appends-prop written.start now written.bytes p.held q.held i;
+  is = Coded-set (coded_list coded_ℕ) _ _ p.is q.is i;
+}
+
+pub HasNoFeed-prop : (bytes : List ℕ) → IsProp (HasNoFeed bytes)
+HasNoFeed-prop bytes = Π_prop (λ k. Π_prop (λ d. →_prop (→_prop (λ x y. absurd x))))
+
+pub AreLines-prop : (lines : List (List ℕ)) (rest : List ℕ) → IsProp (AreLines lines rest)
+AreLines-prop lines rest = λ p q. λ i. record {
+  each = (Π_prop (λ k. Π_prop (λ d. →_prop (HasNoFeed-prop _)))) p.each q.each i;
+  last = HasNoFeed-prop rest p.last q.last i;
+}

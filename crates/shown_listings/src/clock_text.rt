@@ -1,0 +1,178 @@
+//! The times of rows.
+
+use command_line::TimeColumn;
+use std::alloc::{AllocError, Global};
+use std::fmt;
+use trace_summary::time_in;
+
+/// The nanoseconds of a second.
+const SECOND: u64 = 1_000_000_000;
+
+/// The seconds of a day.
+const DAY: u64 = 86_400;
+
+/// The time that a message tells, in nanoseconds.
+#[derive(Clone, Copy)]
+pub enum Stamp {
+    /// Since the beginning of 1970.
+    Wall(i64),
+    /// By a monotonic clock.
+    Monotonic(i64),
+}
+
+impl Stamp {
+    pub fn nanos(self) -> i64 {
+        match self {
+            Stamp::Wall(nanos) | Stamp::Monotonic(nanos) => nanos,
+        }
+    }
+}
+
+/// The time of a message with this text; None where it tells none.
+pub fn stamp_in(text: &[u8]) -> Option<Stamp> {
+    let nanos = time_in(text)?;
+    Some(if has_three_members(text) {
+        Stamp::Wall(nanos)
+    } else {
+        Stamp::Monotonic(nanos)
+    })
+}
+
+/// Whether the last member of a term is a tuple of three integers.
+fn has_three_members(text: &[u8]) -> bool {
+    let Some(inside) = text.strip_suffix(b"}}") else {
+        return false;
+    };
+    let Some(start) = inside.iter().rposition(|byte| *byte == b'{') else {
+        return false;
+    };
+    inside[start..].iter().filter(|byte| **byte == b',').count() == 2
+}
+
+/// The time of day, to the microsecond.
+#[derive(Clone, Copy)]
+pub struct TimeOfDay(pub u64);
+
+impl fmt::Display for TimeOfDay {
+    fn fmt<W: fmt::Write>(&self, f: &mut fmt::Formatter<W>) -> fmt::Result {
+        let seconds = self.0 / SECOND % DAY;
+        let (hours, minutes) = (seconds / 3_600, seconds / 60 % 60);
+        let (rest, micros) = (seconds % 60, self.0 % SECOND / 1_000);
+        write!(f, "{hours:02}:{minutes:02}:{rest:02}.{micros:06}")
+    }
+}
+
+/// How finely seconds are told.
+#[derive(Clone, Copy)]
+pub enum Fineness {
+    Micros,
+    Nanos,
+}
+
+/// A time in seconds.
+#[derive(Clone, Copy)]
+pub struct Seconds {
+    pub nanos: u64,
+    pub fineness: Fineness,
+}
+
+impl fmt::Display for Seconds {
+    fn fmt<W: fmt::Write>(&self, f: &mut fmt::Formatter<W>) -> fmt::Result {
+        let (seconds, nanos) = (self.nanos / SECOND, self.nanos % SECOND);
+        let micros = nanos / 1_000;
+        match self.fineness {
+            Fineness::Micros => write!(f, "{seconds}.{micros:06}"),
+            Fineness::Nanos => write!(f, "{seconds}.{nanos:09}"),
+        }
+    }
+}
+
+/// How finely the times of a stamp are told.
+pub fn fineness_of(stamp: Stamp) -> Fineness {
+    match stamp {
+        Stamp::Wall(_) => Fineness::Micros,
+        Stamp::Monotonic(_) => Fineness::Nanos,
+    }
+}
+
+/// The times of one clock that rows had.
+#[derive(Clone, Copy)]
+struct Had {
+    first: Option<i64>,
+    last: Option<i64>,
+}
+
+impl Had {
+    const NONE: Had = Had {
+        first: None,
+        last: None,
+    };
+
+    /// What passed since the first of these times, or since the last; nothing where there is none.
+    fn passed(self, column: TimeColumn, nanos: i64) -> i64 {
+        let from = match column {
+            TimeColumn::SinceLast => self.last,
+            TimeColumn::Clock | TimeColumn::SinceFirst => self.first,
+        };
+        nanos.saturating_sub(from.unwrap_or(nanos))
+    }
+
+    /// A row has this time.
+    fn note(&mut self, nanos: i64) {
+        self.first = Some(self.first.unwrap_or(nanos));
+        self.last = Some(nanos);
+    }
+}
+
+/// The column of times.
+#[derive(Drop)]
+pub struct Clock {
+    wall: Had,
+    monotonic: Had,
+}
+
+/// A time with its sign.
+fn signed(alloc: Global, nanos: i64, fineness: Fineness) -> Result<String, AllocError> {
+    let sign = if nanos < 0 { '-' } else { '+' };
+    let nanos = nanos.unsigned_abs();
+    let seconds = Seconds { nanos, fineness };
+    format!(in alloc; "{sign}{seconds}")
+}
+
+impl Clock {
+    /// No row had a time.
+    pub fn new() -> Clock {
+        Clock {
+            wall: Had::NONE,
+            monotonic: Had::NONE,
+        }
+    }
+
+    /// Whether a row had a time.
+    pub fn is_on(&self) -> bool {
+        self.wall.first.is_some() || self.monotonic.first.is_some()
+    }
+
+    /// What the column has for a row with this time.
+    pub fn tell(
+        &mut self,
+        alloc: Global,
+        column: TimeColumn,
+        stamp: Stamp,
+    ) -> Result<String, AllocError> {
+        let nanos = stamp.nanos();
+        let had = match stamp {
+            Stamp::Wall(_) => &mut self.wall,
+            Stamp::Monotonic(_) => &mut self.monotonic,
+        };
+        let passed = had.passed(column, nanos);
+        had.note(nanos);
+        match (stamp, column) {
+            (Stamp::Wall(nanos), TimeColumn::Clock) => {
+                let time = TimeOfDay(u64::try_from(nanos).unwrap_or(0));
+                format!(in alloc; "{time}")
+            }
+            _ => signed(alloc, passed, fineness_of(stamp)),
+        }
+    }
+}

@@ -1,0 +1,230 @@
+//! A writer that lays out a listing for a person.
+ghost use Rattle.std.specs.Prelude.{◌≡◌, ◌≤◌, ◌<◌, ◌+◌, ◌++◌, ◌∷◌, ℕ, Option, List, [], length, take, drop, OnOk, OnErr, MatchOption};
+ghost use Rattle.std.specs.Io.{WritesAtMost, KnownBytes.Keeps, KnownBytes.WriteAppends};
+ghost use Rattle.shown_listings.specs.{Rows.HaveRows, Rows.AreLines, Rows.AreLines-prop, Rows.Sends, Rows.Sends-prop, Rows.HasNoFeed, Rows.text_of_rows, Rows.given_lines, Rows.laid_contents};
+
+use crate::given::Given;
+use crate::look::Look;
+use crate::noted::Noted;
+use crate::rows::Rows;
+use crate::sending::{Unsent, send};
+use std::alloc::{AllocError, Global};
+use std::io::{self, ErrorKind, Write};
+
+/// The end of a line.
+const FEED: u8 = b'\n';
+
+/// How the rows of a listing ended.
+#[derive(Clone, Copy)]
+pub enum RowsEnd {
+    /// All of them are written.
+    Written,
+    /// They couldn't be.
+    Unwritten,
+    /// There was no memory for one.
+    NoMemory,
+}
+
+/// Takes a listing as objects, and writes a row for each line.
+#[derive(Drop)]
+pub struct LaidOut<'a, W: Write> {
+    pub out: W,
+    look: Look<'a>,
+    rows: Rows,
+    /// What came of a line that hasn't come whole.
+    line: Vec<u8>,
+    /// The last row.
+    unsent: Unsent,
+    /// There was no memory for a row.
+    is_out_of_memory: bool,
+    pub written: Given,
+    pub lines: Noted,
+    pub laid: Noted,
+    pub ghost lines_whole: { AreLines lines.items line.items } by { AreLines-prop lines.items line.items },
+    pub ghost rows_each: { ∥ HaveRows look.shows_each look.may_cut lines.items laid.items ∥₁ },
+    pub ghost sends: { Sends (W.contents out) written (drop unsent.taken unsent.bytes.items) (text_of_rows laid.items) } by { Sends-prop (W.contents out) written (drop unsent.taken unsent.bytes.items) (text_of_rows laid.items) },
+}
+
+impl<'a, W: Write> LaidOut<'a, W> {
+    /// A writer that nothing came to.
+    pub fn new(alloc: Global, out: W, look: Look<'a>) -> LaidOut<'a, W>
+        ghost start: { Option (List ℕ) }
+        requires { start ≡ W.contents out }
+        ensures start { result.written.start ≡ W.contents out }
+        ensures lines { result.lines.items ≡ [] }
+        ensures line { result.line.items ≡ [] }
+        ensures out { result.out ≡ out }
+        ensures look { result.look ≡ look.entry }
+    {
+        LaidOut {
+            out,
+            look,
+            rows: Rows::new(alloc),
+            line: Vec::new(alloc),
+            unsent: Unsent {
+                bytes: Vec::new(alloc),
+                taken: 0,
+            },
+            is_out_of_memory: false,
+            written: Given::new(),
+            lines: Noted::new(),
+            laid: Noted::new(),
+        }
+    }
+
+    /// Writes what is left of the rows.
+    fn send(&mut self) -> io::Result<()>
+        ensures look { self.new.look ≡ self.old.look }
+        ensures line { self.new.line ≡ self.old.line }
+        ensures lines { self.new.lines ≡ self.old.lines }
+        ensures laid { self.new.laid ≡ self.old.laid }
+        ensures start { self.new.written.start ≡ self.old.written.start }
+        ensures all { OnOk result
+            (length self.new.unsent.bytes.items ≤ self.new.unsent.taken) }
+    {
+        send(&mut self.out, &mut self.unsent, &mut self.written)
+    }
+
+    /// Writes what is left of the rows, and tells how they ended.
+    pub fn end(&mut self) -> RowsEnd
+        ensures look { self.new.look ≡ self.old.look }
+        ensures line { self.new.line ≡ self.old.line }
+        ensures lines { self.new.lines ≡ self.old.lines }
+        ensures laid { self.new.laid ≡ self.old.laid }
+        ensures start { self.new.written.start ≡ self.old.written.start }
+        ensures all { result ≡ RowsEnd.Written
+            → length self.new.unsent.bytes.items ≤ self.new.unsent.taken }
+    {
+        let sent = self.send();
+        if self.is_out_of_memory {
+            RowsEnd::NoMemory
+        } else if sent.is_ok() {
+            RowsEnd::Written
+        } else {
+            RowsEnd::Unwritten
+        }
+    }
+
+    /// Takes more of a line.
+    fn go_on(&mut self, more: &[u8]) -> Result<(), AllocError>
+        requires no_feed { HasNoFeed more.now }
+        ensures look { self.new.look ≡ self.old.look }
+        ensures start { self.new.written.start ≡ self.old.written.start }
+        ensures ok { OnOk result (given_lines self.new.lines.items self.new.line.items
+            ≡ given_lines self.old.lines.items self.old.line.items ++ more.now) }
+        ensures err { OnErr result ((self.new.lines ≡ self.old.lines)
+            × (self.new.line.items ≡ self.old.line.items)) }
+    {
+        self.line.extend_from_slice(more)
+    }
+
+    /// Takes the rest of a line, and makes its row.
+    fn end_line(&mut self, rest: &[u8]) -> Result<(), AllocError>
+        requires no_feed { HasNoFeed rest.now }
+        requires sent { length self.old.unsent.bytes.items ≤ self.old.unsent.taken }
+        ensures look { self.new.look ≡ self.old.look }
+        ensures start { self.new.written.start ≡ self.old.written.start }
+        ensures ok { OnOk result (given_lines self.new.lines.items self.new.line.items
+            ≡ given_lines self.old.lines.items self.old.line.items ++ (rest.now ++ 10 ∷ [])) }
+        ensures err { OnErr result ((self.new.lines ≡ self.old.lines)
+            × (self.new.line.items ≡ self.old.line.items)) }
+    {
+        let held = self.line.len();
+        self.line.extend_from_slice(rest)?;
+        match self.rows.row_of(&self.look, &self.line) {
+            Ok(Some(row)) => {
+                self.lines.note(&self.line);
+                self.laid.note(&row);
+                self.unsent = Unsent {
+                    bytes: row,
+                    taken: 0,
+                };
+                self.line.clear();
+                Ok(())
+            }
+            Ok(None) => {
+                self.lines.note(&self.line);
+                self.line.clear();
+                Ok(())
+            }
+            Err(fault) => {
+                self.line.truncate(held);
+                Err(fault)
+            }
+        }
+    }
+}
+
+/// How many bytes come before the first line feed; None where there is none.
+fn line_end(bytes: &[u8]) -> Option<usize>
+    ensures { MatchOption result (HasNoFeed bytes.now) (λ place. (place < length bytes.now)
+        × HasNoFeed (take place bytes.now)
+        × (take (place + 1) bytes.now ≡ take place bytes.now ++ 10 ∷ [])) }
+{
+    for (index, byte) in bytes.iter().enumerate() {
+        if *byte == FEED {
+            return Some(index);
+        }
+    }
+    None
+}
+
+impl<W: Write> LaidOut<'_, W> {
+    /// Takes bytes up to the end of a line, or all.
+    fn take(&mut self, bytes: &[u8]) -> Result<usize, AllocError>
+        requires { length self.old.unsent.bytes.items ≤ self.old.unsent.taken }
+        ensures look { self.new.look ≡ self.old.look }
+        ensures bound { WritesAtMost result bytes.now }
+        ensures bytes { WriteAppends
+            (laid_contents self.old.look.shows_each self.old.look.may_cut self.old.written.start
+                (given_lines self.old.lines.items self.old.line.items))
+            (laid_contents self.new.look.shows_each self.new.look.may_cut self.new.written.start
+                (given_lines self.new.lines.items self.new.line.items)) result bytes.now }
+    {
+        match line_end(bytes) {
+            Some(place) => {
+                self.end_line(&bytes[..place])?;
+                Ok(place + 1)
+            }
+            None => {
+                self.go_on(bytes)?;
+                Ok(bytes.len())
+            }
+        }
+    }
+}
+
+impl<W: Write> Write for LaidOut<'_, W> {
+    ghost contents = { λ laid. laid_contents laid.look.shows_each laid.look.may_cut laid.written.start (given_lines laid.lines.items laid.line.items) };
+
+    fn write(&mut self, bytes: &[u8]) -> io::Result<usize>
+        ensures bound { WritesAtMost result bytes.now }
+        ensures bytes { WriteAppends
+            (laid_contents self.old.look.shows_each self.old.look.may_cut self.old.written.start
+                (given_lines self.old.lines.items self.old.line.items))
+            (laid_contents self.new.look.shows_each self.new.look.may_cut self.new.written.start
+                (given_lines self.new.lines.items self.new.line.items)) result bytes.now }
+        ensures look { self.new.look ≡ self.old.look }
+    {
+        self.send()?;
+        match self.take(bytes) {
+            Ok(count) => Ok(count),
+            Err(AllocError) => {
+                self.is_out_of_memory = true;
+                Err(io::Error::from(ErrorKind::OutOfMemory))
+            }
+        }
+    }
+
+    fn flush(&mut self) -> io::Result<()>
+        ensures stay { Keeps
+            (laid_contents self.old.look.shows_each self.old.look.may_cut self.old.written.start
+                (given_lines self.old.lines.items self.old.line.items))
+            (laid_contents self.new.look.shows_each self.new.look.may_cut self.new.written.start
+                (given_lines self.new.lines.items self.new.line.items)) }
+    {
+        self.send()?;
+        self.rows.begin();
+        self.out.flush()
+    }
+}

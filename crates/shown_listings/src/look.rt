@@ -1,0 +1,97 @@
+//! How rows look, by what a command line asks and by what they are written to.
+ghost use Rattle.std.specs.Prelude.{◌≡◌};
+ghost use Rattle.command_line.specs.Layouts.{shows_each, may_cut};
+
+use crate::clock_text::Stamp;
+use command_line::{Layout, Moment, TimeColumn};
+use std::cmp::Ordering;
+
+/// What rows are written to.
+#[derive(Clone, Copy)]
+pub struct Screen {
+    pub is_coloured: bool,
+    /// The columns that it has, where rows are cut there.
+    pub width: Option<usize>,
+}
+
+/// How rows look, and which are shown.
+#[derive(Clone, Copy)]
+pub struct Look<'a> {
+    pub times: TimeColumn,
+    pub is_coloured: bool,
+    pub width: Option<usize>,
+    pub longest_text: Option<usize>,
+    pub since: Option<Moment>,
+    pub until: Option<Moment>,
+    pub grep: Option<&'a str>,
+    /// Each line has a row.
+    pub shows_each: bool,
+    /// A text may be cut.
+    pub may_cut: bool,
+    /// What was there when it began isn't shown.
+    pub is_from_now: bool,
+}
+
+/// The nanoseconds of a day.
+const DAY: i64 = 86_400_000_000_000;
+
+/// The order of a time and a moment, where they are of one clock.
+fn compared(stamp: Stamp, moment: Moment) -> Option<Ordering> {
+    match (stamp, moment) {
+        (Stamp::Wall(nanos), Moment::OfDay(moment)) => Some((nanos % DAY).cmp(&moment)),
+        (Stamp::Wall(nanos), Moment::Dated(moment)) => Some(nanos.cmp(&moment)),
+        (Stamp::Monotonic(nanos), Moment::Monotonic(moment)) => Some(nanos.cmp(&moment)),
+        _ => None,
+    }
+}
+
+impl<'a> Look<'a> {
+    /// Rows with no colour that aren't cut, one for each line.
+    pub const PLAIN: Look<'static> = Look {
+        times: TimeColumn::Clock,
+        is_coloured: false,
+        width: None,
+        longest_text: None,
+        since: None,
+        until: None,
+        grep: None,
+        shows_each: true,
+        may_cut: false,
+        is_from_now: false,
+    };
+
+    /// How a listing looks on a screen.
+    pub fn new(layout: &'a Layout, screen: Screen) -> Look<'a>
+        ensures each { result.shows_each ≡ shows_each layout.now }
+        ensures cut { result.may_cut ≡ may_cut layout.now }
+    {
+        Look {
+            times: layout.times,
+            is_coloured: screen.is_coloured,
+            width: screen.width,
+            longest_text: layout.longest_text.map(|most| most as usize),
+            since: layout.since,
+            until: layout.until,
+            grep: layout.grep.as_ref().map(|text| text.as_str()),
+            shows_each: layout.shows_each(),
+            may_cut: layout.may_cut(),
+            is_from_now: layout.is_from_now,
+        }
+    }
+
+    /// Whether a time is one that is shown. Where nothing is asked of times, each is, and else none that isn't told.
+    pub fn is_between(&self, time: Option<Stamp>) -> bool {
+        let Some(stamp) = time else {
+            return self.since.is_none() && self.until.is_none();
+        };
+        let is_since = match self.since {
+            Some(since) => compared(stamp, since).is_some_and(|order| order != Ordering::Less),
+            None => true,
+        };
+        let is_until = match self.until {
+            Some(until) => compared(stamp, until).is_some_and(|order| order != Ordering::Greater),
+            None => true,
+        };
+        is_since && is_until
+    }
+}

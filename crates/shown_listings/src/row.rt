@@ -1,0 +1,144 @@
+//! A row: one line, in which a text is shown.
+ghost use Rattle.std.specs.Prelude.{◌≡◌, ◌≤◌, ◌++◌, ◌∷◌, [], ℕ, List, None, map, length, IfOk, OnOk, ◌||◌, is_some};
+ghost use Rattle.shown_listings.specs.Rows.{shown_byte, unfed_byte, cut_sign, ShowsText, ShowsInRow};
+
+use std::alloc::{AllocError, Global};
+
+/// The end of a line.
+const FEED: u8 = b'\n';
+
+/// Stands behind a text that is cut: `…`.
+const CUT_SIGN: [u8; 3] = [0xe2, 0x80, 0xa6];
+
+/// How much of a text is shown; None stands for all of it.
+#[derive(Clone, Copy)]
+pub struct Room {
+    pub bytes: Option<usize>,
+    pub columns: Option<usize>,
+}
+
+/// What a row is made of: a text, and what stands before and behind it.
+#[derive(Clone, Copy)]
+pub struct Parts<'a> {
+    pub before: &'a [u8],
+    pub text: &'a [u8],
+    pub after: &'a [u8],
+}
+
+/// What a byte of a text is shown as.
+fn shown_byte(byte: u8) -> u8
+    ensures { result ≡ shown_byte byte }
+{
+    if byte < 32 || byte == 127 { b' ' } else { byte }
+}
+
+/// What a byte beside a text is shown as.
+fn unfed_byte(byte: u8) -> u8
+    ensures { result ≡ unfed_byte byte }
+{
+    if byte == FEED { b' ' } else { byte }
+}
+
+/// Whether a byte goes on with a character.
+pub fn goes_on(byte: u8) -> bool {
+    byte & 0xc0 == 0x80
+}
+
+/// Where the character begins at which a byte of a text stands.
+fn start_of(text: &[u8], place: usize) -> usize
+    ensures { result ≤ place }
+{
+    let Some(front) = text.get(..place) else {
+        return 0;
+    };
+    if !text.get(place).is_some_and(|byte| goes_on(*byte)) {
+        return place;
+    }
+    match front.iter().rposition(|byte| !goes_on(*byte)) {
+        Some(start) => start.min(place),
+        None => 0,
+    }
+}
+
+/// How many bytes of a text are shown in so many columns, of which the last one has the sign where they aren't all.
+fn bytes_in_columns(text: &[u8], columns: usize) -> usize
+    ensures { result ≤ length text.now }
+{
+    let mut met = 0usize;
+    let mut last = 0;
+    for (index, byte) in text.iter().enumerate() {
+        if goes_on(*byte) {
+            continue;
+        }
+        if met >= columns {
+            return last;
+        }
+        met = met.saturating_add(1);
+        if met == columns {
+            last = index;
+        }
+    }
+    text.len()
+}
+
+/// How many bytes of a text are shown.
+fn front_of(text: &[u8], room: Room) -> usize
+    ensures within { result ≤ length text.now }
+    ensures whole { room.bytes ≡ None → room.columns ≡ None → result ≡ length text.now }
+{
+    let count = match room.bytes {
+        Some(most) if most < text.len() => start_of(text, most),
+        _ => text.len(),
+    };
+    match room.columns {
+        Some(columns) => bytes_in_columns(text, columns).min(count),
+        None => count,
+    }
+}
+
+/// Appends bytes as they are shown in a text.
+fn put_shown(row: &mut Vec<u8>, text: &[u8]) -> Result<(), AllocError>
+    ensures { OnOk result (row.new.items ≡ row.old.items ++ map shown_byte text.now) }
+{
+    for byte in text {
+        row.push(shown_byte(*byte))?;
+    }
+    Ok(())
+}
+
+/// Appends what stands beside a text.
+fn put_beside(row: &mut Vec<u8>, bytes: &[u8]) -> Result<(), AllocError>
+    ensures { OnOk result (row.new.items ≡ row.old.items ++ map unfed_byte bytes.now) }
+{
+    for byte in bytes {
+        row.push(unfed_byte(*byte))?;
+    }
+    Ok(())
+}
+
+/// Appends what is shown of a text.
+fn put_text(row: &mut Vec<u8>, text: &[u8], room: Room) -> Result<(), AllocError>
+    ensures { OnOk result ((part : List ℕ)
+        × ShowsText (is_some room.bytes || is_some room.columns) text.now part
+        × (row.new.items ≡ row.old.items ++ part)) }
+{
+    let count = front_of(text, room);
+    put_shown(row, &text[..count])?;
+    if count < text.len() {
+        row.extend_from_slice(&CUT_SIGN)?;
+    }
+    Ok(())
+}
+
+/// The row of these parts.
+pub fn row_of(alloc: Global, parts: Parts<'_>, room: Room) -> Result<Vec<u8>, AllocError>
+    ensures { IfOk result (λ row.
+        ShowsInRow (is_some room.bytes || is_some room.columns) parts.entry.text.now row.items) }
+{
+    let mut row = Vec::new(alloc);
+    put_beside(&mut row, parts.before)?;
+    put_text(&mut row, parts.text, room)?;
+    put_beside(&mut row, parts.after)?;
+    row.push(FEED)?;
+    Ok(row)
+}

@@ -1,0 +1,243 @@
+//! The rows of a listing, made of its objects one by one.
+ghost use Rattle.std.specs.Prelude.{◌≡◌, ◌||◌, ℕ, List, true, false, is_some, IfOk, MatchOption};
+ghost use Rattle.shown_listings.specs.Rows.{IsRow, ShowsInRow};
+
+use crate::clock_text::{Clock, Fineness, Seconds, Stamp, fineness_of, stamp_in};
+use crate::look::Look;
+use crate::nesting::{Nested, Nesting, Told};
+use crate::notices::notice_of;
+use crate::row::{Parts, Room, row_of};
+use crate::shown_object::{member, number, read_object, text_of};
+use serde_json::Value;
+use std::alloc::{AllocError, Global};
+
+/// The columns by which a row goes in for each open call.
+const STEP: usize = 2;
+
+/// The most columns for that, where rows aren't cut at a width.
+const MOST_STEPS: usize = 40;
+
+/// Ends the colour of a row.
+const PLAIN: &str = "\x1b[0m";
+
+/// The colour of the entries of a kind.
+fn colour_of(kind: &str) -> &'static str {
+    match kind {
+        "call" => "\x1b[36m",
+        "return" => "\x1b[32m",
+        "exception" => "\x1b[31m",
+        "send" | "send_lost" => "\x1b[33m",
+        "receive" => "\x1b[34m",
+        "drop" | "part" | "opaque" | "before" | "missing" => "\x1b[35m",
+        _ => "",
+    }
+}
+
+/// What stands before and behind the text of a row.
+#[derive(Drop)]
+struct Frame {
+    before: String,
+    after: &'static str,
+    /// The columns that `before` has.
+    columns: usize,
+}
+
+/// The rows of a listing.
+#[derive(Drop)]
+pub struct Rows {
+    alloc: Global,
+    nesting: Nesting,
+    clock: Clock,
+    /// The last time that was told.
+    time: Option<Stamp>,
+    /// What comes is new.
+    is_new: bool,
+}
+
+/// Appends blanks.
+fn put_blanks(text: &mut String, count: usize) -> Result<(), AllocError> {
+    for _ in 0..count {
+        text.push(' ')?;
+    }
+    Ok(())
+}
+
+/// Appends the time since a call, where it is told.
+fn put_took(text: &mut String, nested: Nested, stamp: Option<Stamp>) -> Result<(), AllocError> {
+    if let Some(nanos) = nested.took {
+        let fineness = stamp.map_or(Fineness::Micros, fineness_of);
+        let took = Seconds { nanos, fineness };
+        write!(text, "({took} s) ")?;
+    }
+    Ok(())
+}
+
+/// The columns by which the row of an entry goes in.
+fn inset(look: &Look<'_>, depth: usize) -> usize {
+    let most = look.width.map_or(MOST_STEPS, |width| width / 4);
+    depth.saturating_mul(STEP).min(most)
+}
+
+/// How much of a text is shown behind so many columns.
+fn room_behind(look: &Look<'_>, columns: usize) -> Room
+    ensures { (is_some result.bytes || is_some result.columns) ≡ true
+        → look.now.may_cut ≡ true }
+{
+    if look.may_cut {
+        Room {
+            bytes: look.longest_text,
+            columns: look.width.map(|width| width.saturating_sub(columns)),
+        }
+    } else {
+        Room {
+            bytes: None,
+            columns: None,
+        }
+    }
+}
+
+/// The row of a text in its frame.
+fn framed(
+    alloc: Global,
+    look: &Look<'_>,
+    frame: &Frame,
+    text: &[u8],
+) -> Result<Vec<u8>, AllocError>
+    ensures { IfOk result (λ row. ShowsInRow look.now.may_cut text.now row.items) }
+{
+    let parts = Parts {
+        before: frame.before.as_bytes(),
+        text,
+        after: frame.after.as_bytes(),
+    };
+    row_of(alloc, parts, room_behind(look, frame.columns))
+}
+
+impl Rows {
+    /// No object came.
+    pub fn new(alloc: Global) -> Rows {
+        Rows {
+            alloc,
+            nesting: Nesting::new(alloc),
+            clock: Clock::new(),
+            time: None,
+            is_new: false,
+        }
+    }
+
+    /// What comes from now on is new.
+    pub fn begin(&mut self) {
+        self.is_new = true;
+    }
+
+    /// Whether a text has a row.
+    fn is_wanted(&self, look: &Look<'_>, text: &str) -> bool
+        ensures { look.now.shows_each ≡ true → result ≡ true }
+    {
+        look.shows_each
+            || (!look.is_from_now || self.is_new)
+                && look.is_between(self.time)
+                && look.grep.is_none_or(|part| text.contains(part))
+    }
+
+    /// What stands beside the text of an entry.
+    fn frame(
+        &mut self,
+        look: &Look<'_>,
+        object: &Option<Value>,
+        stamp: Option<Stamp>,
+        nested: Nested,
+    ) -> Result<Frame, AllocError> {
+        let kind = member(object, "kind").unwrap_or("");
+        let number = number(object, "n").unwrap_or(0);
+        let mut before = format!(in self.alloc; "{number:>6}  ")?;
+        if let Some(stamp) = stamp {
+            let time = self.clock.tell(self.alloc, look.times, stamp)?;
+            write!(before, "{time:>15}  ")?;
+        } else if self.clock.is_on() {
+            put_blanks(&mut before, 17)?;
+        }
+        let colour = if look.is_coloured { colour_of(kind) } else { "" };
+        before.push_str(colour)?;
+        write!(before, "{kind:<9} ")?;
+        put_blanks(&mut before, inset(look, nested.depth))?;
+        put_took(&mut before, nested, stamp)?;
+        let columns = before.len().saturating_sub(colour.len());
+        let after = if colour.is_empty() { "" } else { PLAIN };
+        Ok(Frame {
+            before,
+            after,
+            columns,
+        })
+    }
+
+    /// The row of an entry that shows this text; None where none is asked for.
+    fn entry_row(
+        &mut self,
+        look: &Look<'_>,
+        object: &Option<Value>,
+        text: &str,
+    ) -> Result<Option<Vec<u8>>, AllocError>
+        ensures { IfOk result (λ row. MatchOption row (look.now.shows_each ≡ false)
+            (λ row. ShowsInRow look.now.may_cut text.now row.items)) }
+    {
+        let stamp = stamp_in(text.as_bytes());
+        let nested = self.nesting.note(Told {
+            kind: member(object, "kind").unwrap_or(""),
+            process: member(object, "pid"),
+            function: member(object, "mfa"),
+            time: stamp.map(Stamp::nanos),
+        })?;
+        self.time = stamp.or(self.time);
+        if !self.is_wanted(look, text) {
+            return Ok(None);
+        }
+        let frame = self.frame(look, object, stamp, nested)?;
+        Ok(Some(framed(self.alloc, look, &frame, text.as_bytes())?))
+    }
+}
+
+impl Rows {
+    /// The row of an object that shows no term, or of a line that is no object; None where none is asked for.
+    fn notice_row(
+        &mut self,
+        look: &Look<'_>,
+        object: &Option<Value>,
+        line: &[u8],
+    ) -> Result<Option<Vec<u8>>, AllocError>
+        ensures { IfOk result (λ row. MatchOption row (look.now.shows_each ≡ false)
+            (λ row. (text : List ℕ) × ShowsInRow look.now.may_cut text row.items)) }
+    {
+        let words = match notice_of(self.alloc, object)? {
+            Some(words) => words,
+            None => String::from_utf8_lossy(self.alloc, line)?,
+        };
+        let is_end = member(object, "kind") == Some("end_of_trace");
+        if !self.is_wanted(look, words.as_str()) && !is_end {
+            return Ok(None);
+        }
+        let frame = if number(object, "n").is_some() {
+            let nested = Nested { depth: 0, took: None };
+            self.frame(look, object, None, nested)?
+        } else {
+            Frame {
+                before: String::from_str(self.alloc, "-- ")?,
+                after: "",
+                columns: 3,
+            }
+        };
+        Ok(Some(framed(self.alloc, look, &frame, words.as_bytes())?))
+    }
+
+    /// The row of a line of a listing; None where none is asked for.
+    pub fn row_of(&mut self, look: &Look<'_>, line: &[u8]) -> Result<Option<Vec<u8>>, AllocError>
+        ensures { IfOk result (λ row. MatchOption row (look.now.shows_each ≡ false)
+            (λ row. IsRow look.now.may_cut line.now row.items)) }
+    {
+        let object = read_object(self.alloc, line)?;
+        match text_of(&object) {
+            Some(text) => self.entry_row(look, &object, text),
+            None => self.notice_row(look, &object, line),
+        }
+    }
+}

@@ -1,0 +1,234 @@
+"""Cases of `show`: the rows that docs/FORMATS.md says of entries that are made here."""
+
+import os
+import pty
+import subprocess
+import time
+
+from cases import group
+from entries import drop, message
+from following import LONG
+from program import PATIENCE, read_to_end, same
+from top import call, fails, pid_text, returns, sends, told_at, whole
+
+CASES, case = group()
+
+# 12:04:31.123456 of the first day of 1970, in microseconds
+NOON = 43_471_123_456
+
+END = "-- end of trace\n"
+
+
+def stamp_text(micros):
+    seconds, micro = divmod(micros, 1_000_000)
+    return f"{{{seconds // 1_000_000},{seconds % 1_000_000},{micro}}}"
+
+
+def call_text(number, name, at):
+    return f"{{trace_ts,{pid_text(number)},call,{{m,{name},[7,8]}},{stamp_text(at)}}}"
+
+
+def return_text(number, name, at):
+    return f"{{trace_ts,{pid_text(number)},return_from,{{m,{name},2}},ok,{stamp_text(at)}}}"
+
+
+def row(number, time, kind, text, inset=0):
+    """A row whose time has 15 columns."""
+    return f"{number:>6}  {time:>15}  {kind:<9} {'':{inset}}{text}\n"
+
+
+NESTED = [call(1, "f", NOON), call(1, "g", NOON + 1), call(2, "g", NOON + 2), returns(1, "g", NOON + 5), returns(1, "f", NOON + 2_000_010)]
+
+TEXTS = [
+    call_text(1, "f", NOON),
+    call_text(1, "g", NOON + 1),
+    call_text(2, "g", NOON + 2),
+    return_text(1, "g", NOON + 5),
+    return_text(1, "f", NOON + 2_000_010),
+]
+
+TIMES = ["12:04:31.123456", "12:04:31.123457", "12:04:31.123458", "12:04:31.123461", "12:04:33.123466"]
+
+KINDS = ["call", "call", "call", "return", "return"]
+
+INSETS = [0, 2, 0, 2, 0]
+
+TOOK = ["", "", "", "(0.000004 s) ", "(2.000010 s) "]
+
+
+def rows(times=TIMES, chosen=range(5)):
+    return "".join(row(n, times[n], KINDS[n], TOOK[n] + TEXTS[n], INSETS[n]) for n in chosen)
+
+
+def shows(program, expected, *words):
+    same(program.good("show", "t", *words).decode(), expected)
+
+
+@case
+def calls_are_shown_with_their_times_and_depths(program):
+    program.good("import", "t", stdin=b"".join(NESTED))
+    shows(program, rows() + END)
+    same(program.good("show", "-", stdin=b"".join(NESTED)).decode(), rows() + END)
+
+
+@case
+def times_are_told_since_the_first_or_the_last(program):
+    program.good("import", "t", stdin=b"".join(NESTED))
+    shows(program, rows(["+0.000000", "+0.000001", "+0.000002", "+0.000005", "+2.000010"]) + END, "--relative")
+    shows(program, rows(["+0.000000", "+0.000001", "+0.000001", "+0.000003", "+2.000005"]) + END, "--delta")
+    # since the first that is shown
+    shows(program, rows(["", "", "", "+0.000000", "+2.000005"], (3, 4)) + END, "--relative", "--only", "return")
+
+
+@case
+def monotonic_times_are_told_since_the_first(program):
+    sent = sends(1)[5:].removeprefix(b"\x83\x68\x05\x77\x05trace")
+    entries = [message(b"\x83\x68\x06\x77\x08trace_ts" + sent + whole(nanos)) for nanos in (-5, 1_000_000_000)]
+    program.good("import", "t", stdin=b"".join(entries))
+    text = "{trace_ts,<n@h.1.0.1>,send,7,<n@h.99.0.1>,%d}"
+    shows(program, row(0, "+0.000000000", "send", text % -5) + row(1, "+1.000000005", "send", text % 1_000_000_000) + END)
+
+
+@case
+def what_shows_no_term_is_told_in_words(program):
+    entries = message(b"x") + drop(1) + drop(3) + call(1, "f")
+    program.good("import", "t", stdin=entries)
+    expected = [
+        "     0  opaque    a message of 1 bytes that is no term, or too long\n",
+        "     1  drop      1 message was lost here\n",
+        "     2  drop      3 messages were lost here\n",
+        "     3  call      {trace,<n@h.1.0.1>,call,{m,f,[7,8]}}\n",
+    ]
+    shows(program, "".join(expected) + END)
+
+
+@case
+def entries_without_a_time_leave_its_column_empty(program):
+    program.good("import", "t", stdin=drop(2) + NESTED[0] + drop(2))
+    first = "     0  drop      2 messages were lost here\n"
+    shows(program, first + row(1, TIMES[0], "call", TEXTS[0]) + row(2, "", "drop", "2 messages were lost here") + END)
+
+
+@case
+def exceptions_end_calls_and_exits_end_all(program):
+    entries = [call(1, "f", NOON), fails(1, "f", NOON + 7), call(1, "g", NOON), told_at(1, "exit", b"\x61\x07", at=NOON), call(1, "f", NOON)]
+    program.good("import", "t", stdin=b"".join(entries))
+    found = program.good("show", "t").decode().splitlines()
+    assert found[1].startswith("     1  12:04:31.123463  exception (0.000007 s) {trace_ts,"), found[1]
+    assert found[3].startswith("     3  12:04:31.123456  exit        {trace_ts,"), found[3]
+    assert found[4].startswith("     4  12:04:31.123456  call      {trace_ts,"), found[4]
+
+
+@case
+def entries_that_are_chosen_are_shown(program):
+    program.good("import", "t", stdin=b"".join(NESTED))
+    shows(program, row(2, TIMES[2], "call", TEXTS[2]) + END, "--pid", "n@h.2.0.1")
+    shows(program, row(3, TIMES[3], "return", TEXTS[3]) + row(4, TIMES[4], "return", TEXTS[4]) + END, "--only", "return")
+    shows(program, row(1, TIMES[1], "call", TEXTS[1]) + row(2, TIMES[2], "call", TEXTS[2]), "--from", "1", "--to", "2")
+    shows(program, row(2, TIMES[2], "call", TEXTS[2]) + row(3, TIMES[3], "return", TEXTS[3]) + END, "--mfa", "m:g", "--from", "2")
+
+
+@case
+def times_and_texts_choose_rows(program):
+    program.good("import", "t", stdin=b"".join(NESTED))
+    shows(program, rows(chosen=(3, 4)) + END, "--since", "12:04:31.123459")
+    shows(program, rows(chosen=(0, 1, 2, 3)) + END, "--until", "12:04:32")
+    shows(program, rows(chosen=(1, 2)) + END, "--since", "1970-01-01T12:04:31.123457", "--until", "1970-01-01T12:04:31.123458")
+    shows(program, END, "--since", "1970-01-02T00:00:00")
+    shows(program, rows(chosen=(0, 4)) + END, "--grep", "m,f")
+    shows(program, END, "--since", "5")
+
+
+@case
+def rows_are_cut_at_a_width_and_texts_at_a_size(program):
+    program.good("import", "t", stdin=b"".join(NESTED))
+    whole_rows = rows().splitlines()
+    shows(program, "".join(line[:59] + "…\n" for line in whole_rows) + END, "--width", "60")
+    shows(program, rows() + END, "--full")
+    shows(program, "".join(row(n, TIMES[n], KINDS[n], TOOK[n] + TEXTS[n][:9] + "…", INSETS[n]) for n in range(5)) + END, "--longest-text", "9")
+    # a character of two bytes has one column, and is never cut
+    text = b"\x83\x6d\x00\x00\x00\x14" + "éééééééééé".encode()
+    program.good("import", "u", stdin=message(text))
+    same(program.good("show", "u", "--width", "26").decode(), '     0  other     <<"éééé…\n' + END)
+    same(program.good("show", "u", "--longest-text", "6").decode(), '     0  other     <<"é…\n' + END)
+
+
+@case
+def rows_have_colours_where_they_are_asked_for(program):
+    program.good("import", "t", stdin=b"".join(NESTED) + drop(1))
+    coloured = {"call": 36, "return": 32, "drop": 35}
+    expected = ""
+    for line in rows().splitlines() + [row(5, "", "drop", "1 message was lost here").rstrip("\n")]:
+        kind = line[25:].split()[0]
+        expected += f"{line[:25]}\x1b[{coloured[kind]}m{line[25:]}\x1b[0m\n"
+    shows(program, expected + END, "--color", "always")
+    shows(program, rows() + row(5, "", "drop", "1 message was lost here") + END, "--color", "never")
+
+
+def on_terminal(program, *words, **variables):
+    """What a command shows on a terminal."""
+    screen, terminal = pty.openpty()
+    environment = {name: value for name, value in os.environ.items() if name not in ("COLUMNS", "NO_COLOR")}
+    with subprocess.Popen([program.path, *words], cwd=program.folder, stdin=subprocess.DEVNULL, stdout=terminal, stderr=subprocess.PIPE, env=environment | variables) as shower:
+        os.close(terminal)
+        found = read_to_end(screen)
+        same((shower.wait(PATIENCE), shower.stderr.read()), (0, b""))
+    os.close(screen)
+    return found.decode().replace("\r\n", "\n")
+
+
+@case
+def rows_on_a_terminal_have_colours_and_its_width(program):
+    program.good("import", "t", stdin=NESTED[0])
+    plain = row(0, TIMES[0], "call", TEXTS[0])
+    same(on_terminal(program, "show", "t", NO_COLOR="1"), plain[:79] + "…\n" + END)
+    same(on_terminal(program, "show", "t", NO_COLOR="1", COLUMNS="50"), plain[:49] + "…\n" + END)
+    same(on_terminal(program, "show", "t", "--full", NO_COLOR="1"), plain + END)
+    same(on_terminal(program, "show", "t", NO_COLOR=""), f"{plain[:25]}\x1b[36m{plain[25:79]}…\x1b[0m\n{END}")
+    same(on_terminal(program, "list", "-p", "t", NO_COLOR="1").splitlines()[0], f"0 call {TEXTS[0]}")
+
+
+@case
+def what_is_added_is_shown_from_now_on(program):
+    program.good("import", "t", "--keep-open", stdin=b"".join(NESTED[:2]))
+    with program.start("show", "-f", "--from", "1", "t") as both, program.start("show", "-f", "t") as follower:
+        same(both.line() + "\n", row(1, TIMES[1], "call", TEXTS[1]))
+        time.sleep(LONG)
+        program.good("import", "t", stdin=b"".join(NESTED[2:]))
+        same(follower.end().output.decode(), rows(chosen=(2, 3, 4)) + END)
+        same(both.end().output.decode(), rows(chosen=(2, 3, 4)) + END)
+
+
+@case
+def what_a_wrap_no_longer_holds_is_told(program):
+    program.good("import", "w", "--kind", "wrap", "--size", "100", "--count", "2", stdin=b"".join(NESTED))
+    listed = program.good("list", "w", "-p").decode().splitlines()
+    first, lost = listed[0].split()[2], listed[0].split()[4]
+    assert int(first) > 0, listed
+    found = program.good("show", "w").decode().splitlines()
+    same(found[0], f"-- the trace begins at entry {first}: {lost} messages were lost before")
+    same([line.split()[0] for line in found[1:-1]], [line.split()[0] for line in listed[1:-1]])
+    same(found[-1] + "\n", END)
+
+
+@case
+def a_wrong_word_is_told_with_what_may_stand_there(program):
+    for words, text in (
+        (("--since", "noon"), "error: invalid value 'noon' for '--since or --until <TIME>': a time of day, as 12:04:31.5, a time, as 2026-05-01T12:04:31, or seconds of a monotonic clock, as 17.25"),
+        (("--until", "1970-02-29T00:00:00"), "error: invalid value '1970-02-29T00:00:00' for '--since or --until <TIME>'"),
+        (("--width", "0"), "error: invalid value '0' for '--width <N>'"),
+        (("--color", "red"), "error: invalid value 'red' for '--color <WHEN>'"),
+        (("--full", "--width", "9"), "error: the argument '--"),
+        (("--relative", "--delta"), "error: the argument '--"),
+        (("-f", "--salvage"), "error: the argument '--"),
+        (("--json",), "error: unexpected argument '--json' found"),
+    ):
+        outcome = program.run("show", "t", *words)
+        same((outcome.status, outcome.output), (2, b""))
+        assert outcome.errors.decode().startswith(text), outcome
+
+
+@case
+def a_trace_that_is_not_there_is_told(program):
+    same(program.run("show", "t").status, 1)
+    same(program.run("show", "t").errors, program.run("list", "t").errors)
