@@ -4,10 +4,10 @@
 //! (`ListsFiles`), and `follow_files` goes on with what is added, and may wait for ever (`FollowsFiles`). Their files are
 //! locked exactly where they are to be changed (`AreMade`); where there are none to be had, nothing is written and the exit
 //! status is 1. What is done is `Serves`, by the request: `Records`; `Feeds`, an import; `IsRead`, a listing or export;
-//! `IsSalvage`; `IsInfo`; `IsTop`, `IsFold`; `Clears`, a wipe; of a listing that goes on it is `Follows`. What a crash leaves
-//! is part of `Records`, `Feeds` and `Clears`. What only reads leaves files as they are (`OnlyLooks`). A fault names its file,
-//! where it has one (`IsToldAt`). A `StreamListing` lists a stream (`ListsStream`). Clauses on what files hold are of files
-//! that follow the disk model, so that nobody else writes them (`honest_of`). No contract speaks of standard error, or says
+//! `IsSalvage`; `IsInfo`; `IsTop`, `IsFold`, `IsDrawn`; `Clears`, a wipe; of a listing that goes on it is `Follows`. What a crash
+//! leaves is part of `Records`, `Feeds` and `Clears`. What only reads leaves files as they are (`OnlyLooks`). A fault names its
+//! file, where it has one (`IsToldAt`). A `StreamListing` lists a stream (`ListsStream`). Clauses on what files hold are of
+//! files that follow the disk model, so that nobody else writes them (`honest_of`). No contract speaks of standard error, or says
 //! that a lock keeps others away.
 #![tactic(auto)]
 

@@ -5,7 +5,8 @@
 //!
 //! A `View` takes entries one by one; `StreamView` hands it those of an entry stream that is written to it (`into_view`). `Top`
 //! counts functions, processes and kinds exactly (`IsCounted`), `Folded` how often each stack of calls was called (`IsFolded`).
-//! No contract says how long calls took, or how numbers are laid out: tests of the program show it. No file is read here.
+//! `Perfetto` writes events for each entry as it takes it. No contract says how long calls took, how numbers are laid out, or
+//! what events tell: tests of the program show it. No file is read here.
 #![tactic(auto)]
 
 mod acts;
