@@ -24,7 +24,8 @@ const END: &[u8] = b"}\n";
 const PROCESS: &[u8] = b"Erlang trace";
 
 /// What times are where none is told.
-const NO_TIMES: &str = "numbers of entries as microseconds: trace with the flag timestamp or monotonic_timestamp to have times";
+const NO_TIMES: &str =
+    "numbers of entries as microseconds: trace with the flag timestamp or monotonic_timestamp to have times";
 
 /// What times are else.
 const TIMES: &str = "from the first one, in microseconds";
