@@ -5,33 +5,27 @@
 /// has no value in i64.
 pub fn time_in(text: &[u8]) -> Option<i64> {
     let members = text.strip_prefix(b"{trace_ts,")?.strip_suffix(b"}")?;
-    match members.strip_suffix(b"}") {
-        Some(inside) => {
-            let start = inside.iter().rposition(|byte| *byte == b'{')?;
-            time_of_members(&inside[start + 1..])
-        }
-        None => {
-            let start = members.iter().rposition(|byte| *byte == b',')?;
-            number_in(&members[start + 1..])
-        }
+    if let [inside @ .., b'}'] = members {
+        return time_of_members(inside);
+    }
+    match last_number(members)? {
+        (time, [.., b',']) => Some(time),
+        _ => None,
     }
 }
 
-/// The time of `MegaSecs,Secs,MicroSecs` or `Monotonic,Unique`.
+/// The time of a tuple with these members, at the end of a text.
 fn time_of_members(members: &[u8]) -> Option<i64> {
-    let first = members.iter().position(|byte| *byte == b',')?;
-    let behind = &members[first + 1..];
-    let front = number_in(&members[..first])?;
-    match behind.iter().position(|byte| *byte == b',') {
-        Some(second) => {
-            let seconds = number_in(&behind[..second])?;
-            let micros = number_in(&behind[second + 1..])?;
-            nanoseconds(front, seconds, micros)
-        }
-        None => {
-            let _unique = number_in(behind)?;
-            Some(front)
-        }
+    let (last, [before @ .., b',']) = last_number(members)? else {
+        return None;
+    };
+    match last_number(before)? {
+        (monotonic, [.., b'{']) => Some(monotonic),
+        (seconds, [before @ .., b',']) => match last_number(before)? {
+            (mega, [.., b'{']) => nanoseconds(mega, seconds, last),
+            _ => None,
+        },
+        _ => None,
     }
 }
 
@@ -42,9 +36,30 @@ fn nanoseconds(mega: i64, seconds: i64, micros: i64) -> Option<i64> {
     all_micros.checked_mul(1_000)
 }
 
-/// The integer that a text is.
-fn number_in(text: &[u8]) -> Option<i64> {
-    str::from_utf8(text).ok()?.parse::<i64>().ok()
+/// The integer that ends a text, and what stands before it.
+fn last_number(text: &[u8]) -> Option<(i64, &[u8])> {
+    let (negative, before) = last_digits(text)?;
+    match before {
+        [before @ .., b'-'] => Some((negative, before)),
+        _ => Some((0_i64.checked_sub(negative)?, before)),
+    }
+}
+
+/// The number that the digits at the end of a text are, with the sign `-`, and what stands before them.
+fn last_digits(text: &[u8]) -> Option<(i64, &[u8])> {
+    let mut negative: i64 = 0;
+    let mut power: u64 = 1;
+    let mut before = text;
+    while let [front @ .., digit @ b'0'..=b'9'] = before {
+        let part = power.checked_mul(u64::from(*digit - b'0'))?;
+        negative = negative.checked_sub(i64::try_from(part).ok()?)?;
+        power = power.checked_mul(10)?;
+        before = front;
+    }
+    if before.len() == text.len() {
+        return None;
+    }
+    Some((negative, before))
 }
 
 /// The nanoseconds from one time to another, where both are told; 0 where that is before.
