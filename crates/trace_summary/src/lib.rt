@@ -9,6 +9,8 @@
 #![tactic(auto)]
 
 mod acts;
+mod bars;
+mod cells;
 mod folded;
 mod functions;
 mod info;
