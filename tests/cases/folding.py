@@ -8,11 +8,14 @@ from importing import TRACES, stream_of
 from program import PATIENCE, Outcome, same
 from telling import damaged
 from terms import short_atom
-from top import MIXED, call, fails, pid_text, returns, sends, stored_as, told_at, told_rows, top
+from top import MIXED, MOST_OPEN, call, fails, pid_text, returns, sends, stored_as, told_at, told_rows, top
 
 CASES, case = group()
 
 ONE, TWO = pid_text(1), pid_text(2)
+
+# the most functions that a stack shows
+SHOWN = 256
 
 FOLDED = ("export", "--as", "folded")
 
@@ -45,6 +48,28 @@ def a_call_is_over_with_the_one_that_it_is_within(program):
     # a process that exits has no more open calls
     exits = told_at(1, "exit", short_atom("normal"), at=30)
     same(folded(program, call(1, "f", 0), exits, call(1, "g", 50), returns(1, "g", 57)), [f"{ONE};m:f/2 30", f"{ONE};m:g/2 7"])
+
+
+@case
+def of_a_deep_stack_the_innermost_functions_are_shown(program):
+    deep = [call(1, "f")] * 300
+    lines = {ONE + ";m:f/2" * depth: 1 for depth in range(1, SHOWN)} | {ONE + ";m:f/2" * SHOWN: 300 - SHOWN + 1}
+    same(folded(program, *deep), sorted(f"{stack} {calls}" for stack, calls in lines.items()))
+    # a loop that never returns hides no call, and the end of one takes no other off
+    inner = f"{ONE}{';m:f/2' * (SHOWN - 1)};m:g/2"
+    same(folded(program, *deep, *[call(1, "g"), returns(1, "g")] * 3), sorted(f"{stack} {calls}" for stack, calls in (lines | {inner: 3}).items()))
+    # each has the time of its own
+    timed = [call(1, "f", at) for at in range(300)] + [returns(1, "f", 300 + at) for at in range(300)]
+    same(sum(int(line.rsplit(" ", 1)[1]) for line in folded(program, *timed)), 599)
+
+
+@case
+def of_a_thousand_open_calls_the_outermost_is_forgotten(program):
+    # the end of g is that of no open call, and h is called within those of f
+    many = [call(1, "g"), *[call(1, "f")] * MOST_OPEN, returns(1, "g"), call(1, "h")]
+    assert f"{ONE}{';m:f/2' * (SHOWN - 1)};m:h/2 1" in folded(program, *many)
+    # it was still there before
+    assert f"{ONE};m:h/2 1" in folded(program, *many[:MOST_OPEN], *many[-2:])
 
 
 @case

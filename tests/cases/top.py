@@ -22,6 +22,9 @@ WRAP = ("--kind", "wrap")
 # the most calls of a process that are open
 MOST_OPEN = 1_000
 
+# the most bars
+MOST_BARS = 60
+
 
 # ---- messages
 
@@ -129,8 +132,12 @@ class Count:
         self.functions, self.processes, self.kinds = {}, {}, {}
         self.messages = self.unread = self.lost = 0
         self.open, self.moments = {}, []
+        # of each entry the time since the first one that is told, and how many messages it is, and says were lost
+        self.course = []
         for entry in exported(entries):
             self.take(entry)
+            passed = max(0, self.moments[-1] - self.moments[0]) if self.moments else 0
+            self.course.append((passed, int(entry[0] == 0), struct.unpack(">I", entry[1:])[0] if entry[0] == 1 else 0))
 
     def take(self, entry):
         if entry[0] == 1:
@@ -183,10 +190,24 @@ class Count:
             return {name: numbers_of(row) | {"open": self.open_of(name)} for name, row in self.functions.items()}
         return {name: vars(row) for name, row in self.processes.items()} if by == "process" else {name: {"count": count} for name, count in self.kinds.items()}
 
+    def shares(self):
+        """The length of a share, and of each how many messages there are, and were lost."""
+        places = [passed if self.moments else number for number, (passed, _, _) in enumerate(self.course)]
+        share, last = 1, max(places, default=0)
+        while last // share >= MOST_BARS:
+            share *= 2
+        kept = [[0, 0] for _ in range(last // share + 1)]
+        for place, (_, messages, lost) in zip(places, self.course):
+            kept[place // share][0] += messages
+            kept[place // share][1] += lost
+        return share, [messages for messages, _ in kept], [lost for _, lost in kept]
+
     def summary(self):
         """What is told of all messages."""
         moments = self.moments or [None]
-        return {"messages": self.messages, "unread": self.unread, "lost": self.lost, "from": moments[0], "to": moments[-1]}
+        share, messages, lost = self.shares()
+        told = {"messages": self.messages, "unread": self.unread, "lost": self.lost, "from": moments[0], "to": moments[-1]}
+        return told | {"share": share, "bars": messages, "lost_bars": lost}
 
 
 def numbers_of(row):
@@ -377,7 +398,34 @@ def ordered(rows, column):
 
 
 def seconds(nanoseconds):
-    return "-" if nanoseconds is None else f"{nanoseconds // 10**9}.{nanoseconds // 1_000 % 10**6:06}"
+    return f"{nanoseconds // 10**9}.{nanoseconds // 1_000 % 10**6:06}"
+
+
+def short(nanoseconds):
+    """A time in a row."""
+    if nanoseconds is None:
+        return "-"
+    if nanoseconds < 1_000:
+        return f"{nanoseconds}ns"
+    if nanoseconds < 10**6:
+        return f"{nanoseconds // 1_000}us"
+    if nanoseconds < 10**9:
+        return f"{nanoseconds // 10**6}.{nanoseconds // 10**5 % 10}ms"
+    return f"{nanoseconds // 10**9}.{nanoseconds // 10**6 % 1_000:03}s"
+
+
+def course_of(count):
+    """The lines of bars."""
+    share, messages, lost = count.shares()
+    most = max(messages)
+    if not most:
+        return
+    yield "".join(" ▁▂▃▄▅▆▇█"[-(-8 * bar // most)] for bar in messages)
+    if sum(lost):
+        yield "".join("x" if bar else " " for bar in lost) + f" {sum(lost)} lost"
+    passed = max(0, count.moments[-1] - count.moments[0]) if count.moments else 0
+    if passed:
+        yield f"{most * 10**9 // share} messages a second at the most, {count.messages * 10**9 // passed} on average"
 
 
 def lines_of(count, by, names, more=0):
@@ -387,11 +435,12 @@ def lines_of(count, by, names, more=0):
     yield [*columns, by]
     for name in names:
         row = count.rows(by)[name]
-        yield [*(seconds(row[column]) if column in ("total", "mean", "longest") else str(row[column]) for column in columns), name]
+        yield [*(short(row[column]) if column in ("total", "mean", "longest") else str(row[column]) for column in columns), name]
     if more:
         yield f".. and {more} more".split()
     if by == "function" and not has_times:
         yield "no times: trace with the flag timestamp or monotonic_timestamp to have them".split()
+    yield from (line.split() for line in course_of(count))
     said = f"{count.messages} messages" + (f", {count.unread} unread" if count.unread else "") + (f", {count.lost} lost" if count.lost else "")
     yield (said + (f", over {seconds(max(0, count.moments[-1] - count.moments[0]))} seconds" if has_times else "")).split()
 
@@ -428,11 +477,18 @@ def each_row_is_a_line_with_its_numbers(program):
     stored_as(program, MIXED)
     said = program.good("top", "t").decode().splitlines()
     same([line.split() for line in said[1:4]], [
-        ["1", "0", "3.000090", "3.000090", "3.000090", "0", "m:f/2"],
-        ["2", "1", "0.000012", "0.000006", "0.000007", "0", "m:g/2"],
+        ["1", "0", "3.000s", "3.000s", "3.000s", "0", "m:f/2"],
+        ["2", "1", "12us", "6us", "7us", "0", "m:g/2"],
         ["1", "0", "-", "-", "-", "1", "m:h/2"],
     ])
-    same(said[4:], ["8 messages, 2 lost, over 4.000001 seconds"])
+    # 60 shares of 2^26 nanoseconds, of which three have 3, 1 and 4 messages
+    same(said[4:], [
+        "▆" + " " * 43 + "▂" + " " * 14 + "█",
+        " " * 59 + "x 2 lost",
+        "59 messages a second at the most, 1 on average",
+        "8 messages, 2 lost, over 4.000001 seconds",
+    ])
+    assert all(len(line) < 80 for line in said), said
     # each number stands under the end of its column's name
     for line in said[1:4]:
         same(line[: said[0].index("  function")][-1], line.split("  m:")[0][-1])

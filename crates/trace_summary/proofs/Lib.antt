@@ -1,4 +1,5 @@
 pub mod CountLemmas
+mod OpenLemmas
 pub mod RowLemmas
 mod StackLemmas
 mod StreamLemmas

@@ -1,7 +1,10 @@
--- Stacks of calls as they are held, and the rows under their texts.
-use Rattle.std.proofs.Common.{◌≡◌, ℕ, ◌+◌, ◌<◌, Bool, true, false, Option, Some, List, [], ◌∷◌, ◌++◌, Vec, length, map, take, get_or, refl, sym, ◌∙◌, ap, subst, ⊎_elim, append_assoc, cond, reverse, append-nil, Bor}
+-- Stacks of calls, and the rows under their texts.
+use Rattle.std.proofs.Common.{◌≡◌, ℕ, ℤ, suc, min, arith, None, nat_le, count_by, ◌+◌, ◌-◌, ◌<◌, ◌≤◌, ◌||◌, Bool, true, false, Option, Some, List, [], ◌∷◌, ◌++◌, Vec, length, map, take, get_or, refl, sym, ◌∙◌, ap, subst, ⊎_elim, append_assoc, cond, reverse, append-nil, Bor}
 use Rattle.std.proofs.lemmas.Bool.{cases_Bool, cond-true, cond-false}
-use Rattle.std.proofs.lemmas.List.{map-append, reverse-append, take_more}
+use Rattle.std.proofs.lemmas.List.{map-append, take_min, length-map, length-reverse}
+use Rattle.std.proofs.Math.Seq.{take-length}
+use Rattle.std.proofs.lemmas.List.Sums.{fold-append, sum_by_push}
+use Rattle.std.specs.List.{take-map}
 use Rattle.std.proofs.lemmas.Grind.{flat_map-append}
 use Rattle.std.specs.Map.Iter.{deref_pair}
 use Rattle.std.specs.Io.KnownBytes.{Appends}
@@ -11,40 +14,141 @@ use Rattle.std.specs.Cmp.{eq_by_cmp_equiv}
 use Rattle.std.specs.Cmp.Lexicographic.{slice_cmp, bytes_decides, nat_list_cmp_total, nat_list_eq_equiv, texts_ties}
 use Rattle.std.specs.declared.alloc.Global.{Global}
 use Rattle.std.specs.declared.cmp.Ordering.{Ordering}
-use Rattle.std.specs.HashMap.{HashMap}
-use Rattle.std.specs.HashMap as hash
 use Rattle.std.specs.Map.{update, KeepsOthers}
 use Rattle.std.specs.Option.{option_map, unwrap_or}
 use Rattle.std.specs.Ordering.{is_eq, nat_cmp, eq_by_cmp}
 use Rattle.std.specs.Str.{bytes_eq}
 use Rattle.trace_summary.specs.declared.stack_rows.StackRow.{StackRow}
-use Rattle.trace_summary.specs.declared.open_stack.OpenStack.{OpenStack}
-use Rattle.trace_summary.specs.Stacks.{Open, Rows, none_open, open_at, open_of, with_open, names_of, lines_of, outside, stack_line, stack_row_at, stack_text}
+use Rattle.trace_summary.specs.declared.open_calls.OpenCall.{OpenCall}
+use Rattle.trace_summary.specs.declared.open_calls.OpenCalls.{OpenCalls}
+use Rattle.trace_summary.specs.Opens.{Changes, open_calls, going_on, is_full, most_of_all, most_of_process, outside, with_call, with_return}
+use Rattle.trace_summary.specs.Stacks.{Act, Folding, Rows, folding, lines_of, names_in, names_of, shown_text, stack_line, stack_row_at, stack_text, with_act, with_names, names_with, nothing_told}
+use Rattle.trace_summary.proofs.OpenLemmas.{reverse-step, length-going_on}
 
--- ---- names
+-- ---- texts
 
-names-more : (xs : List (Vec ℕ Global)) (x : Vec ℕ Global) → names_of (xs ++ x ∷ []) ≡ x.items ∷ names_of xs
-names-more xs x = ap reverse_all (map-append items xs (x ∷ [])) ∙ reverse-append (map items xs) (x.items ∷ [])
+abbrev pub Calls : Type 0
+Calls = List (OpenCall (Vec ℕ Global))
+
+-- the functions of the calls from one place on up to another
+abbrev pub names_between : Calls → ℕ → ℕ → List (List ℕ)
+names_between calls from place = names_in (take (place - from) (reverse (take place calls)))
+
+-- one more function is written
+pub text-step : (process : List ℕ) (calls : Calls) (from place : ℕ) (call : OpenCall (Vec ℕ Global)) (text : List ℕ) → from ≤ place → place < length calls → call ≡ get_or calls place call
+    → text ≡ stack_text process (names_between calls from place) → (text ++ 59 ∷ []) ++ call.function.items ≡ stack_text process (names_between calls from (place + 1))
+text-step process calls from place call text order within is so_far =
+    append_assoc text (59 ∷ []) call.function.items ∙ ap (λ (l : List ℕ). l ++ (59 ∷ call.function.items)) so_far ∙ sym (ap (λ (l : Calls). stack_text process (names_in l)) more)
   where
-    items : Vec ℕ Global → List ℕ
-    items v = v.items
+    more : take (place + 1 - from) (reverse (take (place + 1) calls)) ≡ call ∷ take (place - from) (reverse (take place calls))
+    more = let longer : place + 1 - from ≡ suc (place - from) = omega arith in rw (longer, reverse-step calls place call within is) refl
 
-    reverse_all : List (List ℕ) → List (List ℕ)
-    reverse_all l = reverse l
+-- all that are shown are written
+pub text-end : (process : List ℕ) (calls : Calls) → stack_text process (names_between calls (length calls - 256) (length calls)) ≡ shown_text process (names_in (reverse calls))
+text-end process calls =
+    ap (λ (names : List (List ℕ)). stack_text process names)
+    (ap (λ (l : Calls). names_in (take (length calls - (length calls - 256)) (reverse l))) (take-length calls)
+    ∙ ap (λ n. names_in (take n (reverse calls))) size ∙ ap (λ (l : Calls). names_in l) (take_min 256 (reverse calls)) ∙ sym (take-map _ 256 (reverse calls)))
+  where
+    size : length calls - (length calls - 256) ≡ min 256 (length (reverse calls))
+    size = rw length-reverse (omega arith)
 
--- the names up to a place, and one more
-pub names-step : (xs : List (Vec ℕ Global)) (i : ℕ) (x : Vec ℕ Global) → i < length xs → x ≡ get_or xs i x → names_of (take (i + 1) xs) ≡ x.items ∷ names_of (take i xs)
-names-step xs i x within is = ap names_of (take_more xs i x within ∙ ap (λ y. take i xs ++ y ∷ []) (sym is)) ∙ names-more (take i xs) x
+-- ---- processes
 
--- the first of the names is this one or isn't
-pub outside-step : (name : List ℕ) (xs : List (Vec ℕ Global)) (i : ℕ) (x : Vec ℕ Global) (same : Bool) → i < length xs → x ≡ get_or xs i x → bytes_eq x.items name ≡ same
-    → outside name (names_of (take (i + 1) xs)) ≡ cond same (Some (names_of (take i xs))) (outside name (names_of (take i xs)))
-outside-step name xs i x same within is test = ap (outside name) (names-step xs i x within is) ∙ ap (λ (b : Bool). cond b (Some (names_of (take i xs))) (outside name (names_of (take i xs)))) test
+names-with_call : (full : Bool) (call : OpenCall (Vec ℕ Global)) (calls : Calls) → names_in (with_call full call calls) ≡ with_call full call.function.items (names_in calls)
+names-with_call full call calls =
+    go (full || nat_le most_of_process (length calls)) ∙ ap (λ n. cond (full || nat_le most_of_process n) (take n (call.function.items ∷ names_in calls)) (call.function.items ∷ names_in calls)) (sym (length-map calls _))
+  where
+    go : (b : Bool) → names_in (cond b (take (length calls) (call ∷ calls)) (call ∷ calls)) ≡ cond b (take (length calls) (call.function.items ∷ names_in calls)) (call.function.items ∷ names_in calls)
+    go true = sym (take-map _ (length calls) (call ∷ calls))
+    go false = refl
 
-pub text-step : (process : List ℕ) (xs : List (Vec ℕ Global)) (i : ℕ) (x : Vec ℕ Global) (text : List ℕ) → i < length xs → x ≡ get_or xs i x → text ≡ stack_text process (names_of (take i xs))
-    → (text ++ 59 ∷ []) ++ x.items ≡ stack_text process (names_of (take (i + 1) xs))
-text-step process xs i x text within is so_far =
-    append_assoc text (59 ∷ []) x.items ∙ ap (λ (l : List ℕ). l ++ (59 ∷ x.items)) so_far ∙ sym (ap (stack_text process) (names-step xs i x within is))
+names-outside : (name : List ℕ) (calls : Calls) → option_map names_in (outside (λ call. bytes_eq call.function.items name) calls) ≡ outside (λ one. bytes_eq one name) (names_in calls)
+names-outside name [] = refl
+names-outside name (call ∷ calls) = choose (bytes_eq call.function.items name) (names-outside name calls)
+  where
+    choose : (b : Bool) → option_map names_in (outside (λ call. bytes_eq call.function.items name) calls) ≡ outside (λ one. bytes_eq one name) (names_in calls)
+        → option_map names_in (cond b (Some calls) (outside (λ call. bytes_eq call.function.items name) calls)) ≡ cond b (Some (names_in calls)) (outside (λ one. bytes_eq one name) (names_in calls))
+    choose true so_far = refl
+    choose false so_far = so_far
+
+names-with_return : (name : List ℕ) (calls : Calls) → names_in (with_return (λ call. bytes_eq call.function.items name) calls) ≡ with_return (λ one. bytes_eq one name) (names_in calls)
+names-with_return name calls = go (outside _ calls) ∙ ap (λ o. unwrap_or o (names_in calls)) (names-outside name calls)
+  where
+    go : (o : Option Calls) → names_in (unwrap_or o calls) ≡ unwrap_or (option_map names_in o) (names_in calls)
+    go None = refl
+    go (Some _) = refl
+
+names-going_on : (time : Option ℤ) (calls : Calls) → names_in (going_on time calls) ≡ names_in calls
+names-going_on time [] = refl
+names-going_on time (call ∷ calls) = refl
+
+-- what is told of one more act
+pub folding-more : (acts : List Act) (act : Act) → folding (acts ++ act ∷ []) ≡ with_act (folding acts) act
+folding-more acts act = fold-append with_act nothing_told acts (act ∷ [])
+
+-- the open calls are those that are told
+pub record Follows (opens : OpenCalls (Vec ℕ Global)) (told : Folding) : Type 0 where
+  pub names : (process : List ℕ) → names_of opens process ≡ told.opens process
+  pub count : opens.count ≡ told.count
+
+-- those of one process change
+pub follows : (old new : OpenCalls (Vec ℕ Global)) (told : Folding) (process : List ℕ) (now : Calls) (names called : List (List ℕ)) → Changes old new process now → names_in now ≡ names → Follows old told
+    → Follows new (with_names told process names called)
+follows old new told process now names called h is before = record {
+  names = λ p. ap (λ (l : Calls). names_in l) (h.calls p) ∙ go p (bytes_eq process p);
+  count =
+      let kept : length now ≡ length names = sym (length-map now _) ∙ ap (λ (l : List (List ℕ)). length l) is in
+      let had : length (open_calls old process) ≡ length (told.opens process) = sym (length-map (open_calls old process) _) ∙ ap (λ (l : List (List ℕ)). length l) (before.names process) in
+      h.count ∙ omega (arith, before.count);
+}
+  where
+    go : (p : List ℕ) (b : Bool) → names_in (cond b now (open_calls old p)) ≡ cond b names (told.opens p)
+    go p true = is
+    go p false = before.names p
+
+-- the newest call of one goes on
+pub follows-going_on : (old new : OpenCalls (Vec ℕ Global)) (told : Folding) (process : List ℕ) (time : Option ℤ) → Changes old new process (going_on time (open_calls old process)) → Follows old told → Follows new told
+follows-going_on old new told process time h before = record {
+  names = λ p. ap (λ (l : Calls). names_in l) (h.calls p) ∙ ⊎_elim (same p) (other p) (cases_Bool (bytes_eq process p));
+  count = omega (arith, h.count, length-going_on time (open_calls old process), before.count);
+}
+  where
+    now : Calls
+    now = going_on time (open_calls old process)
+
+    same : (p : List ℕ) → bytes_eq process p ≡ true → names_in (cond (bytes_eq process p) now (open_calls old p)) ≡ told.opens p
+    same p y =
+        ap (λ (l : Calls). names_in l) (cond-true (bytes_eq process p) now (open_calls old p) y) ∙ names-going_on time (open_calls old process)
+        ∙ before.names process ∙ ap told.opens ((bytes_decides process p).0 y)
+
+    other : (p : List ℕ) → bytes_eq process p ≡ false → names_in (cond (bytes_eq process p) now (open_calls old p)) ≡ told.opens p
+    other p n = ap (λ (l : Calls). names_in l) (cond-false (bytes_eq process p) now (open_calls old p) n) ∙ before.names p
+
+-- a process calls a function
+pub follows-call : (old new : OpenCalls (Vec ℕ Global)) (told : Folding) (process : List ℕ) (call : OpenCall (Vec ℕ Global)) (called : List (List ℕ))
+    → Changes old new process (with_call (is_full old) call (open_calls old process)) → Follows old told → Follows new (with_names told process (names_with told process call.function.items) called)
+follows-call old new told process call called h before =
+    follows old new told process _ (names_with told process call.function.items) called h
+    (names-with_call (is_full old) call (open_calls old process)
+    ∙ ap (λ (l : List (List ℕ)). with_call (is_full old) call.function.items l) (before.names process)
+    ∙ ap (λ n. with_call (nat_le most_of_all n) call.function.items (told.opens process)) before.count) before
+
+-- it leaves one
+pub follows-return : (old new : OpenCalls (Vec ℕ Global)) (told : Folding) (process name : List ℕ)
+    → Changes old new process (with_return (λ call. bytes_eq call.function.items name) (open_calls old process)) → Follows old told
+    → Follows new (with_names told process (with_return (λ one. bytes_eq one name) (told.opens process)) [])
+follows-return old new told process name h before =
+    follows old new told process _ (with_return (λ one. bytes_eq one name) (told.opens process)) [] h
+    (names-with_return name (open_calls old process) ∙ ap (λ (l : List (List ℕ)). with_return (λ one. bytes_eq one name) l) (before.names process)) before
+
+-- its own calls are the ones that were told now
+pub names_now : (told : Folding) (process : List ℕ) (names called : List (List ℕ)) → (with_names told process names called).opens process ≡ names
+names_now told process names called = cond-true (bytes_eq process process) names (told.opens process) (nat_list_eq_equiv.refl process)
+
+-- one more stack is called
+pub called_more : (text shown : List ℕ) (called : List (List ℕ)) → count_by (λ stack. bytes_eq stack text) (called ++ shown ∷ []) ≡ count_by (λ stack. bytes_eq stack text) called + cond (bytes_eq shown text) 1 0
+called_more text shown called = sum_by_push _ called shown
 
 -- ---- rows
 
@@ -86,35 +190,3 @@ pub line-step : (is_timed : Bool) (shown : List (Bor (Vec ℕ Global) × Bor Sta
 line-step is_timed shown one a b c d text number so_far first second is =
     let line : Appends b d (stack_line is_timed (deref_pair one)) = subst (Appends b d) is (Appends-trans b c d text number first second) in
     subst (Appends a d) (sym (lines-more is_timed shown one)) (Appends-trans a b d _ _ so_far line)
-
--- ---- processes
-
--- keys are equal where their bytes are
-abbrev pub key_eq : Vec ℕ Global → Vec ℕ Global → Bool
-key_eq a b = bytes_eq a.items b.items
-
--- what is open of a process that has these calls, or none
-abbrev pub open_if : Option OpenStack → Open
-open_if stack = unwrap_or (option_map open_of stack) none_open
-
-chosen : (test : Bool) (a b : Option OpenStack) → open_if (cond test a b) ≡ cond test (open_if a) (open_if b)
-chosen true a b = refl
-chosen false a b = refl
-
-module _ {S : Type 0} (process : List ℕ) (old new : HashMap (Vec ℕ Global) OpenStack S) where
-  abbrev stack_at : HashMap (Vec ℕ Global) OpenStack S → List ℕ → Option OpenStack
-  stack_at opens text = hash.get_by (λ key. bytes_eq text key.items) opens
-
-  other_stacks : KeepsOthers key_eq (λ k. bytes_eq process k.items) old.entries new.entries → (other : List ℕ) → bytes_eq process other ≡ false → stack_at new other ≡ stack_at old other
-  unfolding KeepsOthers
-  other_stacks h other e = h (λ k. bytes_eq other k.items) (λ x y. nat_list_eq_equiv.congr other x.items y.items) (λ k. apart process other k.items e)
-
-  -- these are the calls of this process, and the others keep theirs
-  pub updated_open : (w : Option OpenStack) → hash.UpdatesBy key_eq (λ k. bytes_eq process k.items) old new w → (other : List ℕ) → open_at new other ≡ with_open (open_at old) process (open_if w) other
-  updated_open w h other =
-      ap open_if (
-      ⊎_elim
-      (λ y. subst (λ l. stack_at new l ≡ w) ((bytes_decides process other).0 y) h.1 ∙ sym (cond-true (bytes_eq process other) w (stack_at old other) y))
-      (λ n. other_stacks h.3 other n ∙ sym (cond-false (bytes_eq process other) w (stack_at old other) n))
-      (cases_Bool (bytes_eq process other)))
-      ∙ chosen (bytes_eq process other) w (stack_at old other)

@@ -1,6 +1,7 @@
 pub mod Acts
 pub mod Counting
 pub mod Lines
+pub mod Opens
 pub mod Rows
 pub mod Stacks
 pub mod Streams

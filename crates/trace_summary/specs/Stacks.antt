@@ -1,59 +1,38 @@
 -- The calls of processes that are open, and how often each stack of them is called.
-use Rattle.std.specs.Prelude.{◌≡◌, ℕ, ◌+◌, ◌-◌, ◌/◌, ◌==◌, Bool, Option, Some, None, List, [], ◌∷◌, ◌++◌, length, map, reverse, fold, count_by, flat_map, nat_lt, Vec, if◌then◌else◌, refl}
+use Rattle.std.specs.Prelude.{◌≡◌, ℕ, ◌+◌, ◌-◌, ◌/◌, Bool, Option, List, [], ◌∷◌, ◌++◌, length, map, take, fold, count_by, flat_map, nat_le, Vec, if◌then◌else◌}
 use Rattle.std.specs.Fmt.{decimal}
-use Rattle.std.specs.Coded.{Coded, Coded-set, Π_prop, code_by, coded×, coded_list, coded_ℕ}
+use Rattle.std.specs.Coded.{Coded-set, Π_prop, coded_list, coded_ℕ}
 use Rattle.std.specs.Option.{option_map, unwrap_or}
 use Rattle.std.specs.Str.{bytes_eq}
 use Rattle.std.specs.Cmp.Lexicographic.{slice_cmp}
 use Rattle.std.specs.Ordering.{nat_cmp}
 use Rattle.std.specs.declared.alloc.Global.{Global}
-use Rattle.std.specs.HashMap.{HashMap}
-use Rattle.std.specs.HashMap as hash
 use Rattle.std.specs.BTreeMap.{BTreeMap}
 use Rattle.std.specs.BTreeMap as tree
-use Rattle.trace_summary.specs.declared.open_stack.OpenStack.{OpenStack}
+use Rattle.trace_summary.specs.declared.open_calls.OpenCall.{OpenCall}
+use Rattle.trace_summary.specs.declared.open_calls.OpenCalls.{OpenCalls}
 use Rattle.trace_summary.specs.declared.stack_rows.StackRow.{StackRow}
 use Rattle.trace_summary.specs.declared.stacks.Stacks.{Stacks}
+use Rattle.trace_summary.specs.Opens.{open_calls, most_of_all, with_call, with_return}
 
--- ---- one process
-
--- the functions that are called, the innermost first, and how many more calls are open within these
-pub record Open : Type 0 where
-  pub names : List (List ℕ)
-  pub deeper : ℕ
-
--- none is
-abbrev pub none_open : Open
-none_open = record { names = []; deeper = 0 }
-
--- a stack has at most so many names
-abbrev pub most_names : ℕ
-most_names = 256
-
--- a function is called
-abbrev pub with_call : List ℕ → Open → Open
-with_call name open_calls = if nat_lt (length open_calls.names) most_names then record { names = name ∷ open_calls.names; deeper = open_calls.deeper } else record { names = open_calls.names; deeper = open_calls.deeper + 1 }
-
--- what is open outside the innermost call of a function
-abbrev pub outside : List ℕ → List (List ℕ) → Option (List (List ℕ))
-outside name [] = None
-outside name (first ∷ names) = if bytes_eq first name then Some names else outside name names
-
--- a function is returned from
-abbrev pub with_return : List ℕ → Open → Open
-with_return name open_calls = if open_calls.deeper == 0 then record { names = unwrap_or (outside name open_calls.names) open_calls.names; deeper = 0 } else record { names = open_calls.names; deeper = open_calls.deeper - 1 }
+-- ---- texts
 
 -- the text of a stack: the process and the functions, the outermost first, with a semicolon before each
 abbrev pub stack_text : List ℕ → List (List ℕ) → List ℕ
 stack_text process [] = process
 stack_text process (name ∷ names) = stack_text process names ++ (59 ∷ name)
 
--- as the code holds them: the outermost first
-abbrev pub names_of : List (Vec ℕ Global) → List (List ℕ)
-names_of names = reverse (map (λ name. name.items) names)
+-- so many functions are shown at most, the innermost ones
+abbrev pub shown_text : List ℕ → List (List ℕ) → List ℕ
+shown_text process names = stack_text process (take 256 names)
 
-abbrev pub open_of : OpenStack → Open
-open_of stack = record { names = names_of stack.names.items; deeper = stack.deeper }
+-- the functions of calls
+abbrev pub names_in : List (OpenCall (Vec ℕ Global)) → List (List ℕ)
+names_in calls = map (λ call. call.function.items) calls
+
+-- those of the open calls of a process, the innermost first
+abbrev pub names_of : OpenCalls (Vec ℕ Global) → List ℕ → List (List ℕ)
+names_of opens process = names_in (open_calls opens process)
 
 -- ---- rows
 
@@ -97,27 +76,33 @@ pub data Act : Type 0 where
   Exits : List ℕ → Act
   Other : Act
 
--- the open calls of each process, and the stacks that were called
+-- the functions of the open calls of each process, the innermost first, how many are open in all, and the stacks that were called
 pub record Folding : Type 0 where
-  pub opens : List ℕ → Open
+  pub opens : List ℕ → List (List ℕ)
+  pub count : ℕ
   pub called : List (List ℕ)
-
--- these are now the open calls of a process
-abbrev pub with_open : (List ℕ → Open) → List ℕ → Open → List ℕ → Open
-with_open opens process now other = if bytes_eq process other then now else opens other
 
 -- nothing was told yet
 abbrev pub nothing_told : Folding
-nothing_told = record { opens = λ _. none_open; called = [] }
+nothing_told = record { opens = λ _. []; count = 0; called = [] }
+
+-- these are now the functions of the open calls of a process, and these stacks were called
+abbrev pub with_names : Folding → List ℕ → List (List ℕ) → List (List ℕ) → Folding
+with_names told process now called = record {
+  opens = λ other. if bytes_eq process other then now else told.opens other;
+  count = told.count + length now - length (told.opens process);
+  called = told.called ++ called;
+}
+
+-- the functions of a process that calls one
+abbrev pub names_with : Folding → List ℕ → List ℕ → List (List ℕ)
+names_with told process function = with_call (nat_le most_of_all told.count) function (told.opens process)
 
 -- a process does something
 abbrev pub with_act : Folding → Act → Folding
-with_act told (Calls process function) = record {
-  opens = with_open told.opens process (with_call function (told.opens process));
-  called = told.called ++ (stack_text process (with_call function (told.opens process)).names ∷ []);
-}
-with_act told (Returns process function) = record { opens = with_open told.opens process (with_return function (told.opens process)); called = told.called }
-with_act told (Exits process) = record { opens = with_open told.opens process none_open; called = told.called }
+with_act told (Calls process function) = with_names told process (names_with told process function) (shown_text process (names_with told process function) ∷ [])
+with_act told (Returns process function) = with_names told process (with_return (λ name. bytes_eq name function) (told.opens process)) []
+with_act told (Exits process) = with_names told process [] []
 with_act told Other = told
 
 -- what all that is told comes to
@@ -128,22 +113,15 @@ folding acts = fold with_act nothing_told acts
 abbrev pub calls_of : List ℕ → List Act → ℕ
 calls_of text acts = count_by (λ stack. bytes_eq stack text) (folding acts).called
 
-module _ {S : Type 0} where
-  -- the open calls of a process
-  abbrev pub open_at : HashMap (Vec ℕ Global) OpenStack S → List ℕ → Open
-  open_at opens process = unwrap_or (option_map open_of (hash.get_by (λ key. bytes_eq process key.items) opens)) none_open
-
 -- the stacks and their rows are those of what is told
 pub record IsFolded (stacks : Stacks) (acts : List Act) : Type 0 where
-  pub opens : (process : List ℕ) → open_at stacks.opens process ≡ (folding acts).opens process
+  pub opens : (process : List ℕ) → names_of stacks.opens process ≡ (folding acts).opens process
+  pub count : stacks.opens.count ≡ (folding acts).count
   pub calls : (text : List ℕ) → calls_at stacks.rows.rows text ≡ calls_of text acts
-
--- open calls, in numbers
-abbrev pub coded_open : Coded Open
-coded_open = code_by (List (List ℕ) × ℕ) (coded× (coded_list (coded_list coded_ℕ)) coded_ℕ) (λ o. (o.names, o.deeper)) (λ p. record { names = p.0; deeper = p.1 }) (λ o. refl)
 
 pub IsFolded-prop : (stacks : Stacks) (acts : List Act) → IsProp (IsFolded stacks acts)
 IsFolded-prop stacks acts = λ p q. λ i. record {
-  opens = (Π_prop (λ process. Coded-set coded_open (open_at stacks.opens process) ((folding acts).opens process))) p.opens q.opens i;
+  opens = (Π_prop (λ process. Coded-set (coded_list (coded_list coded_ℕ)) (names_of stacks.opens process) ((folding acts).opens process))) p.opens q.opens i;
+  count = Coded-set coded_ℕ _ _ p.count q.count i;
   calls = (Π_prop (λ text. Coded-set coded_ℕ (calls_at stacks.rows.rows text) (calls_of text acts))) p.calls q.calls i;
 }

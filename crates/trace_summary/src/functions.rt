@@ -4,9 +4,9 @@ ghost use Rattle.trace_summary.specs.Counting.{Telling, with_read};
 ghost use Rattle.trace_summary.specs.Rows.{AreFunctionsCounted, Puts, counts_of_function, function_counts_with, function_counts_at, is_of_functions};
 ghost use Rattle.trace_summary.specs.declared.row.FunctionRow.{FunctionRow as TheRow};
 
+use crate::open_calls::{OpenCall, OpenCalls};
 use crate::row::FunctionRow;
 use crate::rows::{put_row, row_at};
-use crate::times::{OpenCall, OpenCalls};
 use crate::view::ViewFault;
 use std::alloc::Global;
 use std::collections::HashMap;

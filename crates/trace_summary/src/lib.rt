@@ -11,6 +11,8 @@
 
 mod acts;
 mod arrows;
+mod bars;
+mod cells;
 mod clock;
 mod drawing;
 mod event;
@@ -22,7 +24,7 @@ mod json;
 mod lines;
 mod member_text;
 mod messages;
-mod open_stack;
+mod open_calls;
 mod perfetto;
 mod processes;
 mod row;
@@ -44,10 +46,11 @@ mod view;
 
 pub use folded::Folded;
 pub use info::{Info, Part, Totals};
+pub use open_calls::{Closed, OpenCall, OpenCalls};
 pub use perfetto::Perfetto;
 pub use stream_laws::lawful_fit;
 pub use stream_view::StreamView;
 pub use taken::Taken;
-pub use times::{OpenCall, OpenCalls, time_in};
+pub use times::time_in;
 pub use top::Top;
 pub use view::{View, ViewFault};

@@ -2,32 +2,38 @@
 ghost use Rattle.std.specs.Prelude.{IfOk};
 ghost use Rattle.trace_summary.specs.Tables.{HasEachRow, IsTableOf};
 
+use crate::bars::{Bar, Bars};
+use crate::cells::{Figure, Shown};
 use crate::lines::{Line, lines_of};
-use crate::row::{FunctionRow, ProcessRow, Times};
+use crate::row::{FunctionRow, ProcessRow};
 use crate::tallies::{Span, Tallies};
 use command_line::{Grouping, Order, Ranking};
 use std::alloc::{AllocError, Global};
 use std::fmt;
 
-/// Above the functions of a trace that has times.
-const TIMED_FUNCTIONS: &str =
-    "     calls exceptions         total          mean       longest      open  function\n";
+/// The numbers of functions of a trace that has times.
+static TIMED_FUNCTIONS: [Figure; 6] = [
+    Figure::Calls,
+    Figure::Exceptions,
+    Figure::Total,
+    Figure::Mean,
+    Figure::Longest,
+    Figure::Open,
+];
 
-/// Above those of a trace that has none.
-const FUNCTIONS: &str = "     calls exceptions      open  function\n";
+/// Those of one that has none.
+static FUNCTIONS: [Figure; 3] = [Figure::Calls, Figure::Exceptions, Figure::Open];
 
-/// In the place of the times of a function no call of which returned.
-const NOT_TIMED: &str = "            -             -             - ";
+static PROCESSES: [Figure; 3] = [Figure::Calls, Figure::Sent, Figure::Received];
+
+static KINDS: [Figure; 1] = [Figure::Count];
 
 /// Below the functions of a trace that has no times.
 const NO_TIMES: &str =
     "no times: trace with the flag timestamp or monotonic_timestamp to have them\n";
 
-/// Above processes.
-const PROCESSES: &str = "     calls       sent   received  process\n";
-
-/// Above kinds.
-const KINDS: &str = "     count  kind\n";
+/// Bars, by how high they are.
+static BARS: [char; 9] = [' ', '▁', '▂', '▃', '▄', '▅', '▆', '▇', '█'];
 
 /// The rows that are asked for, in order.
 #[derive(Drop)]
@@ -37,10 +43,18 @@ pub enum Rows<'t> {
     Kinds(Vec<Line<'t, u64>>),
 }
 
+/// A column, with the number of characters that the rows which are shown need.
+#[derive(Clone, Copy)]
+struct Column {
+    figure: Figure,
+    width: usize,
+}
+
 /// A table, of which the first rows are shown.
 #[derive(Drop)]
 pub struct Table<'t> {
     pub rows: Rows<'t>,
+    columns: Vec<Column>,
     /// How many calls of a function are open, by the function's number.
     pub open: Vec<u64>,
     /// How many rows are shown at most.
@@ -49,6 +63,7 @@ pub struct Table<'t> {
     pub unread: u64,
     pub lost: u64,
     pub span: Option<Span>,
+    pub bars: Bars,
 }
 
 impl Tallies {
@@ -62,17 +77,22 @@ impl Tallies {
             Order::Count
         };
         let rows = self.rows(alloc, ranking.by, ranking.order.unwrap_or(usual))?;
+        let open = self
+            .functions
+            .open
+            .counts(alloc, self.functions.rows.len())?;
+        let limit = ranking.limit as usize;
+        let columns = columns_of(alloc, &rows, self.span.is_some(), limit, &open)?;
         Ok(Table {
             rows,
-            open: self
-                .functions
-                .open
-                .counts(alloc, self.functions.rows.len())?,
-            limit: ranking.limit as usize,
+            columns,
+            open,
+            limit,
             messages: self.messages,
             unread: self.unread,
             lost: self.lost,
             span: self.span,
+            bars: self.course.shown(),
         })
     }
 
@@ -88,130 +108,175 @@ impl Tallies {
     }
 }
 
-impl Table<'_> {
-    /// How many calls of the function of this number are open.
-    pub fn open_of(&self, number: u32) -> u64 {
-        self.open.get(number as usize).copied().unwrap_or(0)
+/// The columns of a table with these rows.
+fn columns_of(
+    alloc: Global,
+    rows: &Rows<'_>,
+    is_timed: bool,
+    limit: usize,
+    open: &[u64],
+) -> Result<Vec<Column>, AllocError> {
+    match rows {
+        Rows::Functions(lines) if is_timed => {
+            fitted(alloc, &TIMED_FUNCTIONS, lines, limit, open)
+        }
+        Rows::Functions(lines) => fitted(alloc, &FUNCTIONS, lines, limit, open),
+        Rows::Processes(lines) => fitted(alloc, &PROCESSES, lines, limit, open),
+        Rows::Kinds(lines) => fitted(alloc, &KINDS, lines, limit, open),
     }
+}
+
+/// Columns with these numbers, each as wide as the first lines need.
+fn fitted<R: Shown>(
+    alloc: Global,
+    figures: &[Figure],
+    lines: &[Line<'_, R>],
+    limit: usize,
+    open: &[u64],
+) -> Result<Vec<Column>, AllocError> {
+    let mut columns = Vec::new(alloc);
+    for figure in figures {
+        columns.push(Column {
+            figure: *figure,
+            width: width_of(*figure, lines, limit, open),
+        })?;
+    }
+    Ok(columns)
+}
+
+/// How wide the column of a number is.
+fn width_of<R: Shown>(figure: Figure, lines: &[Line<'_, R>], limit: usize, open: &[u64]) -> usize {
+    let mut width = figure.name().len();
+    for line in lines.iter().take(limit) {
+        width = width.max(line.row.cell(figure, open).width());
+    }
+    width
 }
 
 impl fmt::Display for Table<'_> {
     fn fmt<W: fmt::Write>(&self, f: &mut fmt::Formatter<W>) -> fmt::Result {
         match &self.rows {
-            Rows::Functions(lines) => tell_functions(f, self, lines)?,
-            Rows::Processes(lines) => tell_processes(f, self.limit, lines)?,
-            Rows::Kinds(lines) => tell_kinds(f, self.limit, lines)?,
+            Rows::Functions(lines) => self.tell_rows(f, "function", lines)?,
+            Rows::Processes(lines) => self.tell_rows(f, "process", lines)?,
+            Rows::Kinds(lines) => self.tell_rows(f, "kind", lines)?,
         }
-        tell_summary(f, self)
-    }
-}
-
-fn tell_functions<W: fmt::Write>(
-    f: &mut fmt::Formatter<W>,
-    table: &Table<'_>,
-    lines: &[Line<'_, FunctionRow>],
-) -> fmt::Result {
-    f.write_str(if table.span.is_some() {
-        TIMED_FUNCTIONS
-    } else {
-        FUNCTIONS
-    })?;
-    for line in lines.iter().take(table.limit) {
-        tell_function(f, table, line)?;
-    }
-    tell_more(f, lines.len(), table.limit)?;
-    match table.span {
-        Some(_) => Ok(()),
-        None => f.write_str(NO_TIMES),
-    }
-}
-
-/// What is counted of a function, with times where the trace has some.
-fn tell_function<W: fmt::Write>(
-    f: &mut fmt::Formatter<W>,
-    table: &Table<'_>,
-    line: &Line<'_, FunctionRow>,
-) -> fmt::Result {
-    let row = line.row;
-    write!(f, "{:>10} {:>10} ", row.calls, row.exceptions)?;
-    if table.span.is_some() {
-        tell_times(f, row.times)?;
-    }
-    let open = table.open_of(row.number);
-    let function = Readable(line.text);
-    writeln!(f, "{open:>9}  {function}")
-}
-
-/// How long the calls of a function took.
-fn tell_times<W: fmt::Write>(f: &mut fmt::Formatter<W>, times: Times) -> fmt::Result {
-    match times.mean() {
-        Some(mean) => {
-            tell_seconds(f, times.total)?;
-            tell_seconds(f, mean)?;
-            tell_seconds(f, times.longest)
+        if self.span.is_none() && matches!(self.rows, Rows::Functions(_)) {
+            f.write_str(NO_TIMES)?;
         }
-        None => f.write_str(NOT_TIMED),
+        self.tell_course(f)?;
+        self.tell_summary(f)
     }
 }
 
-/// Nanoseconds, told in seconds.
-fn tell_seconds<W: fmt::Write>(f: &mut fmt::Formatter<W>, nanoseconds: u64) -> fmt::Result {
-    let (seconds, micros) = seconds_and_micros(nanoseconds);
-    write!(f, "{seconds:>6}.{micros:06} ")
+impl Table<'_> {
+    /// The names of the columns, the rows that are shown, and how many aren't, where some aren't.
+    fn tell_rows<W: fmt::Write, R: Shown>(
+        &self,
+        f: &mut fmt::Formatter<W>,
+        name: &str,
+        lines: &[Line<'_, R>],
+    ) -> fmt::Result {
+        for column in &self.columns {
+            let name = column.figure.name();
+            tell_blanks(f, column.width, name.len())?;
+            write!(f, "{name} ")?;
+        }
+        writeln!(f, " {name}")?;
+        for line in lines.iter().take(self.limit) {
+            self.tell_row(f, line)?;
+        }
+        match lines.len().saturating_sub(self.limit) {
+            0 => Ok(()),
+            more => writeln!(f, ".. and {more} more"),
+        }
+    }
+
+    /// The numbers of a row, each under the end of its name, and what it is for.
+    fn tell_row<W: fmt::Write, R: Shown>(
+        &self,
+        f: &mut fmt::Formatter<W>,
+        line: &Line<'_, R>,
+    ) -> fmt::Result {
+        for column in &self.columns {
+            let cell = line.row.cell(column.figure, &self.open);
+            tell_blanks(f, column.width, cell.width())?;
+            write!(f, "{cell} ")?;
+        }
+        writeln!(f, " {}", Readable(line.text))
+    }
+
+    /// Where in the trace the messages lie, and those that were lost; and how many came in a second.
+    fn tell_course<W: fmt::Write>(&self, f: &mut fmt::Formatter<W>) -> fmt::Result {
+        let most = self.bars.most();
+        if most == 0 {
+            return Ok(());
+        }
+        for bar in self.bars.shares() {
+            f.write_char(height(*bar, most))?;
+        }
+        writeln!(f)?;
+        if self.bars.lost() > 0 {
+            self.tell_lost(f)?;
+        }
+        match self.span.map(Span::nanoseconds) {
+            None | Some(0) => Ok(()),
+            Some(nanoseconds) => {
+                let peak = in_a_second(most, self.bars.length());
+                let mean = in_a_second(self.messages, nanoseconds);
+                writeln!(f, "{peak} messages a second at the most, {mean} on average")
+            }
+        }
+    }
+
+    /// Marks the shares in which messages were lost.
+    fn tell_lost<W: fmt::Write>(&self, f: &mut fmt::Formatter<W>) -> fmt::Result {
+        for bar in self.bars.shares() {
+            f.write_char(if bar.lost > 0 { 'x' } else { ' ' })?;
+        }
+        writeln!(f, " {} lost", self.bars.lost())
+    }
+
+    /// How many messages there are, and over which time.
+    fn tell_summary<W: fmt::Write>(&self, f: &mut fmt::Formatter<W>) -> fmt::Result {
+        write!(f, "{} messages", self.messages)?;
+        if self.unread > 0 {
+            write!(f, ", {} unread", self.unread)?;
+        }
+        if self.lost > 0 {
+            write!(f, ", {} lost", self.lost)?;
+        }
+        if let Some(span) = self.span {
+            let (seconds, micros) = seconds_and_micros(span.nanoseconds());
+            write!(f, ", over {seconds}.{micros:06} seconds")?;
+        }
+        writeln!(f)
+    }
 }
 
-fn tell_processes<W: fmt::Write>(
+/// As many blanks as a text of this length lacks of a width.
+fn tell_blanks<W: fmt::Write>(
     f: &mut fmt::Formatter<W>,
-    limit: usize,
-    lines: &[Line<'_, ProcessRow>],
+    width: usize,
+    length: usize,
 ) -> fmt::Result {
-    f.write_str(PROCESSES)?;
-    for line in lines.iter().take(limit) {
-        let row = line.row;
-        let process = Readable(line.text);
-        writeln!(
-            f,
-            "{:>10} {:>10} {:>10}  {process}",
-            row.calls, row.sent, row.received
-        )?;
+    for _ in length..width {
+        f.write_char(' ')?;
     }
-    tell_more(f, lines.len(), limit)
+    Ok(())
 }
 
-fn tell_kinds<W: fmt::Write>(
-    f: &mut fmt::Formatter<W>,
-    limit: usize,
-    lines: &[Line<'_, u64>],
-) -> fmt::Result {
-    f.write_str(KINDS)?;
-    for line in lines.iter().take(limit) {
-        writeln!(f, "{:>10}  {}", line.row, Readable(line.text))?;
-    }
-    tell_more(f, lines.len(), limit)
+/// How high the bar of a share is, in eighths of the highest, which has this many messages; those that are begun count.
+fn height(bar: Bar, most: u64) -> char {
+    let eighths = bar.messages.saturating_mul(8).div_ceil(most.max(1));
+    let height = usize::try_from(eighths).unwrap_or(0);
+    BARS.get(height).copied().unwrap_or('█')
 }
 
-/// How many rows aren't shown, where some aren't.
-fn tell_more<W: fmt::Write>(f: &mut fmt::Formatter<W>, count: usize, limit: usize) -> fmt::Result {
-    match count.saturating_sub(limit) {
-        0 => Ok(()),
-        more => writeln!(f, ".. and {more} more"),
-    }
-}
-
-/// How many messages there are, and over which time.
-fn tell_summary<W: fmt::Write>(f: &mut fmt::Formatter<W>, table: &Table<'_>) -> fmt::Result {
-    write!(f, "{} messages", table.messages)?;
-    if table.unread > 0 {
-        write!(f, ", {} unread", table.unread)?;
-    }
-    if table.lost > 0 {
-        write!(f, ", {} lost", table.lost)?;
-    }
-    if let Some(span) = table.span {
-        let (seconds, micros) = seconds_and_micros(span.nanoseconds());
-        write!(f, ", over {seconds}.{micros:06} seconds")?;
-    }
-    writeln!(f)
+/// So many in so many nanoseconds, told of a second.
+fn in_a_second(count: u64, nanoseconds: u64) -> u64 {
+    let seconds = u128::from(nanoseconds.max(1));
+    let all = u128::from(count) * 1_000_000_000;
+    u64::try_from(all / seconds).unwrap_or(u64::MAX)
 }
 
 /// Whole seconds, and the microseconds after them.

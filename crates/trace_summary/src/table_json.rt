@@ -1,5 +1,6 @@
 //! The table of what a trace has most of, as one JSON object.
 
+use crate::cells::open_of;
 use crate::lines::Line;
 use crate::row::{FunctionRow, ProcessRow};
 use crate::table::{Rows, Table};
@@ -69,6 +70,8 @@ impl Table<'_> {
         object.put_number("lost", self.lost)?;
         object.put("from", time_or_null(self.span.map(|span| span.from)))?;
         object.put("to", time_or_null(self.span.map(|span| span.to)))?;
+        object.put_number("share", self.bars.length())?;
+        self.put_bars(alloc, &mut object)?;
         object.end().to_string(alloc)
     }
 
@@ -79,6 +82,18 @@ impl Table<'_> {
             Rows::Processes(_) => "process",
             Rows::Kinds(_) => "kind",
         }
+    }
+
+    /// Puts the messages of each share, and those that were lost there.
+    fn put_bars(&self, alloc: Global, object: &mut Object) -> Result<(), AllocError> {
+        let mut messages = Vec::new(alloc);
+        let mut lost = Vec::new(alloc);
+        for bar in self.bars.shares() {
+            messages.push(Value::from(bar.messages))?;
+            lost.push(Value::from(bar.lost))?;
+        }
+        object.put("bars", Value::Array(messages))?;
+        object.put("lost_bars", Value::Array(lost))
     }
 
     fn rows_as_json(&self, alloc: Global) -> Result<Vec<Value>, AllocError> {
@@ -118,7 +133,7 @@ impl Table<'_> {
         object.put("total", number_or_null(mean.map(|_| row.times.total)))?;
         object.put("mean", number_or_null(mean))?;
         object.put("longest", number_or_null(mean.map(|_| row.times.longest)))?;
-        object.put_number("open", self.open_of(row.number))?;
+        object.put_number("open", open_of(&self.open, row.number))?;
         Ok(object.end())
     }
 

@@ -3,6 +3,7 @@ ghost use Rattle.std.specs.Prelude.{◌≡◌, ◌+◌, ◌++◌, ◌∷◌, [],
 ghost use Rattle.trace_summary.specs.Counting.{Telling, Unread, Lost, with_read};
 ghost use Rattle.trace_summary.specs.Tallies.{IsCounted};
 
+use crate::bars::Course;
 use crate::functions::Functions;
 use crate::messages::Kinds;
 use crate::processes::Processes;
@@ -37,6 +38,8 @@ pub struct Tallies {
     pub lost: u64,
     /// The times of the first message that has one, and of the last.
     pub span: Option<Span>,
+    /// Where in the trace they lie.
+    pub course: Course,
 }
 
 /// From one time to another, in nanoseconds.
@@ -81,6 +84,7 @@ impl Tallies {
             unread: 0,
             lost: 0,
             span: None,
+            course: Course::NONE,
         }
     }
 
@@ -106,6 +110,7 @@ impl Tallies {
         let has_room = self.has_room();
         self.functions.count(facts, time, has_room)?;
         self.span = Span::with(self.span, time);
+        self.course.note_message(time);
         Ok(())
     }
 
@@ -116,6 +121,7 @@ impl Tallies {
     {
         self.messages = one_more(self.messages)?;
         self.unread = one_more(self.unread)?;
+        self.course.note_message(None);
         Ok(())
     }
 
@@ -127,6 +133,7 @@ impl Tallies {
         match self.lost.checked_add(u64::from(count)) {
             Some(lost) => {
                 self.lost = lost;
+                self.course.note_lost(count);
                 Ok(())
             }
             None => Err(ViewFault::TooMany),
