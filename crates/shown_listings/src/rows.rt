@@ -226,7 +226,16 @@ impl Rows {
                 columns: 3,
             }
         };
-        Ok(Some(framed(self.alloc, look, &frame, words.as_bytes())?))
+        let uncut = Look {
+            longest_text: None,
+            ..*look
+        };
+        Ok(Some(framed(
+            self.alloc,
+            &uncut,
+            &frame,
+            words.as_bytes(),
+        )?))
     }
 
     /// The row of a line of a listing; None where none is asked for.
