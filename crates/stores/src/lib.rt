@@ -4,7 +4,7 @@
 //! `MemStore` follows the model always. `crash` leaves the image that is picked, and refuses exactly one that no crash leaves
 //! (`IsPossible`); `fuse` and `fail_once` make later calls fail (`FailsAt`). `FolderStore` makes each call once on a file of the
 //! system, and notes it with its answer (`past_of`). It follows the model where this record is one of files that do (`IsHonest`).
-//! Without its lock (`lock`, `lock_first`) it changes no file. `reopen` and `renew` look anew at what another process writes.
+//! Without its lock (`lock`) it changes no file. `reopen` and `renew` look anew at what another process writes.
 //!
 //! No clause says that the system was asked what is noted, or that its files follow the model. `FailureMark`, the file that says
 //! that a sync failed, has no clause.
