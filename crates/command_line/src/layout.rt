@@ -57,10 +57,7 @@ impl Layout {
     pub fn shows_each(&self) -> bool
         ensures { result ≡ shows_each self.now }
     {
-        self.since.is_none()
-            && self.until.is_none()
-            && self.grep.is_none()
-            && !self.is_from_now
+        self.since.is_none() && self.until.is_none() && self.grep.is_none() && !self.is_from_now
     }
 
     /// Whether a text may be cut.

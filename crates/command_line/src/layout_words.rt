@@ -56,7 +56,12 @@ fn with_filters<'a>(alloc: Global, command: Command<'a>) -> Result<Command<'a>, 
             "Shows messages from this time on: HH:MM:SS, YYYY-MM-DDTHH:MM:SS, or seconds of a monotonic clock",
         ))?
         .arg(option(alloc, "until", "TIME", "Shows messages up to this time"))?
-        .arg(option(alloc, "grep", "TEXT", "Shows rows whose text has this in it"))
+        .arg(option(
+            alloc,
+            "grep",
+            "TEXT",
+            "Shows rows whose text has this in it",
+        ))
 }
 
 /// A listing for a person, and the options that say how it is laid out.
@@ -73,10 +78,7 @@ pub fn with_layout<'a>(alloc: Global, command: Command<'a>) -> Result<Command<'a
 }
 
 /// The moment that an option names, where it is given.
-fn moment_asked<'a>(
-    matches: &ArgMatches<'a>,
-    name: &str,
-) -> Result<Option<Moment>, Misuse<'a>> {
+fn moment_asked<'a>(matches: &ArgMatches<'a>, name: &str) -> Result<Option<Moment>, Misuse<'a>> {
     match matches.get_str(name) {
         None => Ok(None),
         Some(text) => match moment_in(text) {

@@ -122,6 +122,10 @@ pub fn moment_in(text: &str) -> Option<Moment> {
     };
     let (seconds, nanos) = seconds_in(text, 10)?;
     let nanos = seconds.checked_mul(SECOND)?.checked_add(nanos)?;
-    let nanos = if is_negative { nanos.checked_neg()? } else { nanos };
+    let nanos = if is_negative {
+        nanos.checked_neg()?
+    } else {
+        nanos
+    };
     Some(Moment::Monotonic(nanos))
 }

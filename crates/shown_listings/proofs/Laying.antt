@@ -17,10 +17,10 @@ bit-same true false e = absurd cc
 bit-same false true e = absurd cc
 
 record IsSame (each cut each_then cut_then : Bool) (start later : Option (List ℕ)) (given text : List ℕ) : Type 0 where
-  each : each_then ≡ each
-  cut : cut_then ≡ cut
-  start : later ≡ start
-  given : given ≡ text
+  same_each : each_then ≡ each
+  same_cut : cut_then ≡ cut
+  same_start : later ≡ start
+  same_given : given ≡ text
 
 -- What came to a writer since it was made tells what it was made for.
 same_laid : (each cut each_then cut_then : Bool) (start later : Option (List ℕ)) (given text : List ℕ)
@@ -31,7 +31,7 @@ same_laid each cut each_then cut_then start later given text grown =
     let second : bit cut_then ≡ bit cut = cc in
     let more : counted later ++ given ≡ (counted start ++ []) ++ text = cc in
     let same = same_end start later given text more in
-    record { each = bit-same each_then each first; cut = bit-same cut_then cut second; start = same.0; given = same.1 }
+    record { same_each = bit-same each_then each first; same_cut = bit-same cut_then cut second; same_start = same.0; same_given = same.1 }
 
 -- A text that came to it was laid out.
 has_rows : (layout : Layout) (whole : Type 0) (each cut : Bool) (was now : Option (List ℕ)) (written : Given) (lines rows : List (List ℕ)) (rest unsent : List ℕ) (taken : ℕ) (text : List ℕ)
@@ -44,15 +44,15 @@ has_rows layout whole each cut was now written lines rows rest unsent taken text
     record {
       lines = lines;
       rest = rest;
-      is = same.given;
+      is = same.same_given;
       each = are;
       rows = rows;
-      have = subst Q same.cut (subst P same.each have);
+      have = subst Q same.same_cut (subst P same.same_each have);
       written = written.bytes;
       left = drop taken unsent;
       front = sends.is;
       all = λ w. drop_all taken unsent (all w);
-      shown = subst (λ s. Appends s now written.bytes) same.start sends.held;
+      shown = subst (λ s. Appends s now written.bytes) same.same_start sends.held;
     }
 
 -- All that is listed went into a new one.

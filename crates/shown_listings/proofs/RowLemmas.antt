@@ -120,7 +120,7 @@ sends-more was now written later n count bytes all so took came =
     let part = take count (drop n bytes) in
     let rest : drop count (drop n bytes) ≡ drop (n + count) bytes = drop-drop count n bytes in
     let is : (written.bytes ++ part) ++ drop (n + count) bytes ≡ all = append_assoc written.bytes part (drop (n + count) bytes)
-        ∙ ap (λ l. written.bytes ++ (part ++ l)) (sym rest) ∙ ap (λ l. written.bytes ++ l) (take-append-drop count (drop n bytes)) ∙ so.is in
+    ∙ ap (λ l. written.bytes ++ (part ++ l)) (sym rest) ∙ ap (λ l. written.bytes ++ l) (take-append-drop count (drop n bytes)) ∙ so.is in
     let P : Given → Type 0 = λ g. Sends now g (drop (n + count) bytes) all in
     subst P (sym came) (record { held = Appends-trans written.start was now written.bytes part so.held took; is = is })
 

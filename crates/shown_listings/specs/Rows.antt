@@ -9,7 +9,6 @@ use Rattle.shown_listings.specs.declared.given.Given.{Given}
 use Rattle.serde_json.specs.Read.{read}
 use Rattle.serde_json.specs.Find.{get, as_str}
 
-
 -- what a byte of a text is shown as: one that governs a terminal as a blank
 abbrev pub shown_byte : ℕ → ℕ
 shown_byte byte = if nat_lt byte 32 || byte == 127 then 32 else byte

@@ -177,9 +177,9 @@ impl<W: Write> LaidOut<'_, W> {
         ensures bound { WritesAtMost result bytes.now }
         ensures bytes { WriteAppends
             (laid_contents self.old.look.shows_each self.old.look.may_cut self.old.written.start
-                (given_lines self.old.lines.items self.old.line.items))
+            (given_lines self.old.lines.items self.old.line.items))
             (laid_contents self.new.look.shows_each self.new.look.may_cut self.new.written.start
-                (given_lines self.new.lines.items self.new.line.items)) result bytes.now }
+            (given_lines self.new.lines.items self.new.line.items)) result bytes.now }
     {
         match line_end(bytes) {
             Some(place) => {
@@ -201,9 +201,9 @@ impl<W: Write> Write for LaidOut<'_, W> {
         ensures bound { WritesAtMost result bytes.now }
         ensures bytes { WriteAppends
             (laid_contents self.old.look.shows_each self.old.look.may_cut self.old.written.start
-                (given_lines self.old.lines.items self.old.line.items))
+            (given_lines self.old.lines.items self.old.line.items))
             (laid_contents self.new.look.shows_each self.new.look.may_cut self.new.written.start
-                (given_lines self.new.lines.items self.new.line.items)) result bytes.now }
+            (given_lines self.new.lines.items self.new.line.items)) result bytes.now }
         ensures look { self.new.look ≡ self.old.look }
     {
         self.send()?;
@@ -219,9 +219,9 @@ impl<W: Write> Write for LaidOut<'_, W> {
     fn flush(&mut self) -> io::Result<()>
         ensures stay { Keeps
             (laid_contents self.old.look.shows_each self.old.look.may_cut self.old.written.start
-                (given_lines self.old.lines.items self.old.line.items))
+            (given_lines self.old.lines.items self.old.line.items))
             (laid_contents self.new.look.shows_each self.new.look.may_cut self.new.written.start
-                (given_lines self.new.lines.items self.new.line.items)) }
+            (given_lines self.new.lines.items self.new.line.items)) }
     {
         self.send()?;
         self.rows.begin();

@@ -97,12 +97,7 @@ fn room_behind(look: &Look<'_>, columns: usize) -> Room
 }
 
 /// The row of a text in its frame.
-fn framed(
-    alloc: Global,
-    look: &Look<'_>,
-    frame: &Frame,
-    text: &[u8],
-) -> Result<Vec<u8>, AllocError>
+fn framed(alloc: Global, look: &Look<'_>, frame: &Frame, text: &[u8]) -> Result<Vec<u8>, AllocError>
     ensures { IfOk result (λ row. ShowsInRow look.now.may_cut text.now row.items) }
 {
     let parts = Parts {
@@ -157,7 +152,11 @@ impl Rows {
         } else if self.clock.is_on() {
             put_blanks(&mut before, 17)?;
         }
-        let colour = if look.is_coloured { colour_of(kind) } else { "" };
+        let colour = if look.is_coloured {
+            colour_of(kind)
+        } else {
+            ""
+        };
         before.push_str(colour)?;
         write!(before, "{kind:<9} ")?;
         put_blanks(&mut before, inset(look, nested.depth))?;
@@ -217,7 +216,10 @@ impl Rows {
             return Ok(None);
         }
         let frame = if number(object, "n").is_some() {
-            let nested = Nested { depth: 0, took: None };
+            let nested = Nested {
+                depth: 0,
+                took: None,
+            };
             self.frame(look, object, None, nested)?
         } else {
             Frame {
@@ -230,12 +232,7 @@ impl Rows {
             longest_text: None,
             ..*look
         };
-        Ok(Some(framed(
-            self.alloc,
-            &uncut,
-            &frame,
-            words.as_bytes(),
-        )?))
+        Ok(Some(framed(self.alloc, &uncut, &frame, words.as_bytes())?))
     }
 
     /// The row of a line of a listing; None where none is asked for.

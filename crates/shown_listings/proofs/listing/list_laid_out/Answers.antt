@@ -25,7 +25,7 @@ returns g c =
     let stays = c.end-ended.ensures in
     let lists = ShowsBy (may_end c.args.shown.now.choice) (g.S.Listable.lists c.args.listing c.args.shown.now (g.I.Read.remaining c.args.input) call.result.1) call.result.0 in
     let kept = listed-kept lists _ listed.look.shows_each listed.look.may_cut end.look.shows_each end.look.may_cut listed.written.start end.written.start (given_lines listed.lines.items listed.line.items) (given_lines end.lines.items end.line.items)
-    (ap each_of stays.look) (ap cut_of stays.look) stays.start cc call.ensures in
+    (ap each_of stays.look) (ap cut_of stays.look) stays.start (cc) call.ensures in
     let laid : LaysOut layout (c.end-ended.result ≡ ends.Written) lists (contents c.args.output.now) (contents end.out) =
     lays_out layout (c.end-ended.result ≡ ends.Written) lists begun.look.shows_each begun.look.may_cut end.look.shows_each end.look.may_cut (contents c.args.output.now) begun.written.start (contents end.out) begun.lines.items begun.line.items
     end.written end.lines.items end.laid.items end.line.items end.unsent.bytes.items end.unsent.taken (ap each_of made.look ∙ look.each) (ap cut_of made.look ∙ look.cut) (made.start ∙ ap contents c.taken.ensures) made.lines made.line
