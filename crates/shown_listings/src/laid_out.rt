@@ -27,9 +27,9 @@ pub enum RowsEnd {
 
 /// Takes a listing as objects, and writes a row for each line.
 #[derive(Drop)]
-pub struct LaidOut<'a, W: Write> {
+pub struct LaidOut<W: Write> {
     pub out: W,
-    look: Look<'a>,
+    look: Look,
     rows: Rows,
     /// What came of a line that hasn't come whole.
     line: Vec<u8>,
@@ -45,27 +45,37 @@ pub struct LaidOut<'a, W: Write> {
     pub ghost sends: { Sends (W.contents out) written (drop unsent.taken unsent.bytes.items) (text_of_rows laid.items) } by { Sends-prop (W.contents out) written (drop unsent.taken unsent.bytes.items) (text_of_rows laid.items) },
 }
 
-impl<'a, W: Write> LaidOut<'a, W> {
-    /// A writer that nothing came to.
-    pub fn new(alloc: Global, out: W, look: Look<'a>) -> LaidOut<'a, W>
+impl<W: Write> LaidOut<W> {
+    /// A writer that nothing came to. It shows the rows whose text has `grep`, where that is there; where there was no memory for
+    /// that, it takes nothing.
+    pub fn new(
+        alloc: Global,
+        out: W,
+        look: Look,
+        grep: Result<Option<String>, AllocError>,
+    ) -> LaidOut<W>
         ghost start: { Option (List ℕ) }
         requires { start ≡ W.contents out }
         ensures start { result.written.start ≡ W.contents out }
         ensures lines { result.lines.items ≡ [] }
         ensures line { result.line.items ≡ [] }
         ensures out { result.out ≡ out }
-        ensures look { result.look ≡ look.entry }
+        ensures look { result.look ≡ look }
     {
+        let (grep, is_out_of_memory) = match grep {
+            Ok(grep) => (grep, false),
+            Err(AllocError) => (None, true),
+        };
         LaidOut {
             out,
             look,
-            rows: Rows::new(alloc),
+            rows: Rows::new(alloc, grep),
             line: Vec::new(alloc),
             unsent: Unsent {
                 bytes: Vec::new(alloc),
                 taken: 0,
             },
-            is_out_of_memory: false,
+            is_out_of_memory,
             written: Given::new(),
             lines: Noted::new(),
             laid: Noted::new(),
@@ -169,7 +179,7 @@ fn line_end(bytes: &[u8]) -> Option<usize>
     None
 }
 
-impl<W: Write> LaidOut<'_, W> {
+impl<W: Write> LaidOut<W> {
     /// Takes bytes up to the end of a line, or all.
     fn take(&mut self, bytes: &[u8]) -> Result<usize, AllocError>
         requires { length self.old.unsent.bytes.items ≤ self.old.unsent.taken }
@@ -194,7 +204,7 @@ impl<W: Write> LaidOut<'_, W> {
     }
 }
 
-impl<W: Write> Write for LaidOut<'_, W> {
+impl<W: Write> Write for LaidOut<W> {
     ghost contents = { λ laid. laid_contents laid.look.shows_each laid.look.may_cut laid.written.start (given_lines laid.lines.items laid.line.items) };
 
     fn write(&mut self, bytes: &[u8]) -> io::Result<usize>
@@ -206,6 +216,9 @@ impl<W: Write> Write for LaidOut<'_, W> {
             (given_lines self.new.lines.items self.new.line.items)) result bytes.now }
         ensures look { self.new.look ≡ self.old.look }
     {
+        if self.is_out_of_memory {
+            return Err(io::Error::from(ErrorKind::OutOfMemory));
+        }
         self.send()?;
         match self.take(bytes) {
             Ok(count) => Ok(count),

@@ -15,7 +15,7 @@ use crate::screen::screen_of;
 use command_line::{Layout, Shown};
 use faults::Complaint;
 use script_runner::SimFault;
-use std::alloc::Global;
+use std::alloc::{AllocError, Global};
 use std::io::{IsTerminal, Read, Write};
 use std::sync::Wait;
 use trace_text::Choice;
@@ -46,9 +46,9 @@ impl<W: Output> Output for EndWriter<W> {
     }
 }
 
-impl<W: Output> Output for LaidOut<'_, W> {
+impl<W: Output> Output for LaidOut<W> {
     fn none(alloc: Global) -> Self {
-        LaidOut::new(alloc, W::none(alloc), Look::PLAIN)
+        LaidOut::new(alloc, W::none(alloc), Look::PLAIN, Ok(None))
     }
 }
 
@@ -147,10 +147,18 @@ fn told_with(done: Result<(), Complaint>, end: RowsEnd) -> Result<(), Complaint>
 }
 
 /// The writer to which rows went.
-fn rows_out<W: Write>(laid: LaidOut<'_, W>) -> W
-    ensures { result ≡ laid.entry.out }
+fn rows_out<W: Write>(laid: LaidOut<W>) -> W
+    ensures { result ≡ laid.out }
 {
     laid.out
+}
+
+/// The text that each row is to have, where one is asked for.
+fn grep_of(layout: &Layout) -> Result<Option<String>, AllocError> {
+    match &layout.grep {
+        Some(text) => Ok(Some(text.clone()?)),
+        None => Ok(None),
+    }
 }
 
 /// Lists what is shown, laid out for a person.
@@ -168,7 +176,8 @@ fn list_laid_out<S: Listable, R: Wait, I: Read + Drop, W: Output>(
         (W.contents output.old) (W.contents output.new) }
 {
     let look = Look::new(layout, screen_of(rt, layout));
-    let mut laid = LaidOut::new(rt.alloc(), taken(rt.alloc(), output), look);
+    let grep = grep_of(layout);
+    let mut laid = LaidOut::new(rt.alloc(), taken(rt.alloc(), output), look, grep);
     let (done, left) = list_shown(rt.alloc(), waiter, listing, shown, input, &mut laid);
     let ended = laid.end();
     *output = rows_out(laid);

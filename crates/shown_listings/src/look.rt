@@ -16,14 +16,13 @@ pub struct Screen {
 
 /// How rows look, and which are shown.
 #[derive(Clone, Copy)]
-pub struct Look<'a> {
+pub struct Look {
     pub times: TimeColumn,
     pub is_coloured: bool,
     pub width: Option<usize>,
     pub longest_text: Option<usize>,
     pub since: Option<Moment>,
     pub until: Option<Moment>,
-    pub grep: Option<&'a str>,
     /// Each line has a row.
     pub shows_each: bool,
     /// A text may be cut.
@@ -45,23 +44,22 @@ fn compared(stamp: Stamp, moment: Moment) -> Option<Ordering> {
     }
 }
 
-impl<'a> Look<'a> {
+impl Look {
     /// Rows with no colour that aren't cut, one for each line.
-    pub const PLAIN: Look<'static> = Look {
+    pub const PLAIN: Look = Look {
         times: TimeColumn::Clock,
         is_coloured: false,
         width: None,
         longest_text: None,
         since: None,
         until: None,
-        grep: None,
         shows_each: true,
         may_cut: false,
         is_from_now: false,
     };
 
     /// How a listing looks on a screen.
-    pub fn new(layout: &'a Layout, screen: Screen) -> Look<'a>
+    pub fn new(layout: &Layout, screen: Screen) -> Look
         ensures each { result.shows_each ≡ shows_each layout.now }
         ensures cut { result.may_cut ≡ may_cut layout.now }
     {
@@ -72,7 +70,6 @@ impl<'a> Look<'a> {
             longest_text: layout.longest_text.map(|most| most as usize),
             since: layout.since,
             until: layout.until,
-            grep: layout.grep.as_ref().map(|text| text.as_str()),
             shows_each: layout.shows_each(),
             may_cut: layout.may_cut(),
             is_from_now: layout.is_from_now,

@@ -52,6 +52,8 @@ pub struct Rows {
     time: Option<Stamp>,
     /// What comes is new.
     is_new: bool,
+    /// What the text of each row that is shown has.
+    grep: Option<String>,
 }
 
 /// Appends blanks.
@@ -73,13 +75,13 @@ fn put_took(text: &mut String, nested: Nested, stamp: Option<Stamp>) -> Result<(
 }
 
 /// The columns by which the row of an entry goes in.
-fn inset(look: &Look<'_>, depth: usize) -> usize {
+fn inset(look: &Look, depth: usize) -> usize {
     let most = look.width.map_or(MOST_STEPS, |width| width / 4);
     depth.saturating_mul(STEP).min(most)
 }
 
 /// How much of a text is shown behind so many columns.
-fn room_behind(look: &Look<'_>, columns: usize) -> Room
+fn room_behind(look: &Look, columns: usize) -> Room
     ensures { (is_some result.bytes || is_some result.columns) ≡ true
         → look.now.may_cut ≡ true }
 {
@@ -97,7 +99,7 @@ fn room_behind(look: &Look<'_>, columns: usize) -> Room
 }
 
 /// The row of a text in its frame.
-fn framed(alloc: Global, look: &Look<'_>, frame: &Frame, text: &[u8]) -> Result<Vec<u8>, AllocError>
+fn framed(alloc: Global, look: &Look, frame: &Frame, text: &[u8]) -> Result<Vec<u8>, AllocError>
     ensures { IfOk result (λ row. ShowsInRow look.now.may_cut text.now row.items) }
 {
     let parts = Parts {
@@ -109,14 +111,23 @@ fn framed(alloc: Global, look: &Look<'_>, frame: &Frame, text: &[u8]) -> Result<
 }
 
 impl Rows {
-    /// No object came.
-    pub fn new(alloc: Global) -> Rows {
+    /// No object came. Where a text is handed in, only rows whose text has it are asked for.
+    pub fn new(alloc: Global, grep: Option<String>) -> Rows {
         Rows {
             alloc,
             nesting: Nesting::new(alloc),
             clock: Clock::new(),
             time: None,
             is_new: false,
+            grep,
+        }
+    }
+
+    /// Whether a text has what is asked of each.
+    fn has(&self, text: &str) -> bool {
+        match &self.grep {
+            Some(part) => text.contains(part.as_str()),
+            None => true,
         }
     }
 
@@ -126,19 +137,17 @@ impl Rows {
     }
 
     /// Whether a text has a row.
-    fn is_wanted(&self, look: &Look<'_>, text: &str) -> bool
+    fn is_wanted(&self, look: &Look, text: &str) -> bool
         ensures { look.now.shows_each ≡ true → result ≡ true }
     {
         look.shows_each
-            || (!look.is_from_now || self.is_new)
-                && look.is_between(self.time)
-                && look.grep.is_none_or(|part| text.contains(part))
+            || (!look.is_from_now || self.is_new) && look.is_between(self.time) && self.has(text)
     }
 
     /// What stands beside the text of an entry.
     fn frame(
         &mut self,
-        look: &Look<'_>,
+        look: &Look,
         object: &Option<Value>,
         stamp: Option<Stamp>,
         nested: Nested,
@@ -173,7 +182,7 @@ impl Rows {
     /// The row of an entry that shows this text; None where none is asked for.
     fn entry_row(
         &mut self,
-        look: &Look<'_>,
+        look: &Look,
         object: &Option<Value>,
         text: &str,
     ) -> Result<Option<Vec<u8>>, AllocError>
@@ -200,7 +209,7 @@ impl Rows {
     /// The row of an object that shows no term, or of a line that is no object; None where none is asked for.
     fn notice_row(
         &mut self,
-        look: &Look<'_>,
+        look: &Look,
         object: &Option<Value>,
         line: &[u8],
     ) -> Result<Option<Vec<u8>>, AllocError>
@@ -236,7 +245,7 @@ impl Rows {
     }
 
     /// The row of a line of a listing; None where none is asked for.
-    pub fn row_of(&mut self, look: &Look<'_>, line: &[u8]) -> Result<Option<Vec<u8>>, AllocError>
+    pub fn row_of(&mut self, look: &Look, line: &[u8]) -> Result<Option<Vec<u8>>, AllocError>
         ensures { IfOk result (λ row. MatchOption row (look.now.shows_each ≡ false)
             (λ row. IsRow look.now.may_cut line.now row.items)) }
     {
