@@ -113,13 +113,13 @@ add(Row, Name, Number, Counted) ->
     Counted#{Row => Numbers#{Name => maps:get(Name, Numbers, 0) + Number}}.
 stack(Pid, #{stacks := Stacks}) -> element(1, maps:get(Pid, Stacks, {[], 0})).
 
-%% a stack of calls, of which the 256 outermost are told, has run until it is changed
+%% a stack of calls, of which the 256 innermost are told, has run until it is changed
 put_stack(Pid, Stack, Time, Counted = #{stacks := Stacks}) ->
     Put = Counted#{stacks := Stacks#{Pid => {Stack, Time}}},
     case maps:get(Pid, Stacks, {[], 0}) of
         {[], _} -> Put;
         {Before, Since} ->
-            Shown = lists:sublist(lists:reverse([Function || {Function, _} <- Before]), 256),
+            Shown = lists:reverse(lists:sublist([Function || {Function, _} <- Before], 256)),
             add({folded, {Pid, Shown}}, ran, Time - Since, Put)
     end.
 
