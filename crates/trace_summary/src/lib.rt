@@ -20,7 +20,7 @@ mod events;
 mod folded;
 mod functions;
 mod info;
-mod json;
+mod info_json;
 mod lines;
 mod member_text;
 mod messages;
