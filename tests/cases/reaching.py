@@ -67,7 +67,7 @@ LOOKS = {
 RUNTIME = {
     "dbgrec": ["main"],
     "commands": ["awaiting", "crowded", "files", "serving", "sites", "state"],
-    "shown_listings": ["console", "counted", "inlet", "listing", "outlet"],
+    "shown_listings": ["console", "counted", "inlet", "listing", "outlet", "screen"],
     "stores": ["failure_mark", "folder", "folder_store", "named_file", "named_files"],
     "faults": ["absence"],
     "trace_lookup": ["lookup", "room", "spot"],

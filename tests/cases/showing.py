@@ -76,8 +76,9 @@ def times_are_told_since_the_first_or_the_last(program):
     program.good("import", "t", stdin=b"".join(NESTED))
     shows(program, rows(["+0.000000", "+0.000001", "+0.000002", "+0.000005", "+2.000010"]) + END, "--relative")
     shows(program, rows(["+0.000000", "+0.000001", "+0.000001", "+0.000003", "+2.000005"]) + END, "--delta")
-    # since the first that is shown
-    shows(program, rows(["", "", "", "+0.000000", "+2.000005"], (3, 4)) + END, "--relative", "--only", "return")
+    # since the first that is shown; calls that aren't chosen aren't open
+    expected = row(3, "+0.000000", "return", TEXTS[3]) + row(4, "+2.000005", "return", TEXTS[4])
+    shows(program, expected + END, "--relative", "--only", "return")
 
 
 @case
@@ -196,7 +197,9 @@ def what_is_added_is_shown_from_now_on(program):
         time.sleep(LONG)
         program.good("import", "t", stdin=b"".join(NESTED[2:]))
         same(follower.end().output.decode(), rows(chosen=(2, 3, 4)) + END)
-        same(both.end().output.decode(), rows(chosen=(2, 3, 4)) + END)
+        # the first call isn't chosen
+        expected = row(2, TIMES[2], "call", TEXTS[2]) + row(3, TIMES[3], "return", TOOK[3] + TEXTS[3]) + row(4, TIMES[4], "return", TEXTS[4])
+        same(both.end().output.decode(), expected + END)
 
 
 @case
