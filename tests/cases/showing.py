@@ -55,6 +55,9 @@ INSETS = [0, 2, 0, 2, 0]
 
 TOOK = ["", "", "", "(0.000004 s) ", "(2.000010 s) "]
 
+# what stands before the text where rows have a width
+FUNCTIONS = ["m:f/2  ", "m:g/2  ", "m:g/2  ", "m:g/2  ", "m:f/2  "]
+
 
 def rows(times=TIMES, chosen=range(5)):
     return "".join(row(n, times[n], KINDS[n], TOOK[n] + TEXTS[n], INSETS[n]) for n in chosen)
@@ -143,7 +146,7 @@ def times_and_texts_choose_rows(program):
 @case
 def rows_are_cut_at_a_width_and_texts_at_a_size(program):
     program.good("import", "t", stdin=b"".join(NESTED))
-    whole_rows = rows().splitlines()
+    whole_rows = [row(n, TIMES[n], KINDS[n], TOOK[n] + FUNCTIONS[n] + TEXTS[n], INSETS[n]) for n in range(5)]
     shows(program, "".join(line[:59] + "…\n" for line in whole_rows) + END, "--width", "60")
     shows(program, rows() + END, "--full")
     shows(program, "".join(row(n, TIMES[n], KINDS[n], TOOK[n] + TEXTS[n][:9] + "…", INSETS[n]) for n in range(5)) + END, "--longest-text", "9")
@@ -181,10 +184,10 @@ def on_terminal(program, *words, **variables):
 @case
 def rows_on_a_terminal_have_colours_and_its_width(program):
     program.good("import", "t", stdin=NESTED[0])
-    plain = row(0, TIMES[0], "call", TEXTS[0])
+    plain = row(0, TIMES[0], "call", FUNCTIONS[0] + TEXTS[0])
     same(on_terminal(program, "show", "t", NO_COLOR="1"), plain[:79] + "…\n" + END)
     same(on_terminal(program, "show", "t", NO_COLOR="1", COLUMNS="50"), plain[:49] + "…\n" + END)
-    same(on_terminal(program, "show", "t", "--full", NO_COLOR="1"), plain + END)
+    same(on_terminal(program, "show", "t", "--full", NO_COLOR="1"), row(0, TIMES[0], "call", TEXTS[0]) + END)
     same(on_terminal(program, "show", "t", NO_COLOR=""), f"{plain[:25]}\x1b[36m{plain[25:79]}…\x1b[0m\n{END}")
     same(on_terminal(program, "list", "-p", "t", NO_COLOR="1").splitlines()[0], f"0 call {TEXTS[0]}")
 

@@ -74,6 +74,14 @@ fn put_took(text: &mut String, nested: Nested, stamp: Option<Stamp>) -> Result<(
     Ok(())
 }
 
+/// Appends the function that an entry tells of, where it tells of one: where a row is cut, its text may not come to that.
+fn put_function(text: &mut String, object: &Option<Value>) -> Result<(), AllocError> {
+    if let Some(function) = member(object, "mfa") {
+        write!(text, "{function}  ")?;
+    }
+    Ok(())
+}
+
 /// The columns by which the row of an entry goes in.
 fn inset(look: &Look, depth: usize) -> usize {
     let most = look.width.map_or(MOST_STEPS, |width| width / 4);
@@ -170,6 +178,9 @@ impl Rows {
         write!(before, "{kind:<9} ")?;
         put_blanks(&mut before, inset(look, nested.depth))?;
         put_took(&mut before, nested, stamp)?;
+        if look.width.is_some() {
+            put_function(&mut before, object)?;
+        }
         let columns = before.len().saturating_sub(colour.len());
         let after = if colour.is_empty() { "" } else { PLAIN };
         Ok(Frame {
