@@ -1,7 +1,5 @@
 //! What a command line asks for.
 
-ghost use Rattle.std.specs.Prelude.{◌≡◌, None, false};
-
 use crate::layout::Layout;
 use crate::ranking::Ranking;
 use clap::Error;
@@ -82,14 +80,11 @@ pub struct Shown {
 }
 
 impl Shown {
-    /// Each line, as it is.
-    pub fn each_line() -> Shown
-        ensures { result ≡ record
-            { is_json = false; choice = None; is_plain = false; layout = None } }
-    {
+    /// All entries, or those that are chosen, as they are.
+    pub fn of(choice: Option<Choice>) -> Shown {
         Shown {
             is_json: false,
-            choice: None,
+            choice,
             is_plain: false,
             layout: None,
         }
@@ -116,8 +111,11 @@ pub enum Request<'a> {
         is_pretty: bool,
         shown: Shown,
     },
-    /// What is done with the files of a trace.
-    OfTrace(TraceRequest<'a>),
+    /// What is done with the files of a trace, of which a choice of entries may be asked.
+    OfTrace {
+        request: TraceRequest<'a>,
+        shown: Shown,
+    },
     /// What of them is listed, and how that is shown.
     Listing {
         request: TraceRequest<'a>,

@@ -20,23 +20,20 @@ use Rattle.shown_listings.specs.Listings.{Listing, Shows}
 use Rattle.trace_client.specs.Streams.{IsListed}
 use Rattle.commands.specs.declared.serving.Task.{Task}
 use Rattle.commands.specs.declared.serving.Task.TheVariants as tasks
+use Rattle.commands.specs.declared.serving.Served.{Served}
 
--- what isn't listed is shown as it is
-abbrev pub each_line : Shown
-each_line = record { is_json = false; choice = None; is_plain = false; layout = None }
-
--- what is asked is done with the files of a trace, by what is seen of the stream that comes in, as a listing that leaves them so
-abbrev pub ServesTrace : TraceRequest → Shown → Files → Outside → Files → Listing
-ServesTrace request shown old saw new result was now = (observed : Observations) × Serves request shown old new saw observed was now result
+-- what is asked is done with the files of a trace, by what is seen of the stream that comes in, as a listing that leaves them so when that was observed
+abbrev pub ServesTrace : TraceRequest → Shown → Files → Outside → Files → Observations → Listing
+ServesTrace request shown old saw new observed result was now = Serves request shown old new saw observed was now result
 
 -- how a trace is followed, as a listing
 abbrev pub KeepsOn : Bool → Shown → Files → Files → Listing
 KeepsOn is_pretty shown old new result was now = Follows is_pretty shown old new was now result
 
 -- what is done with the files of a trace, as a listing
-abbrev pub Does : Task → Shown → Files → Outside → Files → Listing
-Does (tasks.Asked request) shown files saw left = ServesTrace request shown files saw left
-Does (tasks.Followed is_pretty) shown files saw left = KeepsOn is_pretty shown files left
+abbrev pub Does : Task → Shown → Files → Outside → Files → Observations → Listing
+Does (tasks.Asked request) shown files saw left observed = ServesTrace request shown files saw left observed
+Does (tasks.Followed is_pretty) shown files saw left observed = KeepsOn is_pretty shown files left
 
 -- the files that are made for what is asked, of which nothing was read yet; they are locked exactly where they are to be changed, and
 -- a count that is asked for is their own where they aren't to be written
@@ -48,20 +45,20 @@ pub record AreMade (world : World) (request : TraceRequest) (files : Files) : Ty
   pub agrees : NamesTrace request → AgreesOn (asked_in request) files.found
 
 -- files were made for what is asked, it was done with them, and they are left; or none could be had, and nothing is written
-pub data ServesFiles (world : World) (request : TraceRequest) (had was now : Option (List ℕ)) : Result Unit Complaint → Option Files → Type 0 where
-  served : {result : Result Unit Complaint} (files left : Files) → AreMade world request files → ServesTrace request each_line files (outside had 0 []) left result was now
-      → ServesFiles world request had was now result (Some left)
-  no_files : (complaint : Complaint) → status_told complaint ≡ 1 → Keeps was now → ServesFiles world request had was now (Err complaint) None
+pub data ServesFiles (world : World) (request : TraceRequest) (shown : Shown) (had was now : Option (List ℕ)) : Result Unit Complaint → Option Served → Type 0 where
+  served : {result : Result Unit Complaint} (files : Files) (left : Served) → AreMade world request files → ServesTrace request shown files (outside had 0 []) left.files left.observed.notes result was now
+      → ServesFiles world request shown had was now result (Some left)
+  no_files : (complaint : Complaint) → status_told complaint ≡ 1 → Keeps was now → ServesFiles world request shown had was now (Err complaint) None
 
 -- the same, and what is done with them is shown so
-pub data ListsFiles (world : World) (request : TraceRequest) (shown : Shown) (had was now : Option (List ℕ)) : Result Unit Complaint → Option Files → Type 0 where
-  listed : {result : Result Unit Complaint} (files left : Files) → AreMade world request files → Shows shown (ServesTrace request shown files (outside had 0 []) left) result was now
+pub data ListsFiles (world : World) (request : TraceRequest) (shown : Shown) (had was now : Option (List ℕ)) : Result Unit Complaint → Option Served → Type 0 where
+  listed : {result : Result Unit Complaint} (files : Files) (left : Served) → AreMade world request files → Shows shown (ServesTrace request shown files (outside had 0 []) left.files left.observed.notes) result was now
       → ListsFiles world request shown had was now result (Some left)
   not_listed : (complaint : Complaint) → status_told complaint ≡ 1 → Keeps was now → ListsFiles world request shown had was now (Err complaint) None
 
 -- files were made for what is asked, and they were followed and shown so, and are left; or none could be had, and nothing is written
-pub data FollowsFiles (world : World) (asked : Asked) (is_pretty : Bool) (shown : Shown) (was now : Option (List ℕ)) : Result Unit Complaint → Option Files → Type 0 where
-  followed : {result : Result Unit Complaint} (files left : Files) → AreMade world (asks.List asked is_pretty) files → Shows shown (KeepsOn is_pretty shown files left) result was now
+pub data FollowsFiles (world : World) (asked : Asked) (is_pretty : Bool) (shown : Shown) (was now : Option (List ℕ)) : Result Unit Complaint → Option Served → Type 0 where
+  followed : {result : Result Unit Complaint} (files : Files) (left : Served) → AreMade world (asks.List asked is_pretty) files → Shows shown (KeepsOn is_pretty shown files left.files) result was now
       → FollowsFiles world asked is_pretty shown was now result (Some left)
   not_followed : (complaint : Complaint) → status_told complaint ≡ 1 → Keeps was now → FollowsFiles world asked is_pretty shown was now (Err complaint) None
 

@@ -15,8 +15,9 @@ use command_line::{Asked, Shown, TraceRequest};
 use faults::Complaint;
 use shown_listings::{Console, Listable, Output, console_for, show, taken};
 use std::io::{Read, Write};
+use std::mem;
 use std::sync::Wait;
-use trace_reader::Watched;
+use trace_reader::{Observed, Watched};
 
 /// What is done with the files of a trace.
 enum Task<'a> {
@@ -24,6 +25,13 @@ enum Task<'a> {
     Asked(TraceRequest<'a>),
     /// The trace is listed, and then what is added to it.
     Followed { is_pretty: bool },
+}
+
+/// The files of a trace after what was done with them, and what was observed until then.
+#[derive(Drop)]
+pub struct Served<'a> {
+    pub files: Files<'a>,
+    pub observed: Observed,
 }
 
 /// What is done with a trace, and its files.
@@ -44,7 +52,8 @@ fn do_with<R: Wait, I: Read + Drop, W: Write>(
     watched: &mut Watched<'_, W, Console>,
 ) -> Result<(), Complaint>
     ensures { Does task.entry shown.now files.old
-        (outside (I.remaining input) 0 watched.old.host.now.observed.notes) files.new result
+        (outside (I.remaining input) 0 watched.old.host.now.observed.notes) files.new
+        watched.new.host.now.observed.notes result
         (W.contents watched.old.writer.now) (W.contents watched.new.writer.now) }
 {
     match task {
@@ -64,7 +73,7 @@ fn tell_end(files: &Files<'_>, is_listed: bool, done: &Result<(), Complaint>) {
     }
 }
 
-/// Does it, and writes to the output, with a console for what it tells meanwhile.
+/// Does it, and writes to the output, with a console for what it tells meanwhile; hands on what that observed.
 fn do_over<R: Wait, I: Read + Drop, W: Output>(
     waiter: &R,
     task: Task<'_>,
@@ -73,26 +82,27 @@ fn do_over<R: Wait, I: Read + Drop, W: Output>(
     console: Console,
     input: I,
     output: &mut W,
-) -> Result<(), Complaint>
+) -> (Result<(), Complaint>, Observed)
     ensures { Does task.entry shown.now files.old
-        (outside (I.remaining input) 0 console.observed.notes) files.new result
+        (outside (I.remaining input) 0 console.observed.notes) files.new result.1.notes result.0
         (W.contents output.old) (W.contents output.new) }
 {
     let mut console = console;
     let mut writer = taken(files.alloc(), output);
     let mut watched = Watched::new(&mut writer, &mut console);
     let done = do_with(waiter, task, shown, files, input, &mut watched);
+    let observed = mem::replace(&mut watched.host.observed, Observed::new());
     *output = taken(files.alloc(), &mut *watched.writer);
     drop(watched);
     drop(writer);
     drop(console);
-    done
+    (done, observed)
 }
 
 impl<'a> Listable for TraceListing<'a> {
-    type Left = Files<'a>;
+    type Left = Served<'a>;
 
-    ghost lists = { λ trace shown had left. Does trace.task shown trace.files (outside had 0 trace.console.observed.notes) left };
+    ghost lists = { λ trace shown had left. Does trace.task shown trace.files (outside had 0 trace.console.observed.notes) left.files left.observed.notes };
 
     fn list<R: Wait, I: Read + Drop, W: Output>(
         self,
@@ -100,16 +110,16 @@ impl<'a> Listable for TraceListing<'a> {
         shown: &Shown,
         input: I,
         output: &mut W,
-    ) -> (Result<(), Complaint>, Files<'a>) {
+    ) -> (Result<(), Complaint>, Served<'a>) {
         let TraceListing {
             task,
             mut files,
             console,
         } = self;
         let is_listed = is_list(&task);
-        let done = do_over(waiter, task, shown, &mut files, console, input, output);
+        let (done, observed) = do_over(waiter, task, shown, &mut files, console, input, output);
         tell_end(&files, is_listed, &done);
-        (done, files)
+        (done, Served { files, observed })
     }
 }
 
@@ -118,11 +128,12 @@ pub fn serve_files<'a, R: Wait, I: Read + Drop, W: Output>(
     rt: &HostRuntime,
     waiter: &R,
     request: TraceRequest<'a>,
+    shown: Shown,
     input: I,
     output: &mut W,
-) -> (Result<(), Complaint>, Option<Files<'a>>)
+) -> (Result<(), Complaint>, Option<Served<'a>>)
     ghost world: { World }
-    ensures { ServesFiles world request.entry (I.remaining input) (W.contents output.old)
+    ensures { ServesFiles world request.entry shown (I.remaining input) (W.contents output.old)
         (W.contents output.new) result.0 result.1 }
 {
     let mut files = match files_for(rt, &request) {
@@ -131,9 +142,8 @@ pub fn serve_files<'a, R: Wait, I: Read + Drop, W: Output>(
     };
     let console = console_for(rt, &request);
     let task = Task::Asked(request);
-    let shown = Shown::each_line();
-    let done = do_over(waiter, task, &shown, &mut files, console, input, output);
-    (done, Some(files))
+    let (done, observed) = do_over(waiter, task, &shown, &mut files, console, input, output);
+    (done, Some(Served { files, observed }))
 }
 
 /// Does the same, and of what is listed so shows the lines that are chosen, as they are or as objects.
@@ -144,7 +154,7 @@ pub fn list_files<'a, R: Wait, I: Read + Drop, W: Output>(
     shown: Shown,
     input: I,
     output: &mut W,
-) -> (Result<(), Complaint>, Option<Files<'a>>)
+) -> (Result<(), Complaint>, Option<Served<'a>>)
     ghost world: { World }
     ensures { ListsFiles world request.entry shown (I.remaining input) (W.contents output.old)
         (W.contents output.new) result.0 result.1 }
@@ -188,7 +198,7 @@ pub fn follow_files<'a, R: Wait, I: Read + Drop, W: Output>(
     shown: Shown,
     input: I,
     output: &mut W,
-) -> (Result<(), Complaint>, Option<Files<'a>>)
+) -> (Result<(), Complaint>, Option<Served<'a>>)
     ghost world: { World }
     ensures { FollowsFiles world asked.entry is_pretty shown (W.contents output.old)
         (W.contents output.new) result.0 result.1 }

@@ -57,7 +57,9 @@ fn serve<R: Wait, I: Read + Drop, W: Output>(
             };
             show(rt, waiter, listing, shown, input, output).0
         }
-        Request::OfTrace(request) => serve_files(rt, waiter, request, input, output).0,
+        Request::OfTrace { request, shown } => {
+            serve_files(rt, waiter, request, shown, input, output).0
+        }
         Request::Listing { request, shown } => {
             list_files(rt, waiter, request, shown, input, output).0
         }
