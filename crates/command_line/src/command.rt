@@ -221,7 +221,7 @@ fn list<'a>(alloc: Global, command: Command<'a>) -> Result<Command<'a>, AllocErr
     let command = of_files(
         alloc,
         command,
-        "With --from, --to, --only, --pid or --mfa it shows the entries of which all of these hold, each with its number, and all drop records up to --to.\n\nExample: dbgrec list -p trace",
+        "With --from, --to, --only, --pid, --mfa, --not, --not-pid or --not-mfa it shows the entries of which all of these hold, each with its number, and all drop records up to --to.\n\nExample: dbgrec list -p trace",
     )?
     .arg(follow(alloc))?
     .arg(salvage(alloc).conflicts_with("follow")?)?;
