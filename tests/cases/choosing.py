@@ -1,6 +1,7 @@
 """Cases of the options that choose the lines of a listing. Which lines are to be shown is found in the messages
 themselves, read by the tables; the lines are those of the whole listing, readable where the option looks at a message."""
 
+import collections
 import dataclasses
 import random
 import struct
@@ -58,17 +59,20 @@ def arity_of(last):
 
 @dataclasses.dataclass
 class Asked:
-    """What is asked for; None where it isn't."""
+    """What is asked for, where it is, and kinds, processes and functions of which nothing is shown."""
 
     first: int = None
     last: int = None
     kinds: tuple = None
-    process: str = None
-    function: tuple = None
+    processes: tuple = None
+    functions: tuple = None
+    no_kinds: tuple = ()
+    no_processes: tuple = ()
+    no_functions: tuple = ()
 
     def is_of_messages(self):
         """Whether more than a number is asked for."""
-        return (self.kinds, self.process, self.function) != (None, None, None)
+        return (self.kinds, self.processes, self.functions, self.no_kinds, self.no_processes, self.no_functions) != (None, None, None, (), (), ())
 
     def lets(self, number, shown, found):
         """Whether the line of an entry is shown: its number, the word of its kind, and what its message tells. A part of a
@@ -79,11 +83,20 @@ class Asked:
             return True
         if self.first is not None and number < self.first:
             return False
-        if self.kinds is not None and ("opaque" if shown == "part" else shown) not in self.kinds:
+        word = "opaque" if shown == "part" else shown
+        function = found.function if shown in ATOM_OF_EVENT else ()
+        if word in self.no_kinds or found.process in self.no_processes or is_one_of(function, self.no_functions):
             return False
-        if self.process is not None and found.process != self.process:
+        if self.kinds is not None and word not in self.kinds:
             return False
-        return self.function is None or shown in ATOM_OF_EVENT and found.function[: len(self.function)] == self.function
+        if self.processes is not None and found.process not in self.processes:
+            return False
+        return self.functions is None or is_one_of(function, self.functions)
+
+
+def is_one_of(function, asked):
+    """Whether a function, if there is one, begins as one of those that are asked for."""
+    return any(function[: len(parts)] == parts for parts in asked)
 
 
 def chosen(listing, entries, asked):
@@ -215,10 +228,10 @@ def each_process_is_chosen_with_or_without_its_brackets(program):
         here.folder.mkdir()
         listed = Listed(here, stream)
         for process in processes[:6]:
-            assert listed.shows(Asked(process=process), "--pid", process) > len(listed.whole)
+            assert listed.shows(Asked(processes=(process,)), "--pid", process) > len(listed.whole)
             if process.startswith("<"):
-                listed.shows(Asked(process=process), "--pid", process[1:-1])
-        listed.shows(Asked(process="<a@b.1.0.0>"), "--pid", "a@b.1.0.0")
+                listed.shows(Asked(processes=(process,)), "--pid", process[1:-1])
+        listed.shows(Asked(processes=("<a@b.1.0.0>",)), "--pid", "a@b.1.0.0")
 
 
 @case
@@ -229,11 +242,11 @@ def each_function_is_chosen_by_its_module_name_and_arity(program):
         here.folder.mkdir()
         listed = Listed(here, stream)
         for module, function, arity in functions_in(stream)[:8]:
-            assert listed.shows(Asked(function=(module,)), "--mfa", module) > len(listed.whole)
-            listed.shows(Asked(function=(module, function)), "--mfa", f"{module}:{function}")
+            assert listed.shows(Asked(functions=((module,),)), "--mfa", module) > len(listed.whole)
+            listed.shows(Asked(functions=((module, function),)), "--mfa", f"{module}:{function}")
             for count in (arity, arity + 1):
-                listed.shows(Asked(function=(module, function, count)), "--mfa", f"{module}:{function}/{count}")
-            listed.shows(Asked(function=(module, function, arity)), "--mfa", f"{module.strip(chr(39))}:{function.strip(chr(39))}/{arity}")
+                listed.shows(Asked(functions=((module, function, count),)), "--mfa", f"{module}:{function}/{count}")
+            listed.shows(Asked(functions=((module, function, arity),)), "--mfa", f"{module.strip(chr(39))}:{function.strip(chr(39))}/{arity}")
 
 
 @case
@@ -246,14 +259,14 @@ def a_port_is_chosen_and_a_name_with_a_stroke(program):
     calls = [b"\x83\x68\x04" + short_atom("trace") + pid + short_atom("call") + b"\x68\x03" + short_atom("m") + short_atom(name) + b"\x61\x02" for name in names]
     stream = b"".join(map(message, [opened, *calls, head + pid + short_atom("send") + b"\x6a" + port]))
     listed = Listed(program, stream)
-    listed.shows(Asked(process="#Port<n@h.4.7>"), "--pid", "#Port<n@h.4.7>")
+    listed.shows(Asked(processes=("#Port<n@h.4.7>",)), "--pid", "#Port<n@h.4.7>")
     for words in ("'n@h.example'.90.0.7", "<'n@h.example'.90.0.7>"):
-        listed.shows(Asked(process="<'n@h.example'.90.0.7>"), "--pid", words)
+        listed.shows(Asked(processes=("<'n@h.example'.90.0.7>",)), "--pid", words)
     for name in names:
         bare = (f"m:{name}",) if name.endswith("-") else ()
         for words in (f"m:{name}/2", f"m:'{name}'/2", f"m:'{name}'", *bare):
             if "'" not in words or name != "f":
-                listed.shows(Asked(function=("m", name if name == "f" else f"'{name}'")), "--mfa", words)
+                listed.shows(Asked(functions=(("m", name if name == "f" else f"'{name}'"),)), "--mfa", words)
 
 
 @case
@@ -262,9 +275,113 @@ def several_options_narrow(program):
     listed = Listed(program, stream)
     module, function, arity = functions_in(stream)[0]
     process = next(found.process for found in map(told_by, split(stream)) if found.function == (module, function, arity))
-    asked = Asked(3, 300, ("call", "return"), process, (module, function))
+    asked = Asked(3, 300, ("call", "return"), (process,), ((module, function),))
     options = ("--from", "3", "--to", "300", "--only", "call,return", "--pid", process, "--mfa", f"{module}:{function}")
     listed.shows(asked, *options)
+
+
+def common(found, count):
+    """The most common of what is found, as many as that, but for what tells of nothing."""
+    return [one for one, _ in collections.Counter(one for one in found if one).most_common(count)]
+
+
+def words_of(function):
+    """A function as an option names it."""
+    return "{}:{}/{}".format(*function)
+
+
+def each_after(option, names):
+    """An option for each of these names."""
+    return [word for name in names for word in (option, name)]
+
+
+@case
+def an_entry_of_one_of_several_is_shown(program):
+    stream = stream_of("node")
+    listed = Listed(program, stream)
+    processes = common((told_by(entry).process for entry in split(stream)), 4)
+    for several in (processes[:2], processes[2:], processes[::-1], [processes[0]] * 2, ["<a@b.1.0.0>", processes[3]]):
+        assert listed.shows(Asked(processes=tuple(several)), *each_after("--pid", several)) > len(listed.whole)
+    listed.shows(Asked(processes=tuple(processes[:2])), "--pid", processes[0][1:-1], f"--pid={processes[1]}")
+    stream = stream_of("plain")
+    here = type(program)(program.path, program.folder / "plain")
+    here.folder.mkdir()
+    listed = Listed(here, stream)
+    functions = common((told_by(entry).function for entry in split(stream)), 4)
+    for several in (functions[:2], functions[1:], functions[::-1], [functions[2], ("nowhere", "f", 1)]):
+        assert listed.shows(Asked(functions=tuple(several)), *each_after("--mfa", map(words_of, several))) > len(listed.whole)
+    module, name, _ = functions[1]
+    listed.shows(Asked(functions=((module, name), functions[2])), "--mfa", f"{module}:{name}", "--mfa", words_of(functions[2]))
+    listed.shows(Asked(functions=(functions[2], (module,))), "--mfa", words_of(functions[2]), "--mfa", module)
+    listed.shows(Asked(functions=(("nowhere",), ("elsewhere",))), "--mfa", "nowhere", "--mfa", "elsewhere")
+
+
+@case
+def what_is_not_to_be_shown_is_passed_over(program):
+    stream = stream_of("node")
+    listed = Listed(program, stream)
+    for word in KINDS:
+        listed.shows(Asked(no_kinds=(word,)), "--not", word)
+    listed.shows(Asked(no_kinds=("send", "receive")), "--not", "send,receive")
+    processes = common((told_by(entry).process for entry in split(stream)), 4)
+    for several in (processes[:1], processes[1:3], processes, ["<a@b.1.0.0>"]):
+        listed.shows(Asked(no_processes=tuple(several)), *each_after("--not-pid", several))
+    listed.shows(Asked(no_processes=(processes[0],)), "--not-pid", processes[0][1:-1])
+    for name in ("plain", "stamped"):
+        stream = stream_of(name)
+        here = type(program)(program.path, program.folder / name)
+        here.folder.mkdir()
+        listed = Listed(here, stream)
+        functions = common((told_by(entry).function for entry in split(stream)), 4)
+        for several in (functions[:1], functions[1:3], functions, [("nowhere", "f", 1)]):
+            listed.shows(Asked(no_functions=tuple(several)), *each_after("--not-mfa", map(words_of, several)))
+        module, function, arity = functions[1]
+        listed.shows(Asked(no_functions=((module,),)), "--not-mfa", module)
+        listed.shows(Asked(no_functions=((module, function),)), "--not-mfa", f"{module}:{function}")
+        listed.shows(Asked(no_functions=((module, function, arity + 1),)), "--not-mfa", f"{module}:{function}/{arity + 1}")
+
+
+@case
+def what_is_shown_and_what_is_not_are_told_together(program):
+    stream = stream_of("plain")
+    listed = Listed(program, stream)
+    process = common((told_by(entry).process for entry in split(stream)), 1)[0]
+    first, second, third = common((told_by(entry).function for entry in split(stream)), 3)
+    module = first[0]
+    for asked, options in (
+        (Asked(kinds=("call", "return"), no_functions=(first,)), ("--only", "call,return", "--not-mfa", words_of(first))),
+        (Asked(functions=((module,),), no_functions=(first, second)), ("--mfa", module, *each_after("--not-mfa", map(words_of, (first, second))))),
+        (Asked(processes=(process,), no_kinds=("send", "receive")), ("--pid", process, "--not", "send,receive")),
+        (Asked(processes=(process,), no_processes=(process,)), ("--pid", process, "--not-pid", process)),
+        (Asked(kinds=("call", "send"), no_kinds=("call",)), ("--only", "call,send", "--not", "call")),
+        (Asked(9, 90, no_kinds=("receive",), no_processes=("<a@b.1.0.0>",), no_functions=(third,)), ("--from", "9", "--to=90", "--not", "receive", "--not-pid", "a@b.1.0.0", "--not-mfa", words_of(third))),
+        (Asked(9, 90, ("call", "exception"), (process, "<a@b.1.0.0>"), (first, second), ("exception",)), ("--from", "9", "--to=90", "--only", "call,exception", "--pid", process, "--pid", "a@b.1.0.0", *each_after("--mfa", map(words_of, (first, second))), "--not", "exception")),
+    ):
+        listed.shows(asked, *options)
+        for words in (("list", "-p", "file"), ("list", "-p", "wrap")):
+            expected = chosen(*listed.whole[words], asked)
+            same(program.good("list", "-f", words[2], *options), expected)
+
+
+@case
+def what_cannot_be_read_is_passed_over_as_an_opaque_message(program):
+    call = b"\x83\x68\x04" + short_atom("trace") + b"\x58" + short_atom("n@h") + bytes(12) + short_atom("call") + b"\x68\x03" + short_atom("m") + short_atom("f") + b"\x61\x02"
+    program.good("import", "t", stdin=message(call) + message(b"x") + drop(4))
+    told = f"0 call {text(AnyReader(call).whole())}\n".encode()
+    opaque, lost, end = b"1 opaque 1\n", b"2 drop 4\n", b"end_of_trace\n"
+    for options, shown in (
+        (("--not", "opaque"), told + lost),
+        (("--not", "call"), opaque + lost),
+        (("--not", "drop"), told + opaque + lost),
+        (("--not", "call,opaque"), lost),
+        (("--not-pid", "n@h.0.0.0"), opaque + lost),
+        (("--not-mfa", "m"), opaque + lost),
+        (("--not-pid", "n@h.1.0.0", "--not-mfa", "m:g"), told + opaque + lost),
+        (("--only", "opaque,call", "--not", "opaque"), told + lost),
+        (("--only", "opaque", "--not", "call"), opaque + lost),
+        (("--pid", "n@h.1.0.0", "--pid", "n@h.0.0.0", "--not", "opaque"), told + lost),
+    ):
+        same(program.good("list", "t", *options), shown + end)
 
 
 @case
@@ -276,8 +393,9 @@ def drop_records_are_always_shown(program):
     listed.shows(Asked(last=4), "--to", "4")
     listed.shows(Asked(first=3, last=4, kinds=("exception",)), "--from=3", "--to=4", "--only", "exception")
     listed.shows(Asked(kinds=("exception",)), "--only", "exception")
-    listed.shows(Asked(process="<a@b.1.0.0>"), "--pid", "<a@b.1.0.0>")
-    listed.shows(Asked(function=("nowhere",)), "--mfa", "nowhere")
+    listed.shows(Asked(processes=("<a@b.1.0.0>",)), "--pid", "<a@b.1.0.0>")
+    listed.shows(Asked(functions=(("nowhere",),)), "--mfa", "nowhere")
+    listed.shows(Asked(last=9, no_kinds=("drop", "call")), "--to", "9", "--not", "drop,call")
 
 
 @case
@@ -306,7 +424,7 @@ def random_arguments_are_counted(program):
     stream = b"".join(message(call_with(dice, writer, dice.randrange(6))) for _ in range(400))
     listed = Listed(program, stream)
     for count in range(7):
-        listed.shows(Asked(function=("m", "f", count)), "--mfa", f"m:f/{count}")
+        listed.shows(Asked(functions=(("m", "f", count),)), "--mfa", f"m:f/{count}")
 
 
 @case
@@ -316,7 +434,7 @@ def arguments_that_are_no_proper_list_have_no_number(program):
     head = b"\x83\x68\x04" + short_atom("trace") + b"\x58" + short_atom("n@h") + bytes(12) + short_atom("call") + b"\x68\x03" + short_atom("m") + short_atom("f")
     listed = Listed(program, b"".join(message(head + tail) for tail in tails))
     for count in range(4):
-        listed.shows(Asked(function=("m", "f", count)), "--mfa", f"m:f/{count}")
+        listed.shows(Asked(functions=(("m", "f", count),)), "--mfa", f"m:f/{count}")
 
 
 @case
@@ -327,7 +445,7 @@ def random_messages_are_chosen(program):
     listed = Listed(program, stream)
     for module, name, arity in functions_in(stream)[:5]:
         if "'" not in module + name:
-            listed.shows(Asked(function=(module, name, arity)), "--mfa", f"{module}:{name}/{arity}")
+            listed.shows(Asked(functions=((module, name, arity),)), "--mfa", f"{module}:{name}/{arity}")
     for word in ("call", "other", "spawn"):
         listed.shows(Asked(kinds=(word,)), "--only", word)
 
@@ -351,12 +469,17 @@ def misused(program, *words, says):
 @case
 def what_no_listing_can_show_is_refused(program):
     for command in (("stream",), ("list", "t")):
-        misused(program, *command, "--only", "calls", says="'calls'")
-        misused(program, *command, "--only", "call,", says="call, return, exception, send")
+        for option in ("--only", "--not"):
+            misused(program, *command, option, "calls", says="'calls' for '--only or --not <KIND[,KIND..]>'")
+            misused(program, *command, option, "call,", says="call, return, exception, send")
         misused(program, *command, "--from", "x", says="--from")
         misused(program, *command, "--to=-1", says="--to")
-        for function in ("", ":f", "m:", "m:f/", "m:f/x", "m:/2", "m,n", "m:f/1,m:g/2"):
-            misused(program, *command, "--mfa", function, says="--mfa <M[:F[/A]]>")
-        for process in ("", "<>", "0.80.0", "<0.80.0>", "shell", ".1.0.0", "0.1.0.0", "a@b.1.0.x", "a@my-host.1.0.0", "a@b.1.0.0,a@b.2.0.0"):
-            misused(program, *command, "--pid", process, says="--pid <PID>': a process as a listing shows it")
+        for option in ("--mfa", "--not-mfa"):
+            for function in ("", ":f", "m:", "m:f/", "m:f/x", "m:/2", "m,n", "m:f/1,m:g/2"):
+                misused(program, *command, option, function, says=f"'{function}' for '--mfa or --not-mfa <M[:F[/A]]>'")
+            misused(program, *command, option, "m", option, "m:", says="'m:'")
+        for option in ("--pid", "--not-pid"):
+            for process in ("", "<>", "0.80.0", "<0.80.0>", "shell", ".1.0.0", "0.1.0.0", "a@b.1.0.x", "a@my-host.1.0.0", "a@b.1.0.0,a@b.2.0.0"):
+                misused(program, *command, option, process, says=f"'{process}' for '--pid or --not-pid <PID>': a process as a listing shows it")
+            misused(program, *command, option, "a@b.1.0.0", option, "<0.80.0>", says="'<0.80.0>'")
     misused(program, "export", "t", "--from", "1", says="--from")

@@ -198,12 +198,12 @@ def long_messages_are_chosen_by_what_they_tell(program):
     listed = Listed(program, choosable(random.Random(82)))
     for word in ("call", "receive", "opaque", "drop", "other"):
         assert listed.shows(Asked(kinds=(word,)), "--only", word) > 0
-    assert listed.shows(Asked(process="<n.7.0.1>"), "--pid", "n.7.0.1") > 0
-    assert listed.shows(Asked(function=("m",)), "--mfa", "m") > 0
-    listed.shows(Asked(function=("m", "g")), "--mfa", "m:g")
-    listed.shows(Asked(function=("m", "f", 1)), "--mfa", "m:f/1")
-    listed.shows(Asked(function=("m", "f", 2)), "--mfa", "m:f/2")
-    listed.shows(Asked(first=2, last=9, kinds=("call",), process="<n.7.0.1>"), "--from", "2", "--to=9", "--only", "call", "--pid", "n.7.0.1")
+    assert listed.shows(Asked(processes=("<n.7.0.1>",)), "--pid", "n.7.0.1") > 0
+    assert listed.shows(Asked(functions=(("m",),)), "--mfa", "m") > 0
+    listed.shows(Asked(functions=(("m", "g"),)), "--mfa", "m:g")
+    listed.shows(Asked(functions=(("m", "f", 1),)), "--mfa", "m:f/1")
+    listed.shows(Asked(functions=(("m", "f", 2),)), "--mfa", "m:f/2")
+    listed.shows(Asked(first=2, last=9, kinds=("call",), processes=("<n.7.0.1>",)), "--from", "2", "--to=9", "--only", "call", "--pid", "n.7.0.1")
     # a part is chosen as an opaque message, and is no kind
     words = [line.split(" ")[1] for line in program.good("list", "file", "--only", "opaque").decode().splitlines()[:-1]]
     same([word for word in words if word != "drop"][:4], ["part", "part", "part", "opaque"])

@@ -25,6 +25,7 @@ VALUES = {
     "--kind": ["file", "wrap"],
     "--flush": ["always", "never", "paused"],
     "--only": sorted(KINDS),
+    "--not": sorted(KINDS),
     "--as": ["folded", "perfetto", "stream"],
     "--color": ["always", "auto", "never"],
     "--by": ["function", "kind", "process"],

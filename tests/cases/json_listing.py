@@ -138,12 +138,16 @@ def numbers_are_whole_up_to_the_greatest(program):
 def the_objects_of_chosen_lines_are_written(program):
     stream = stream_of("node")
     listed = Listed(program, stream)
-    asked = Asked(first=3, last=300, kinds=("call", "return", "drop"))
-    options = ("--from", "3", "--to=300", "--only", "call,return,drop", "--json")
-    for style in STYLES:
-        for words, data, _ in listed.listings(style):
-            listing, entries = listed.whole_for(words, asked)
-            check(chosen(listing, entries, asked), entries, program.good(*words, *options, stdin=data))
+    process = "<nonode@nohost.9.0.0>"
+    for asked, options in (
+        (Asked(first=3, last=300, kinds=("call", "return", "drop")), ("--from", "3", "--to=300", "--only", "call,return,drop")),
+        (Asked(processes=(process, "<nonode@nohost.3.0.0>")), ("--pid", process, "--pid", "nonode@nohost.3.0.0")),
+        (Asked(no_kinds=("send",), no_processes=(process,), no_functions=(("gen_server", "call", 2),)), ("--not", "send", "--not-pid", process, "--not-mfa", "gen_server:call/2")),
+    ):
+        for style in STYLES:
+            for words, data, _ in listed.listings(style):
+                listing, entries = listed.whole_for(words, asked)
+                check(chosen(listing, entries, asked), entries, program.good(*words, *options, "--json", stdin=data))
 
 
 @case

@@ -131,7 +131,8 @@ def a_listing_that_is_refused_memory_is_a_beginning(program):
         kept.program.good("import", "t", *kind, stdin=b"".join(ENTRIES))
         for command in ("list", "export"):
             kept.reads(command, "t")
-        kept.reads("list", "--from", "1", "--only", "call,receive", "t")
+        kept.reads("list", "--from", "1", "--only", "call,receive", "--pid", "a@b.1.0.0", "--pid", "a@b.2.0.0", "t")
+        kept.reads("list", "--not", "send", "--not-pid", "a@b.1.0.0", "--not-mfa", "m:f/1", "--not-mfa", "m:g", "t")
         kept.reads("list", "--json", "t")
         kept.reads("list", "--json", "--from", "1", "t")
         kept.reads("list", "--follow", "t")

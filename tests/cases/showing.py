@@ -130,6 +130,7 @@ def entries_that_are_chosen_are_shown(program):
     shows(program, row(3, TIMES[3], "return", TEXTS[3]) + row(4, TIMES[4], "return", TEXTS[4]) + END, "--only", "return")
     shows(program, row(1, TIMES[1], "call", TEXTS[1]) + row(2, TIMES[2], "call", TEXTS[2]), "--from", "1", "--to", "2")
     shows(program, row(2, TIMES[2], "call", TEXTS[2]) + row(3, TIMES[3], "return", TEXTS[3]) + END, "--mfa", "m:g", "--from", "2")
+    shows(program, row(1, TIMES[1], "call", TEXTS[1]) + row(2, TIMES[2], "call", TEXTS[2]) + END, "--not", "return", "--not-mfa", "m:f")
 
 
 @case

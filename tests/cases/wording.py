@@ -16,7 +16,7 @@ OF_FILES = {"--kind", "--suffix", "--count"}
 
 OF_NEW_FILES = OF_FILES | {"--size", "--time"}
 
-OF_CHOICES = {"--from", "--to", "--only", "--pid", "--mfa"}
+OF_CHOICES = {"--from", "--to", "--only", "--pid", "--mfa", "--not", "--not-pid", "--not-mfa"}
 
 OF_LISTINGS = {"--pretty", "--json"} | OF_CHOICES
 

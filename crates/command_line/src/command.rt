@@ -2,9 +2,8 @@
 ghost use Rattle.std.specs.Prelude.{◌≡◌, IfOk, string_bytes};
 ghost use Rattle.std.specs.Option.{option_map, option_copied};
 
-use crate::function::{Function, function_in};
+use crate::choice_words::{asks_of_messages, choice_in, with_choice};
 use crate::layout_words::{layout_in, with_layout};
-use crate::process::is_process;
 use crate::ranking::{Grouping, Order, Ranking};
 use crate::request::{
     Asked, Ending, Flushing, Form, Misuse, Request, Rules, Shape, Shown, TraceRequest, Wanted,
@@ -13,7 +12,6 @@ use crate::size::bytes_in;
 use clap::{Arg, ArgAction, ArgMatches, Command, value_parser};
 use std::alloc::{AllocError, Global};
 use std::convert::AsStr;
-use trace_text::{Choice, is_kind};
 
 /// The most bytes of a message that `stream` shows in full and `import` keeps, unless the command line says so.
 const DEFAULT_LONGEST: u32 = 16 << 20;
@@ -192,60 +190,7 @@ fn pretty<'a>(alloc: Global) -> Arg<'a> {
     .short('p')
 }
 
-fn from<'a>(alloc: Global) -> Arg<'a> {
-    option(
-        alloc,
-        "from",
-        "N",
-        "Shows no entry before the one of this number",
-    )
-    .value_parser(value_parser!(u64))
-}
-
-fn to<'a>(alloc: Global) -> Arg<'a> {
-    option(alloc, "to", "N", "Ends behind the entry of this number").value_parser(value_parser!(
-        u64
-    ))
-}
-
-fn only<'a>(alloc: Global) -> Arg<'a> {
-    option(
-        alloc,
-        "only",
-        "KIND[,KIND..]",
-        "Shows the entries of these kinds, as --pretty does",
-    )
-}
-
-fn pid<'a>(alloc: Global) -> Arg<'a> {
-    option(
-        alloc,
-        "pid",
-        "PID",
-        "Shows what this process did, of the text that a listing has for it, with or without < and >, as --pretty does",
-    )
-}
-
-fn mfa<'a>(alloc: Global) -> Arg<'a> {
-    option(
-        alloc,
-        "mfa",
-        "M[:F[/A]]",
-        "Shows calls of these functions, and what they return or raise, as --pretty does",
-    )
-}
-
-/// A listing, and the options that say which of its lines are shown.
-fn with_choice<'a>(alloc: Global, command: Command<'a>) -> Result<Command<'a>, AllocError> {
-    command
-        .arg(from(alloc))?
-        .arg(to(alloc))?
-        .arg(only(alloc))?
-        .arg(pid(alloc))?
-        .arg(mfa(alloc))
-}
-
-/// The same, and the options that say how its lines are written.
+/// A listing, and the options that say which of its lines are shown, and how they are written.
 fn with_style<'a>(alloc: Global, command: Command<'a>) -> Result<Command<'a>, AllocError> {
     let command = command
         .arg(pretty(alloc))?
@@ -276,7 +221,7 @@ fn list<'a>(alloc: Global, command: Command<'a>) -> Result<Command<'a>, AllocErr
     let command = of_files(
         alloc,
         command,
-        "With --from, --to, --only, --pid or --mfa it shows the entries of which all of these hold, each with its number, and all drop records up to --to.\n\nExample: dbgrec list -p trace",
+        "With --from, --to, --only, --pid, --mfa, --not, --not-pid or --not-mfa it shows the entries of which all of these hold, each with its number, and all drop records up to --to.\n\nExample: dbgrec list -p trace",
     )?
     .arg(follow(alloc))?
     .arg(salvage(alloc).conflicts_with("follow")?)?;
@@ -529,37 +474,6 @@ fn rules_in<'a>(matches: &ArgMatches<'a>) -> Result<Rules, Misuse<'a>> {
     })
 }
 
-/// The kinds that are shown, if each word is one.
-fn kinds_in<'a>(text: &'a str) -> Result<&'a str, Misuse<'a>>
-    ensures { IfOk result (λ kinds. kinds.now ≡ text.entry.now) }
-{
-    for word in text.split(',') {
-        if !is_kind(word) {
-            return Err(Misuse::Kind(word));
-        }
-    }
-    Ok(text)
-}
-
-/// The functions that are shown, where not all are.
-fn function_asked<'a>(matches: &ArgMatches<'a>) -> Result<Option<Function<'a>>, Misuse<'a>> {
-    match matches.get_str("mfa") {
-        None => Ok(None),
-        Some(text) => match function_in(text) {
-            None => Err(Misuse::Function(text)),
-            found => Ok(found),
-        },
-    }
-}
-
-/// The text of the process that is shown, where not all are.
-fn process_asked<'a>(matches: &ArgMatches<'a>) -> Result<Option<&'a str>, Misuse<'a>> {
-    match matches.get_str("pid") {
-        Some(text) if !is_process(text) => Err(Misuse::Process(text)),
-        found => Ok(found),
-    }
-}
-
 /// A text that is kept.
 pub fn kept(alloc: Global, text: Option<&str>) -> Result<Option<String>, AllocError>
     ensures { IfOk result (λ kept. option_map string_bytes kept ≡ option_copied text.entry) }
@@ -568,32 +482,6 @@ pub fn kept(alloc: Global, text: Option<&str>) -> Result<Option<String>, AllocEr
         Some(text) => Ok(Some(String::from_str(alloc, text)?)),
         None => Ok(None),
     }
-}
-
-/// The words of the kinds that are shown, where not all are.
-fn kinds_asked<'a>(matches: &ArgMatches<'a>) -> Result<Option<&'a str>, Misuse<'a>> {
-    match matches.get_str("only") {
-        None => Ok(None),
-        Some(text) => Ok(Some(kinds_in(text)?)),
-    }
-}
-
-/// Which lines of a listing are shown; None stands for all.
-fn choice_in<'a>(alloc: Global, matches: &ArgMatches<'a>) -> Result<Option<Choice>, Misuse<'a>> {
-    let function = function_asked(matches)?;
-    let kinds = kinds_asked(matches)?;
-    let process = process_asked(matches)?;
-    let choice = Choice {
-        from: matches.get_one::<u64>("from"),
-        to: matches.get_one::<u64>("to"),
-        is_whole: matches.get_flag("salvage"),
-        kinds: kept(alloc, kinds)?,
-        pid: kept(alloc, process)?,
-        module: kept(alloc, function.map(|function| function.module))?,
-        name: kept(alloc, function.and_then(|function| function.name))?,
-        arity: function.and_then(|function| function.arity),
-    };
-    Ok(if choice.is_all() { None } else { Some(choice) })
 }
 
 /// A number of bytes, as a command line says it. None where it isn't one from the least to the greatest of a message.
@@ -620,13 +508,12 @@ fn longest_kept<'a>(matches: &ArgMatches<'a>) -> Result<u32, Misuse<'a>> {
     }
 }
 
-/// Whether any term is shown. What tells of kinds, processes or functions tells of those of such a listing.
+/// Whether any term is shown.
 fn is_pretty(matches: &ArgMatches<'_>) -> bool {
     matches.get_flag("pretty")
         || matches.get_flag("json")
-        || ["longest", "only", "pid", "mfa"]
-            .iter()
-            .any(|name| matches.get_str(name).is_some())
+        || matches.get_str("longest").is_some()
+        || asks_of_messages(matches)
 }
 
 /// How a listing is to be shown.

@@ -7,6 +7,7 @@
 //! printed here.
 #![tactic(auto)]
 
+mod choice_words;
 mod command;
 mod function;
 mod layout;

@@ -196,11 +196,11 @@ pub enum Misuse<'a> {
     LongestShown(&'a str),
     /// The value of `--longest` of an import.
     LongestKept(&'a str),
-    /// A word of `--only` that is no kind.
+    /// A word of `--only` or `--not` that is no kind.
     Kind(&'a str),
-    /// The value of `--pid`.
+    /// A value of `--pid` or `--not-pid`.
     Process(&'a str),
-    /// The value of `--mfa`.
+    /// A value of `--mfa` or `--not-mfa`.
     Function(&'a str),
     /// The value of `--since` or `--until`.
     Moment(&'a str),

@@ -23,15 +23,15 @@ const A_LONGEST: &str =
 const A_LONGEST_KEPT: &str =
     "a number of bytes, from 65531 to 268435456; k, M and G after it stand for powers of 1,024, as in 64M";
 
-/// What may stand for the kinds of `--only`.
+/// What may stand for the kinds of `--only` or `--not`.
 const KINDS: &str =
     "call, return, exception, send, send_lost, receive, other, opaque, drop or one of OTP's other words, as spawn, exit and seq_trace; several with commas between them";
 
-/// What may stand for the process of `--pid`.
+/// What may stand for the process of `--pid` or `--not-pid`.
 const A_PROCESS: &str =
     "a process as a listing shows it, as <app@host.80.0.0> or <'app@my-host'.80.0.0>, or a port, as #Port<app@host.4.0>";
 
-/// What may stand for the function of `--mfa`.
+/// What may stand for the function of `--mfa` or `--not-mfa`.
 const A_FUNCTION: &str =
     "a module, as lists, a function, as lists:seq, or one of so many arguments, as lists:seq/2";
 
@@ -110,9 +110,9 @@ pub fn correct(rt: &(impl Print + Eprint), alloc: Global, misuse: Misuse<'_>) ->
         Misuse::Size(text) => refuse(rt, text, "--size <BYTES>", A_SIZE),
         Misuse::LongestShown(text) => refuse(rt, text, "--longest <SIZE>", A_LONGEST),
         Misuse::LongestKept(text) => refuse(rt, text, "--longest <SIZE>", A_LONGEST_KEPT),
-        Misuse::Kind(word) => refuse(rt, word, "--only <KIND[,KIND..]>", KINDS),
-        Misuse::Process(text) => refuse(rt, text, "--pid <PID>", A_PROCESS),
-        Misuse::Function(text) => refuse(rt, text, "--mfa <M[:F[/A]]>", A_FUNCTION),
+        Misuse::Kind(word) => refuse(rt, word, "--only or --not <KIND[,KIND..]>", KINDS),
+        Misuse::Process(text) => refuse(rt, text, "--pid or --not-pid <PID>", A_PROCESS),
+        Misuse::Function(text) => refuse(rt, text, "--mfa or --not-mfa <M[:F[/A]]>", A_FUNCTION),
         Misuse::Moment(text) => refuse(rt, text, "--since or --until <TIME>", A_MOMENT),
     }
 }

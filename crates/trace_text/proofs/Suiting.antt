@@ -1,17 +1,17 @@
 -- What a choice asks for, part by part.
-use Rattle.std.specs.Prelude.{not, is_some, is_none, IfOk}
+use Rattle.std.specs.Prelude.{not, is_none, map, IfOk}
 use Rattle.std.proofs.Common.{◌≡◌, ℕ, ◌<◌, ◌≤◌, Bool, true, false, ◌&&◌, ◌||◌, cond, leb, eqb, List, [], ◌∷◌, ◌++◌, length, length-append, take, codes, Option, Some, None, Result, Ok, Err, inl, inr, refl, sym, ap, ◌∙◌, subst, arith}
-use Rattle.std.specs.Option.{option_map}
+use Rattle.std.specs.List.{list_any}
 use Rattle.std.specs.Str.{bytes_eq}
 use Rattle.std.proofs.lemmas.Slice.Eq.{bytes_eq-Decides}
 use Rattle.std.proofs.lemmas.Bool.{le-leb, lt-leb, eq-eqb, eqb-true}
 use Rattle.std.proofs.lemmas.List.{append-nil, take_all}
 use Rattle.ext_format.specs.declared.fault.DecodeFault.{DecodeFault}
 use Rattle.ext_format.proofs.FieldLaws.{IsBytes}
-use Rattle.trace_text.specs.AnyTerm.{AnyTerm}
+use Rattle.trace_text.specs.AnyTerm.{AnyTerm, Leaf}
 use Rattle.trace_text.specs.AnyReading.{any_whole_at}
-use Rattle.trace_text.specs.Facts.{Function, function_of, tells_function, called}
-use Rattle.trace_text.specs.Choosing.{Asks, asks_no_text, is_of_kinds, is_of_pid, is_text, is_shown, is_of_arity, is_called, is_of_function, suits, suits_opaque, suits_if, if_all, term_in}
+use Rattle.trace_text.specs.Facts.{Function, traced, function_of, tells_function, called}
+use Rattle.trace_text.specs.Choosing.{Asked, AskedFunction, Asks, asks_no_text, names_kind, names_nothing, is_one_traced, is_text, is_shown, is_of_arity, is_function, is_one_called, is_of_each, is_of_any, suits, suits_opaque, suits_if, if_all, term_in}
 use Rattle.trace_text.specs.Objects.{IsUnread}
 use Rattle.trace_text.specs.Parts.{IsReadSo}
 use Rattle.trace_text.specs.Pretty.{leaf_text}
@@ -24,9 +24,9 @@ use Rattle.trace_text.proofs.AnyAgain.{whole_again}
 use Rattle.trace_text.proofs.AnySound.{whole_takes}
 use Rattle.trace_text.proofs.PartLemmas.{false_if}
 
-pub asks_some : {A B : Type 0} (f : A → B) (o : Option A) (b : Bool) → is_some o ≡ not b → b ≡ false → is_none (option_map f o) ≡ false
-asks_some f None b is no_none = let e : false ≡ true = is ∙ ap not no_none in absurd cc
-asks_some f (Some x) b is no_none = refl
+pub list_any-map : {X Y : Type 0} (p : X → Bool) (h : Y → X) (ys : List Y) → list_any p (map h ys) ≡ list_any (λ y. p (h y)) ys
+list_any-map p h [] = refl
+list_any-map p h (y ∷ ys) = ap (λ (b : Bool). p (h y) || b) (list_any-map p h ys)
 
 and_false : (b : Bool) → (b && false) ≡ false
 and_false true = refl
@@ -36,21 +36,21 @@ and_true : (b : Bool) → (b && true) ≡ b
 and_true true = refl
 and_true false = refl
 
-pub no_arity_called : (asks : Asks) (f : Function) → is_of_arity asks.of_arity f.arguments ≡ false → is_called asks (Some f) ≡ false
-no_arity_called asks f e =
-    let m = is_shown asks.of_module (leaf_text f.of_module) in
-    let n = is_shown asks.of_name (leaf_text f.of_name) in
+pub other_arity : (asked : AskedFunction) (f : Function) → is_of_arity asked.of_arity f.arguments ≡ false → is_function asked f ≡ false
+other_arity asked f e =
+    let m = is_text 39 39 asked.of_module (leaf_text f.of_module) in
+    let n = is_shown asked.of_name (leaf_text f.of_name) in
     ap (λ (b : Bool). m && (n && b)) e ∙ ap (λ (b : Bool). m && b) (and_false n) ∙ and_false m
 
-pub no_name_called : (asks : Asks) (f : Function) → is_shown asks.of_name (leaf_text f.of_name) ≡ false → is_called asks (Some f) ≡ false
-no_name_called asks f e =
-    let m = is_shown asks.of_module (leaf_text f.of_module) in
-    ap (λ (b : Bool). m && (b && is_of_arity asks.of_arity f.arguments)) e ∙ and_false m
+pub other_name : (asked : AskedFunction) (f : Function) → is_shown asked.of_name (leaf_text f.of_name) ≡ false → is_function asked f ≡ false
+other_name asked f e =
+    let m = is_text 39 39 asked.of_module (leaf_text f.of_module) in
+    ap (λ (b : Bool). m && (b && is_of_arity asked.of_arity f.arguments)) e ∙ and_false m
 
-pub module_called : (asks : Asks) (f : Function) → is_of_arity asks.of_arity f.arguments ≡ true → is_shown asks.of_name (leaf_text f.of_name) ≡ true → is_called asks (Some f) ≡ is_shown asks.of_module (leaf_text f.of_module)
-module_called asks f counted named =
-    let m = is_shown asks.of_module (leaf_text f.of_module) in
-    let n = is_shown asks.of_name (leaf_text f.of_name) in
+pub by_module : (asked : AskedFunction) (f : Function) → is_of_arity asked.of_arity f.arguments ≡ true → is_shown asked.of_name (leaf_text f.of_name) ≡ true → is_function asked f ≡ is_text 39 39 asked.of_module (leaf_text f.of_module)
+by_module asked f counted named =
+    let m = is_text 39 39 asked.of_module (leaf_text f.of_module) in
+    let n = is_shown asked.of_name (leaf_text f.of_name) in
     ap (λ (b : Bool). m && (n && b)) counted ∙ ap (λ (b : Bool). m && (b && true)) named ∙ and_true m
 
 -- ---- texts by how long they are
@@ -71,15 +71,9 @@ text_between opening closing asked shown never = ap (λ (b : Bool). b || bytes_e
 
 -- ---- functions
 
-pub no_call_asked : (asks : Asks) (t : AnyTerm) (kind : Option Kind) → is_none asks.of_module ≡ false → kind ≡ (sight t).kind → tells_function kind ≡ false → is_of_function asks t ≡ false
-no_call_asked asks t kind some is tells =
-    ap (λ (b : Bool). b || is_called asks (cond (tells_function (sight t).kind) (function_of t) None)) some
-    ∙ ap (λ (b : Bool). is_called asks (cond b (function_of t) None)) (ap tells_function (sym is) ∙ tells)
-
-pub function_asked : (asks : Asks) (t : AnyTerm) (kind : Option Kind) → is_none asks.of_module ≡ false → kind ≡ (sight t).kind → tells_function kind ≡ true → is_of_function asks t ≡ is_called asks (function_of t)
-function_asked asks t kind some is tells =
-    ap (λ (b : Bool). b || is_called asks (cond (tells_function (sight t).kind) (function_of t) None)) some
-    ∙ ap (λ (b : Bool). is_called asks (cond b (function_of t) None)) (ap tells_function (sym is) ∙ tells)
+pub called_by : (functions : List AskedFunction) (t : AnyTerm) (kind : Option Kind) (b : Bool) → kind ≡ (sight t).kind → tells_function kind ≡ b → is_one_called functions (called t) ≡ b && is_one_called functions (function_of t)
+called_by functions t kind true is tells = ap (λ (b : Bool). is_one_called functions (cond b (function_of t) None)) (ap tells_function (sym is) ∙ tells)
+called_by functions t kind false is tells = ap (λ (b : Bool). is_one_called functions (cond b (function_of t) None)) (ap tells_function (sym is) ∙ tells)
 
 -- ---- where nothing is asked of messages
 
@@ -87,31 +81,54 @@ both_true : (a b : Bool) → a && b ≡ true → (a ≡ true) × (b ≡ true)
 both_true true b e = (refl, e)
 both_true false b e = absurd cc
 
-none_is : {A : Type 0} (o : Option A) → is_none o ≡ true → o ≡ None
-none_is None e = refl
-none_is (Some x) e = absurd cc
+no_items : {A : Type 0} (xs : List A) → eqb (length xs) 0 ≡ true → xs ≡ []
+no_items [] e = refl
+no_items (x ∷ xs) e = absurd (omega (arith, eqb-true (length (x ∷ xs)) 0 e))
 
-suits_all : (asks : Asks) (t : AnyTerm) (kinds pid wanted : Option (List ℕ)) → asks.kinds ≡ kinds → asks.pid ≡ pid → asks.of_module ≡ wanted → kinds ≡ None → pid ≡ None → wanted ≡ None → suits asks t ≡ true
-suits_all asks t kinds pid wanted a b c x y z =
-    ap (λ (o : Option (List ℕ)). is_of_kinds o (kind_word (sight t).kind) && (is_of_pid asks.pid t && is_of_function asks t)) (a ∙ x)
-    ∙ ap (λ (o : Option (List ℕ)). is_of_pid o t && is_of_function asks t) (b ∙ y)
-    ∙ ap (λ (o : Option (List ℕ)). is_none o || is_called asks (called t)) (c ∙ z)
+no_kind : (kinds : Option (List ℕ)) (kind : List ℕ) → is_none kinds ≡ true → names_kind kinds kind ≡ false
+no_kind None kind e = refl
+no_kind (Some words) kind e = absurd cc
 
-opaque_all : (asks : Asks) → asks.kinds ≡ None → asks.pid ≡ None → asks.of_module ≡ None → suits_opaque asks ≡ true
-opaque_all asks x y z =
-    ap (λ (o : Option (List ℕ)). is_of_kinds o (codes "opaque") && (is_none asks.pid && is_none asks.of_module)) x
-    ∙ ap (λ (o : Option (List ℕ)). is_none o && is_none asks.of_module) y ∙ ap (λ (o : Option (List ℕ)). is_none o) z
+none_traced : (who : Option Leaf) → is_one_traced [] who ≡ false
+none_traced None = refl
+none_traced (Some who) = refl
 
-suits_each : (asks : Asks) (o : Option AnyTerm) → asks.kinds ≡ None → asks.pid ≡ None → asks.of_module ≡ None → suits_if asks o ≡ true
-suits_each asks None x y z = opaque_all asks x y z
-suits_each asks (Some t) x y z = suits_all asks t None None None x y z refl refl refl
+none_called : (f : Option Function) → is_one_called [] f ≡ false
+none_called None = refl
+none_called (Some f) = refl
+
+all_named : (a b c x y z : Bool) → a && (b && c) ≡ true → (a || x) && ((b || y) && (c || z)) ≡ true
+all_named true true true x y z e = refl
+all_named true true false x y z e = absurd cc
+all_named true false c x y z e = absurd cc
+all_named false b c x y z e = absurd cc
+
+pub none_named : (asked : Asked) (t : AnyTerm) → names_nothing asked ≡ true → is_of_any asked t ≡ false
+none_named asked t e =
+    let a = both_true (is_none asked.kinds) (eqb (length asked.pids) 0 && eqb (length asked.functions) 0) e in
+    let b = both_true (eqb (length asked.pids) 0) (eqb (length asked.functions) 0) a.1 in
+    ap (λ (b : Bool). b || (is_one_traced asked.pids (traced t) || is_one_called asked.functions (called t))) (no_kind asked.kinds (kind_word (sight t).kind) a.0)
+    ∙ ap (λ (l : List (List ℕ)). is_one_traced l (traced t) || is_one_called asked.functions (called t)) (no_items asked.pids b.0)
+    ∙ ap (λ (b : Bool). b || is_one_called asked.functions (called t)) (none_traced (traced t))
+    ∙ ap (λ (l : List AskedFunction). is_one_called l (called t)) (no_items asked.functions b.1) ∙ none_called (called t)
+
+all_opaque : (a b c x y : Bool) → a && (b && c) ≡ true → y ≡ false → (a || x) && (b && (c && not y)) ≡ true
+all_opaque true true true x y e is = ap not is
+all_opaque true true false x y e is = absurd cc
+all_opaque true false c x y e is = absurd cc
+all_opaque false b c x y e is = absurd cc
 
 pub all_suit : (asks : Asks) (o : Option AnyTerm) → asks_no_text asks ≡ true → suits_if asks o ≡ true
-all_suit asks o e =
-    let a = both_true (is_none asks.kinds) (is_none asks.pid && (is_none asks.of_module && is_none asks.of_name)) e in
-    let b = both_true (is_none asks.pid) (is_none asks.of_module && is_none asks.of_name) a.1 in
-    let c = both_true (is_none asks.of_module) (is_none asks.of_name) b.1 in
-    suits_each asks o (none_is asks.kinds a.0) (none_is asks.pid b.0) (none_is asks.of_module c.0)
+all_suit asks None e =
+    let a = both_true (names_nothing asks.only) (names_nothing asks.not) e in
+    let b = both_true (is_none asks.not.kinds) (eqb (length asks.not.pids) 0 && eqb (length asks.not.functions) 0) a.1 in
+    all_opaque (is_none asks.only.kinds) (eqb (length asks.only.pids) 0) (eqb (length asks.only.functions) 0) (names_kind asks.only.kinds (codes "opaque")) (names_kind asks.not.kinds (codes "opaque"))
+    a.0 (no_kind asks.not.kinds (codes "opaque") b.0)
+all_suit asks (Some t) e =
+    let a = both_true (names_nothing asks.only) (names_nothing asks.not) e in
+    let only = all_named (is_none asks.only.kinds) (eqb (length asks.only.pids) 0) (eqb (length asks.only.functions) 0) (names_kind asks.only.kinds (kind_word (sight t).kind)) (is_one_traced asks.only.pids (traced t))
+    (is_one_called asks.only.functions (called t)) a.0 in
+    ap (λ (b : Bool). b && not (is_of_any asks.not t)) only ∙ ap not (none_named asks.not t a.1)
 
 -- ---- which term a message is
 

@@ -1,5 +1,5 @@
 -- Which entries a choice asks for.
-use Rattle.std.specs.Prelude.{ℕ, Bool, true, false, not, ◌&&◌, ◌||◌, Option, Some, None, List, [], ◌∷◌, ◌++◌, ◌==◌, nat_le, length, codes, is_none, string_bytes, Result, Ok, Err, if◌then◌else◌}
+use Rattle.std.specs.Prelude.{ℕ, Bool, true, false, not, map, ◌&&◌, ◌||◌, Option, Some, None, List, [], ◌∷◌, ◌++◌, ◌==◌, nat_le, length, codes, is_none, string_bytes, Result, Ok, Err, if◌then◌else◌}
 use Rattle.std.specs.Fmt.{decimal}
 use Rattle.std.specs.List.{slice_split, list_any}
 use Rattle.std.specs.Option.{option_map}
@@ -7,6 +7,8 @@ use Rattle.std.specs.Str.{bytes_eq}
 use Rattle.ext_format.specs.declared.fault.DecodeFault.{DecodeFault}
 use Rattle.entry_codec.specs.Entries.{Entry, Message, Drop}
 use Rattle.trace_text.specs.declared.choice.Choice.{Choice}
+use Rattle.trace_text.specs.declared.choice.Filter.{Filter}
+use Rattle.trace_text.specs.declared.choice.FunctionAsked.{FunctionAsked}
 use Rattle.trace_text.specs.AnyTerm.{Leaf, AnyTerm}
 use Rattle.trace_text.specs.AnyReading.{any_whole_at}
 use Rattle.trace_text.specs.Facts.{Function, traced, arity_told, called}
@@ -14,36 +16,50 @@ use Rattle.trace_text.specs.Pretty.{leaf_text}
 use Rattle.trace_text.specs.PrettyLines.{kind_word, longest_message}
 use Rattle.trace_text.specs.Sights.{sight}
 
--- the numbers of the first and of the last entry, whether a listing is read on behind that, words for kinds with commas between them, a traced process and a function's module, name and number of arguments, each where it is asked for
+-- a function by its module, and by its name and the number of its arguments, where these are asked for
+pub record AskedFunction : Type 0 where
+  pub of_module : List ℕ
+  pub of_name : Option (List ℕ)
+  pub of_arity : Option ℕ
+
+-- words for kinds with commas between them, where there are some, traced processes and functions
+pub record Asked : Type 0 where
+  pub kinds : Option (List ℕ)
+  pub pids : List (List ℕ)
+  pub functions : List AskedFunction
+
+-- the numbers of the first and of the last entry, where they are asked for, whether a listing is read on behind that, what alone is asked for, and what isn't
 pub record Asks : Type 0 where
   pub from : Option ℕ
   pub to : Option ℕ
   pub is_whole : Bool
-  pub kinds : Option (List ℕ)
-  pub pid : Option (List ℕ)
-  pub of_module : Option (List ℕ)
-  pub of_name : Option (List ℕ)
-  pub of_arity : Option ℕ
+  pub only : Asked
+  pub not : Asked
 
-abbrev pub asks_of : Choice → Asks
-asks_of choice = record {
-  from = choice.from;
-  to = choice.to;
-  is_whole = choice.is_whole;
-  kinds = option_map string_bytes choice.kinds;
-  pid = option_map string_bytes choice.pid;
-  of_module = option_map string_bytes choice.module;
-  of_name = option_map string_bytes choice.name;
-  of_arity = choice.arity;
+abbrev pub function_asked : FunctionAsked → AskedFunction
+function_asked f = record { of_module = string_bytes f.module; of_name = option_map string_bytes f.name; of_arity = f.arity }
+
+abbrev pub asked_of : Filter → Asked
+asked_of filter = record {
+  kinds = option_map string_bytes filter.kinds;
+  pids = map string_bytes filter.pids.items;
+  functions = map function_asked filter.functions.items;
 }
 
--- nothing that is asked for is a text
+abbrev pub asks_of : Choice → Asks
+asks_of choice = record { from = choice.from; to = choice.to; is_whole = choice.is_whole; only = asked_of choice.only; not = asked_of choice.not }
+
+-- no kind, process or function is named
+abbrev pub names_nothing : Asked → Bool
+names_nothing asked = is_none asked.kinds && (length asked.pids == 0 && length asked.functions == 0)
+
+-- nothing that is asked for, or isn't, is a text
 abbrev pub asks_no_text : Asks → Bool
-asks_no_text asks = is_none asks.kinds && (is_none asks.pid && (is_none asks.of_module && is_none asks.of_name))
+asks_no_text asks = names_nothing asks.only && names_nothing asks.not
 
 -- nothing is asked for
 abbrev pub asks_nothing : Asks → Bool
-asks_nothing asks = asks_no_text asks && (is_none asks.from && (is_none asks.to && is_none asks.of_arity))
+asks_nothing asks = asks_no_text asks && (is_none asks.from && is_none asks.to)
 
 -- ---- numbers
 
@@ -68,23 +84,23 @@ ends asks number = not asks.is_whole && is_at_end asks.to number
 
 -- ---- messages
 
--- the kind is one of the words, which have commas between them
-abbrev pub is_of_kinds : Option (List ℕ) → List ℕ → Bool
-is_of_kinds None kind = true
-is_of_kinds (Some words) kind = list_any (λ word. bytes_eq word kind) (slice_split (λ byte. byte == 44) words)
+-- it is one of the words that have commas between them
+abbrev pub has_word : List ℕ → List ℕ → Bool
+has_word words kind = list_any (λ word. bytes_eq word kind) (slice_split (λ byte. byte == 44) words)
+
+-- the kind of this word is named
+abbrev pub names_kind : Option (List ℕ) → List ℕ → Bool
+names_kind None kind = false
+names_kind (Some words) kind = has_word words kind
 
 -- the text is this one, or this one between two signs
 abbrev pub is_text : ℕ → ℕ → List ℕ → List ℕ → Bool
 is_text opening closing asked shown = bytes_eq shown asked || bytes_eq shown (opening ∷ (asked ++ closing ∷ []))
 
--- the process or port is the one that a listing shows so, with or without its angle brackets
-abbrev pub is_traced : List ℕ → Option Leaf → Bool
-is_traced asked None = false
-is_traced asked (Some who) = is_text 60 62 asked (leaf_text who)
-
-abbrev pub is_of_pid : Option (List ℕ) → AnyTerm → Bool
-is_of_pid None t = true
-is_of_pid (Some asked) t = is_traced asked (traced t)
+-- the process or port is one of those that a listing shows so, with or without angle brackets
+abbrev pub is_one_traced : List (List ℕ) → Option Leaf → Bool
+is_one_traced pids None = false
+is_one_traced pids (Some who) = list_any (λ asked. is_text 60 62 asked (leaf_text who)) pids
 
 -- the atom is the one that a listing shows so, with or without its quotes, where one is asked for
 abbrev pub is_shown : Option (List ℕ) → List ℕ → Bool
@@ -100,21 +116,41 @@ abbrev pub is_of_arity : Option ℕ → AnyTerm → Bool
 is_of_arity None arguments = true
 is_of_arity (Some asked) arguments = is_count asked (arity_told arguments)
 
-abbrev pub is_called : Asks → Option Function → Bool
-is_called asks None = false
-is_called asks (Some f) = is_shown asks.of_module (leaf_text f.of_module) && (is_shown asks.of_name (leaf_text f.of_name) && is_of_arity asks.of_arity f.arguments)
+-- the function has this module, and this name and number of arguments, where these are asked for
+abbrev pub is_function : AskedFunction → Function → Bool
+is_function asked f = is_text 39 39 asked.of_module (leaf_text f.of_module) && (is_shown asked.of_name (leaf_text f.of_name) && is_of_arity asked.of_arity f.arguments)
 
--- a function of the module is told of, and of the name and number of arguments, where a module is asked for
-abbrev pub is_of_function : Asks → AnyTerm → Bool
-is_of_function asks t = is_none asks.of_module || is_called asks (called t)
+-- one of the functions is told of
+abbrev pub is_one_called : List AskedFunction → Option Function → Bool
+is_one_called functions None = false
+is_one_called functions (Some f) = list_any (λ asked. is_function asked f) functions
+
+-- where kinds are named, this is one; where processes are, it is of one; where functions are, of one
+abbrev pub is_of_kinds : Option (List ℕ) → List ℕ → Bool
+is_of_kinds kinds kind = is_none kinds || names_kind kinds kind
+
+abbrev pub is_of_pids : List (List ℕ) → AnyTerm → Bool
+is_of_pids pids t = length pids == 0 || is_one_traced pids (traced t)
+
+abbrev pub is_of_functions : List AskedFunction → AnyTerm → Bool
+is_of_functions functions t = length functions == 0 || is_one_called functions (called t)
+
+-- the message is of one of those that are named of each
+abbrev pub is_of_each : Asked → AnyTerm → Bool
+is_of_each asked t = is_of_kinds asked.kinds (kind_word (sight t).kind) && (is_of_pids asked.pids t && is_of_functions asked.functions t)
+
+-- it is of one of the kinds, or of one of the processes, or of one of the functions
+abbrev pub is_of_any : Asked → AnyTerm → Bool
+is_of_any asked t = names_kind asked.kinds (kind_word (sight t).kind) || (is_one_traced asked.pids (traced t) || is_one_called asked.functions (called t))
 
 -- what is asked of a message holds of its term
 abbrev pub suits : Asks → AnyTerm → Bool
-suits asks t = is_of_kinds asks.kinds (kind_word (sight t).kind) && (is_of_pid asks.pid t && is_of_function asks t)
+suits asks t = is_of_each asks.only t && not (is_of_any asks.not t)
 
 -- of a message that isn't read nothing is told but that
 abbrev pub suits_opaque : Asks → Bool
-suits_opaque asks = is_of_kinds asks.kinds (codes "opaque") && (is_none asks.pid && is_none asks.of_module)
+suits_opaque asks =
+    is_of_kinds asks.only.kinds (codes "opaque") && (length asks.only.pids == 0 && (length asks.only.functions == 0 && not (names_kind asks.not.kinds (codes "opaque"))))
 
 -- what was read, where it takes so many bytes
 abbrev pub if_all : Result (AnyTerm × ℕ) DecodeFault → ℕ → Option AnyTerm

@@ -1,31 +1,66 @@
 //! Which entries are listed.
-ghost use Rattle.std.specs.Prelude.{is_none, ◌≡◌, ◌&&◌, ◌∷◌, ◌++◌, ℕ, List, [], Some, length};
+ghost use Rattle.std.specs.Prelude.{◌≡◌, ◌&&◌, ◌∷◌, ◌++◌, ℕ, List, [], length};
 ghost use Rattle.std.specs.Option.{option_map};
 ghost use Rattle.std.specs.Prelude.{string_bytes};
 ghost use Rattle.std.specs.Str.{bytes_eq};
-ghost use Rattle.trace_text.specs.Choosing.{asks_of, asks_no_text, asks_nothing, is_from, is_to, ends, is_of_kinds, is_text, is_shown, suits_opaque};
+ghost use Rattle.trace_text.specs.Choosing.{asked_of, asks_of, asks_no_text, asks_nothing, has_word, is_from, is_to, ends, is_text, is_shown, names_kind, names_nothing, suits_opaque};
 
 use crate::message::front;
 
-/// Which entries of a trace are to be listed: those that all of this holds of; None stands for what isn't asked for.
-#[derive(Default, Drop)]
+/// A function that is called or returned from.
+#[derive(Drop)]
+pub struct FunctionAsked {
+    /// Its module, with or without quotes.
+    pub module: String,
+    /// Its name, where that is asked for.
+    pub name: Option<String>,
+    /// The number of its arguments, where that is asked for.
+    pub arity: Option<u64>,
+}
+
+/// Kinds, processes and functions.
+#[derive(Drop)]
+pub struct Filter {
+    /// Words for kinds, with commas between them.
+    pub kinds: Option<String>,
+    /// Traced processes, as a listing shows them, with or without their angle brackets.
+    pub pids: Vec<String>,
+    pub functions: Vec<FunctionAsked>,
+}
+
+impl Filter {
+    /// Whether it names nothing.
+    pub fn is_empty(&self) -> bool
+        ensures { result ≡ names_nothing (asked_of self.now) }
+    {
+        self.kinds.is_none() && self.pids.is_empty() && self.functions.is_empty()
+    }
+
+    /// Whether it names the kind of this word.
+    #[inline(always)]
+    pub fn names_kind(&self, kind: &[u8]) -> bool
+        ensures { result ≡ names_kind (asked_of self.now).kinds kind.now }
+    {
+        match &self.kinds {
+            Some(words) => is_among(kind, words.as_bytes()),
+            None => false,
+        }
+    }
+}
+
+/// Which entries of a trace are to be listed: those that all of this holds of.
+#[derive(Drop)]
 pub struct Choice {
-    /// The number of the first entry.
+    /// The number of the first entry, where one is asked for.
     pub from: Option<u64>,
     /// The number of the last entry, behind which a listing ends.
     pub to: Option<u64>,
     /// A listing goes on to its end all the same, and its other entries are passed over.
     pub is_whole: bool,
-    /// Words for kinds, with commas between them.
-    pub kinds: Option<String>,
-    /// The traced process, as a listing shows it, with or without its angle brackets.
-    pub pid: Option<String>,
-    /// The module of a function that is called or returned from, with or without quotes.
-    pub module: Option<String>,
-    /// Its name, where the module is asked for.
-    pub name: Option<String>,
-    /// The number of its arguments, where the name is asked for.
-    pub arity: Option<u64>,
+    /// Messages of one of the kinds, of one of the processes and of one of the functions, where some are named.
+    pub only: Filter,
+    /// Messages of none of these kinds, processes and functions.
+    pub not: Filter,
 }
 
 impl Choice {
@@ -33,14 +68,14 @@ impl Choice {
     pub fn is_all(&self) -> bool
         ensures { result ≡ asks_nothing (asks_of self.now) }
     {
-        self.has_no_text() && self.from.is_none() && self.to.is_none() && self.arity.is_none()
+        self.has_no_text() && self.from.is_none() && self.to.is_none()
     }
 
     /// Whether nothing is asked of a message but its number.
     pub fn has_no_text(&self) -> bool
         ensures { result ≡ asks_no_text (asks_of self.now) }
     {
-        self.kinds.is_none() && self.pid.is_none() && self.module.is_none() && self.name.is_none()
+        self.only.is_empty() && self.not.is_empty()
     }
 
     /// Whether the number isn't below the first that is asked for.
@@ -72,38 +107,23 @@ impl Choice {
         !self.is_whole && self.to.is_some_and(|last| last <= number)
     }
 
-    /// Whether messages of the kind of this word are asked for.
-    #[inline(always)]
-    pub fn has_kind(&self, kind: &[u8]) -> bool
-        ensures { result ≡ is_of_kinds (asks_of self.now).kinds kind.now }
-    {
-        match &self.kinds {
-            Some(words) => is_among(kind, words.as_bytes()),
-            None => true,
-        }
-    }
-
-    /// Whether nothing is asked of a message but its number and its kind.
-    pub fn has_no_part(&self) -> bool
-        ensures { result ≡ (is_none (asks_of self.now).pid
-            && is_none (asks_of self.now).of_module) }
-    {
-        self.pid.is_none() && self.module.is_none()
-    }
-
-    /// Whether a message that can't be read suits the choice: its kinds, if it names some, have `opaque`, and it names no pid and
-    /// no function.
+    /// Whether a message that can't be read suits the choice: the kinds that it names, if it does, have `opaque`, it names no process
+    /// and no function, and it doesn't exclude `opaque`.
     pub fn suits_opaque(&self) -> bool
         ensures { result ≡ suits_opaque (asks_of self.now) }
     {
-        self.has_kind(b"opaque") && self.has_no_part()
+        let only = &self.only;
+        (only.kinds.is_none() || only.names_kind(b"opaque"))
+            && only.pids.is_empty()
+            && only.functions.is_empty()
+            && !self.not.names_kind(b"opaque")
     }
 }
 
 /// Whether a word is one of those that have commas between them.
 #[inline(never)]
 fn is_among(word: &[u8], words: &[u8]) -> bool
-    ensures { result ≡ is_of_kinds (Some words.now) word.now }
+    ensures { result ≡ has_word words.now word.now }
 {
     words.split(|byte| *byte == b',').any(|one| one == word)
 }
@@ -132,7 +152,7 @@ pub fn is_text(opening: u8, closing: u8, asked: &[u8], shown: &[u8]) -> bool
 
 /// Whether the first `size` bytes of a text are this atom, with or without quotes.
 #[inline(always)]
-fn begins_so(asked: &[u8], text: &[u8], size: usize) -> bool
+pub fn begins_so(asked: &[u8], text: &[u8], size: usize) -> bool
     ensures { (own rest : List ℕ) → text.now ≡ own ++ rest → size ≡ length own
         → result ≡ is_text 39 39 asked.now own }
 {

@@ -47,7 +47,7 @@ pub use any_laws::{
     spelled_any_is_read, subset_is_spelled,
 };
 pub use atom_text::is_plain;
-pub use choice::Choice;
+pub use choice::{Choice, Filter, FunctionAsked};
 pub use choice_laws::chosen_lines_are_kept;
 pub use fact_reader::{FactReader, MessageFacts};
 pub use kinds::{KIND_COUNT, is_kind, kind_at};
