@@ -251,9 +251,14 @@ fn form<'a>(alloc: Global) -> Arg<'a> {
 }
 
 fn export<'a>(alloc: Global, command: Command<'a>) -> Result<Command<'a>, AllocError> {
-    of_files(alloc, command, "Example: dbgrec export trace > trace.out")?
-        .arg(form(alloc))?
-        .arg(salvage(alloc).conflicts_with("as")?)
+    let command = of_files(
+        alloc,
+        command,
+        "With --from, --to, --only, --pid, --mfa, --not, --not-pid or --not-mfa it writes the entries of which all of these hold, and all drop records up to --to.\n\nExample: dbgrec export trace > trace.out",
+    )?
+    .arg(form(alloc))?
+    .arg(salvage(alloc).conflicts_with("as")?)?;
+    with_choice(alloc, command)
 }
 
 fn info<'a>(alloc: Global, command: Command<'a>) -> Result<Command<'a>, AllocError> {
@@ -296,7 +301,7 @@ fn limit<'a>(alloc: Global) -> Arg<'a> {
 }
 
 fn top<'a>(alloc: Global, command: Command<'a>) -> Result<Command<'a>, AllocError> {
-    of_files(
+    let command = of_files(
         alloc,
         command,
         "Times are those between a call and its return or exception, where messages have time stamps.\n\nExample: dbgrec top trace --sort longest",
@@ -304,7 +309,8 @@ fn top<'a>(alloc: Global, command: Command<'a>) -> Result<Command<'a>, AllocErro
     .arg(by(alloc))?
     .arg(sort(alloc))?
     .arg(limit(alloc))?
-    .arg(flag(alloc, "json", "As one JSON object"))
+    .arg(flag(alloc, "json", "As one JSON object"))?;
+    with_choice(alloc, command)
 }
 
 fn wipe<'a>(alloc: Global, command: Command<'a>) -> Result<Command<'a>, AllocError> {
@@ -662,7 +668,10 @@ fn request_in<'a>(alloc: Global, matches: &ArgMatches<'a>) -> Result<Request<'a>
             request,
             shown: shown_in(alloc, matches)?,
         },
-        Some(request) => Request::OfTrace(request),
+        Some(request) => Request::OfTrace {
+            request,
+            shown: Shown::of(choice_in(alloc, matches)?),
+        },
         None if name == "stream" => Request::Stream {
             is_pretty: is_pretty(matches),
             longest: longest_shown(matches)?,
