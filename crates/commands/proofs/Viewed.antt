@@ -7,6 +7,7 @@ use Rattle.trace_store.specs.Disk.{Image}
 use Rattle.segment.proofs.Taking.{reads_both}
 use Rattle.stores.specs.FolderStore.{honest_of, reads_of, images_of, moments_of, clock_of}
 use Rattle.stores.specs.declared.folder_store.FolderStore.{FolderStore}
+use Rattle.trace_text.specs.Choosing.{Asks}
 use Rattle.trace_client.specs.Forms.{as_bytes}
 use Rattle.foreign_files.specs.Standing.{IsStanding}
 use Rattle.foreign_files.specs.declared.standing.Standing.TheVariants as standings
@@ -32,15 +33,15 @@ use Rattle.commands.specs.declared.viewing.Uncounted.{Uncounted}
 use Rattle.commands.specs.declared.viewing.Uncounted.TheVariants as whys
 
 -- a trace was written whole, or why it wasn't
-pub read_so : (image : Image) (old now : Option (List ℕ)) (result : Result Unit ReadFailure) → OnOk result ((text : List ℕ) × WritesStore as_bytes image text × Appends old now text) → OnOk result (IsStanding standings.Ours image) → IfErr result (λ failure. IsWhyNotRead failure.fault image) → IsReadInto image old now result
-read_so image old now (Ok done) wrote there why_not = (there, wrote)
-read_so image old now (Err failure) wrote there why_not = why_not
+pub read_so : (asks : Option Asks) (image : Image) (old now : Option (List ℕ)) (result : Result Unit ReadFailure) → OnOk result ((text : List ℕ) × WritesStore (as_bytes asks) image text × Appends old now text) → OnOk result (IsStanding standings.Ours image) → IfErr result (λ failure. IsWhyNotRead failure.fault image) → IsReadInto asks image old now result
+read_so asks image old now (Ok done) wrote there why_not = (there, wrote)
+read_so asks image old now (Err failure) wrote there why_not = why_not
 
 -- a view that had seen nothing was given an export
-pub exported : (image : Image) (first : List Entry) (held : List ℕ) (seen : List Entry) (pending : List ℕ) (taken : List Entry) → first ≡ [] → held ≡ [] → IsStanding standings.Ours image
-    → ((text : List ℕ) × WritesStore as_bytes image text × Appends (stream_contents first held) (stream_contents seen pending) text)
-    → ((entries : List Entry) → FitHeads entries → stream_contents seen pending ≡ Some (bytes_of entries) → taken ≡ entries) → AreExported image taken
-exported image first held seen pending taken none empty there wrote are =
+pub exported : (asks : Option Asks) (image : Image) (first : List Entry) (held : List ℕ) (seen : List Entry) (pending : List ℕ) (taken : List Entry) → first ≡ [] → held ≡ [] → IsStanding standings.Ours image
+    → ((text : List ℕ) × WritesStore (as_bytes asks) image text × Appends (stream_contents first held) (stream_contents seen pending) text)
+    → ((entries : List Entry) → FitHeads entries → stream_contents seen pending ≡ Some (bytes_of entries) → taken ≡ entries) → AreExported asks image taken
+exported asks image first held seen pending taken none empty there wrote are =
     let behind = subst (λ (l : List ℕ). Appends (stream_contents [] l) (stream_contents seen pending) wrote.0) empty (subst (λ (l : List Entry). Appends (stream_contents l held) (stream_contents seen pending) wrote.0) none wrote.2) in
     record {
       there = there;
@@ -50,14 +51,14 @@ exported image first held seen pending taken none empty there wrote are =
     }
 
 -- what is told where it isn't counted
-pub not_counted : {V : Type 0} (seen : V → List Entry) (Told : SimFault → Complaint → Type 0) (base : List ℕ) (image : Image) (why : Uncounted) (complaint : Complaint) → IsViewed seen image (Err why) → TellsWhy Told base why complaint → IsTop Told base image (Err complaint)
-not_counted seen Told base image (whys.ReadFailure failure) complaint why_not told = refused failure.fault complaint why_not told
-not_counted seen Told base image (whys.View views.NoMemory) complaint why_not told = not_told complaint (inr told)
-not_counted seen Told base image (whys.View views.TooMany) complaint why_not told = elim told [
+pub not_counted : {V : Type 0} (asks : Option Asks) (seen : V → List Entry) (Told : SimFault → Complaint → Type 0) (base : List ℕ) (image : Image) (why : Uncounted) (complaint : Complaint) → IsViewed asks seen image (Err why) → TellsWhy Told base why complaint → IsTop asks Told base image (Err complaint)
+not_counted asks seen Told base image (whys.ReadFailure failure) complaint why_not told = refused failure.fault complaint why_not told
+not_counted asks seen Told base image (whys.View views.NoMemory) complaint why_not told = not_told complaint (inr told)
+not_counted asks seen Told base image (whys.View views.TooMany) complaint why_not told = elim told [
   | inl rows ↦ too_many complaint rows
   | inr memory ↦ not_told complaint (inr memory)
 ]
-not_counted seen Told base image (whys.View views.Write) complaint why_not told = not_told complaint (inl told)
+not_counted asks seen Told base image (whys.View views.Write) complaint why_not told = not_told complaint (inl told)
 
 -- at the same place
 pub why_moved : (was now : Place) (store : FolderStore) (why : Uncounted) (complaint : Complaint) → now ≡ was → TellsWhy (IsToldAt now store) now.base.now why complaint → TellsWhy (IsToldAt was store) was.base.now why complaint
@@ -78,21 +79,21 @@ honest_then mid new more h = elim more [
 ]
 
 -- a table was written out, or not
-pub is_top : (Told : SimFault → Complaint → Type 0) (base : List ℕ) (image : Image) (top : Top) (result : Result Unit Complaint) → AreExported image (taken_by top) → IsCounted top.tallies (tellings (taken_by top)) → IfErr result IsOfWriter → IsTop Told base image result
-is_top Told base image top (Ok done) are counts unwritten = counted top are counts
-is_top Told base image top (Err complaint) are counts unwritten = not_told complaint (inl unwritten)
+pub is_top : (asks : Option Asks) (Told : SimFault → Complaint → Type 0) (base : List ℕ) (image : Image) (top : Top) (result : Result Unit Complaint) → AreExported asks image (taken_by top) → IsCounted top.tallies (tellings (taken_by top)) → IfErr result IsOfWriter → IsTop asks Told base image result
+is_top asks Told base image top (Ok done) are counts unwritten = counted top are counts
+is_top asks Told base image top (Err complaint) are counts unwritten = not_told complaint (inl unwritten)
 
 -- stacks were
-pub is_fold : (Told : SimFault → Complaint → Type 0) (base : List ℕ) (image : Image) (stacks : Folded) (result : Result Unit Complaint) → AreExported image (folded_by stacks) → ((text : List ℕ) → calls_at stacks.stacks.rows.rows text ≡ calls_of text (acts_in (folded_by stacks))) → IfErr result IsOfWriter → IsFold Told base image result
-is_fold Told base image stacks (Ok done) are calls unwritten = folded stacks are calls
-is_fold Told base image stacks (Err complaint) are calls unwritten = not_folded complaint (not_told complaint (inl unwritten))
+pub is_fold : (asks : Option Asks) (Told : SimFault → Complaint → Type 0) (base : List ℕ) (image : Image) (stacks : Folded) (result : Result Unit Complaint) → AreExported asks image (folded_by stacks) → ((text : List ℕ) → calls_at stacks.stacks.rows.rows text ≡ calls_of text (acts_in (folded_by stacks))) → IfErr result IsOfWriter → IsFold asks Told base image result
+is_fold asks Told base image stacks (Ok done) are calls unwritten = folded stacks are calls
+is_fold asks Told base image stacks (Err complaint) are calls unwritten = not_folded complaint (not_told complaint (inl unwritten))
 
 -- events were
-pub is_drawn : (Told : SimFault → Complaint → Type 0) (base : List ℕ) (image : Image) (entries : List Entry) (result : Result Unit Complaint) → AreExported image entries → IfErr result IsOfWriter → IsDrawn Told base image result
-is_drawn Told base image entries (Ok done) are unwritten = drawn entries are
-is_drawn Told base image entries (Err complaint) are unwritten = not_drawn complaint (not_told complaint (inl unwritten))
+pub is_drawn : (asks : Option Asks) (Told : SimFault → Complaint → Type 0) (base : List ℕ) (image : Image) (entries : List Entry) (result : Result Unit Complaint) → AreExported asks image entries → IfErr result IsOfWriter → IsDrawn asks Told base image result
+is_drawn asks Told base image entries (Ok done) are unwritten = drawn entries are
+is_drawn asks Told base image entries (Err complaint) are unwritten = not_drawn complaint (not_told complaint (inl unwritten))
 
 -- stacks couldn't be
-pub no_fold : (Told : SimFault → Complaint → Type 0) (base : List ℕ) (image : Image) (result : Result Unit Complaint) → IsErr result → IfErr result IsOfWriter → IsFold Told base image result
-no_fold Told base image (Ok done) err unwritten = absurd (cc)
-no_fold Told base image (Err complaint) err unwritten = not_folded complaint (not_told complaint (inl unwritten))
+pub no_fold : (asks : Option Asks) (Told : SimFault → Complaint → Type 0) (base : List ℕ) (image : Image) (result : Result Unit Complaint) → IsErr result → IfErr result IsOfWriter → IsFold asks Told base image result
+no_fold asks Told base image (Ok done) err unwritten = absurd (cc)
+no_fold asks Told base image (Err complaint) err unwritten = not_folded complaint (not_told complaint (inl unwritten))

@@ -20,7 +20,7 @@ use Rattle.trace_text.specs.declared.style.Wording.TheVariants.{Plain, Pretty}
 use Rattle.trace_text.specs.declared.style.Notation.{Notation}
 use Rattle.trace_text.specs.declared.style.Notation.TheVariants.{Text, Json}
 use Rattle.command_line.specs.declared.request.Shown.{Shown}
-use Rattle.trace_text.specs.Choosing.{asks_of}
+use Rattle.trace_text.specs.Choosing.{Asks, asks_of}
 use Rattle.trace_text.specs.Lines.{asks_in}
 use Rattle.foreign_files.specs.Clearing.{AreCleared, IsClearing, HasNoForeign}
 use Rattle.foreign_files.specs.Standing.{IsStanding}
@@ -170,16 +170,20 @@ abbrev pub notation_of : Bool → Notation
 notation_of false = Text
 notation_of true = Json
 
+-- which entries are asked for
+abbrev pub asks_shown : Shown → Option Asks
+asks_shown shown = option_map asks_of shown.choice
+
 -- a style in which messages are told so, and the entries are listed that are shown, by lines or by objects
 pub record IsStyleOf (is_pretty : Bool) (shown : Shown) (style : Style) : Type 0 where
   pub wording : style.wording ≡ wording_of is_pretty
   pub notation : style.notation ≡ notation_of shown.is_json
-  pub asks : asks_in style ≡ option_map asks_of shown.choice
+  pub asks : asks_in style ≡ asks_shown shown
 
 -- how entries are written
 abbrev pub IsWrittenAs : Written → Shown → Form → Type 0
 IsWrittenAs (written.Lines is_pretty) shown form = (style : Style) × IsStyleOf is_pretty shown style × (form ≡ as_lines style)
-IsWrittenAs written.Stream shown form = form ≡ as_bytes
+IsWrittenAs written.Stream shown form = form ≡ as_bytes (asks_shown shown)
 
 -- why the listing of a stream came to no end, and what is written then: by a fault, which is told, and the lines before it; or there was no room to read it, and nothing is written
 pub data EndsStream (style : StreamStyle) (had old new : Option (List ℕ)) (complaint : Complaint) : Type 0 where
@@ -201,18 +205,18 @@ Changes _ = Unit {0}
 abbrev pub Serves : TraceRequest → Shown → Files → Files → Outside → Observations → Option (List ℕ) → Option (List ℕ) → Result Unit Complaint → Type 0
 Serves (requests.List asked is_pretty) shown old new saw observed was now result = (style : Style) × IsStyleOf is_pretty shown style
     × LooksOver old.store new.store (most_with result (most_to_read (reads_of old.store)) (reads_of old.store)) (IsRead (as_lines style) (IsToldAt old.place new.store) (reads_of old.store) was now result)
-Serves (requests.Export asked) shown old new saw observed was now result = LooksOver old.store new.store (most_with result (most_to_read (reads_of old.store)) (reads_of old.store)) (IsRead as_bytes (IsToldAt old.place new.store) (reads_of old.store) was now result)
+Serves (requests.Export asked) shown old new saw observed was now result = LooksOver old.store new.store (most_with result (most_to_read (reads_of old.store)) (reads_of old.store)) (IsRead (as_bytes (asks_shown shown)) (IsToldAt old.place new.store) (reads_of old.store) was now result)
 Serves (requests.Salvage asked form) shown old new saw observed was now result = (out : Form) × IsWrittenAs form shown out
     × LooksOver old.store new.store (most_to_salvage (reads_of old.store)) (IfErr result (IsSalvage out (IsToldAt old.place new.store) (Rose (failures_of old.store) (failures_of new.store)) (reads_of old.store) was now)) × IsErr result × IfErr result (λ complaint. status_told complaint ≡ 1)
 Serves (requests.Info asked is_json) shown old new saw observed was now result = LooksOver old.store new.store (most_to_inform result (reads_of old.store)) (IsInfo (IsToldAt old.place new.store) (reads_of old.store) result) × IfErr result (λ complaint. status_told complaint ≡ 1)
 Serves (requests.Fold asked) shown old new saw observed was now result =
-    LooksOver old.store new.store (most_with result (most_to_read (reads_of old.store)) (reads_of old.store)) (IsFold (IsToldAt old.place new.store) old.place.base.now (reads_of old.store) result)
+    LooksOver old.store new.store (most_with result (most_to_read (reads_of old.store)) (reads_of old.store)) (IsFold (asks_shown shown) (IsToldAt old.place new.store) old.place.base.now (reads_of old.store) result)
     × IfErr result (λ complaint. status_told complaint ≡ 1)
 Serves (requests.Draw asked) shown old new saw observed was now result =
-    LooksOver old.store new.store (most_with result (most_to_read (reads_of old.store)) (reads_of old.store)) (IsDrawn (IsToldAt old.place new.store) old.place.base.now (reads_of old.store) result)
+    LooksOver old.store new.store (most_with result (most_to_read (reads_of old.store)) (reads_of old.store)) (IsDrawn (asks_shown shown) (IsToldAt old.place new.store) old.place.base.now (reads_of old.store) result)
     × IfErr result (λ complaint. status_told complaint ≡ 1)
 Serves (requests.Top asked ranking is_json) shown old new saw observed was now result =
-    LooksOver old.store new.store (most_with result (most_to_read (reads_of old.store)) (reads_of old.store)) (IsTop (IsToldAt old.place new.store) old.place.base.now (reads_of old.store) result)
+    LooksOver old.store new.store (most_with result (most_to_read (reads_of old.store)) (reads_of old.store)) (IsTop (asks_shown shown) (IsToldAt old.place new.store) old.place.base.now (reads_of old.store) result)
     × IfErr result (λ complaint. status_told complaint ≡ 1)
 Serves (requests.Wipe asked is_forced) shown old new saw observed was now result = (honest_of new.store → Clears (clearing_of is_forced) old.place old.store new.store was now result)
     × (honest_of new.store → IsNotToWipe (clearing_of is_forced) (reads_of old.store) → OnlyLooks old.store new.store) × (honest_of new.store → LeavesOnly clock_of moments_of old.store new.store (IsClearing (images_of old.store)))

@@ -4,6 +4,7 @@ use Rattle.std.specs.Io.KnownBytes.{Appends}
 use Rattle.std.specs.String.{string_bytes}
 use Rattle.entry_codec.specs.Entries.{Entry, bytes_of}
 use Rattle.trace_store.specs.Disk.{Image}
+use Rattle.trace_text.specs.Choosing.{Asks}
 use Rattle.trace_client.specs.Forms.{as_bytes}
 use Rattle.foreign_files.specs.Standing.{IsStanding}
 use Rattle.foreign_files.specs.declared.standing.Standing.TheVariants as standings
@@ -42,23 +43,23 @@ folded_by folded = folded_view.ghosts.seen folded
 abbrev pub drawn_by : (W : Type 0) → Perfetto W → List Entry
 drawn_by W perfetto = perfetto.taken.entries
 
--- the entries that an export of a trace has: whichever have its text, they are these
-pub record AreExported (image : Image) (taken : List Entry) : Type 0 where
+-- the entries that an export of a trace has, of those that are asked for: whichever have its text, they are these
+pub record AreExported (asks : Option Asks) (image : Image) (taken : List Entry) : Type 0 where
   pub there : IsStanding standings.Ours image
   pub text : List ℕ
-  pub writes : WritesStore as_bytes image text
+  pub writes : WritesStore (as_bytes asks) image text
   pub are : (entries : List Entry) → FitHeads entries → text ≡ bytes_of entries → taken ≡ entries
 
 -- the bytes of a writer grew by those that an export writes; or why the trace isn't read
-abbrev pub IsReadInto : Image → Option (List ℕ) → Option (List ℕ) → Result Unit ReadFailure → Type 0
-IsReadInto image old new (Ok done) = IsStanding standings.Ours image × ((text : List ℕ) × WritesStore as_bytes image text × Appends old new text)
-IsReadInto image old new (Err failure) = IsWhyNotRead failure.fault image
+abbrev pub IsReadInto : Option Asks → Image → Option (List ℕ) → Option (List ℕ) → Result Unit ReadFailure → Type 0
+IsReadInto asks image old new (Ok done) = IsStanding standings.Ours image × ((text : List ℕ) × WritesStore (as_bytes asks) image text × Appends old new text)
+IsReadInto asks image old new (Err failure) = IsWhyNotRead failure.fault image
 
 -- what a reading came to: a view has seen these; or why the trace isn't read, or no more is taken
-abbrev pub IsViewed : {V : Type 0} → (V → List Entry) → Image → Result V Uncounted → Type 0
-IsViewed seen image (Ok view) = AreExported image (seen view)
-IsViewed seen image (Err (whys.ReadFailure failure)) = IsWhyNotRead failure.fault image
-IsViewed seen image (Err (whys.View fault)) = Unit {0}
+abbrev pub IsViewed : {V : Type 0} → Option Asks → (V → List Entry) → Image → Result V Uncounted → Type 0
+IsViewed asks seen image (Ok view) = AreExported asks image (seen view)
+IsViewed asks seen image (Err (whys.ReadFailure failure)) = IsWhyNotRead failure.fault image
+IsViewed asks seen image (Err (whys.View fault)) = Unit {0}
 
 -- that there are too many rows is told with the name of the trace
 abbrev pub IsOfRows : List ℕ → Complaint → Type 0
@@ -72,19 +73,19 @@ TellsWhy Told base (whys.View views.NoMemory) complaint = IsOfMemory complaint
 TellsWhy Told base (whys.View views.TooMany) complaint = IsOfRows base complaint ⊎ IsOfMemory complaint
 TellsWhy Told base (whys.View views.Write) complaint = IsOfWriter complaint
 
--- how it ended: all entries that an export of the trace has were counted, and that was told; or why it isn't read; or there are too many rows; or it couldn't be told
-pub data IsTop (Told : SimFault → Complaint → Type 0) (base : List ℕ) (image : Image) : Result Unit Complaint → Type 0 where
-  counted : (top : Top) → AreExported image (taken_by top) → IsCounted top.tallies (tellings (taken_by top)) → IsTop Told base image (Ok tt)
-  refused : (fault : ReadFault) (complaint : Complaint) → IsWhyNotRead fault image → Told (read_fault fault) complaint → IsTop Told base image (Err complaint)
-  too_many : (complaint : Complaint) → IsOfRows base complaint → IsTop Told base image (Err complaint)
-  not_told : (complaint : Complaint) → IsOfWriter complaint ⊎ IsOfMemory complaint → IsTop Told base image (Err complaint)
+-- how it ended: all entries that an export of the trace has, of those that are asked for, were counted, and that was told; or why it isn't read; or there are too many rows; or it couldn't be told
+pub data IsTop (asks : Option Asks) (Told : SimFault → Complaint → Type 0) (base : List ℕ) (image : Image) : Result Unit Complaint → Type 0 where
+  counted : (top : Top) → AreExported asks image (taken_by top) → IsCounted top.tallies (tellings (taken_by top)) → IsTop asks Told base image (Ok tt)
+  refused : (fault : ReadFault) (complaint : Complaint) → IsWhyNotRead fault image → Told (read_fault fault) complaint → IsTop asks Told base image (Err complaint)
+  too_many : (complaint : Complaint) → IsOfRows base complaint → IsTop asks Told base image (Err complaint)
+  not_told : (complaint : Complaint) → IsOfWriter complaint ⊎ IsOfMemory complaint → IsTop asks Told base image (Err complaint)
 
 -- the same of stacks of calls: each was counted as often as the entries say that it was called
-pub data IsFold (Told : SimFault → Complaint → Type 0) (base : List ℕ) (image : Image) : Result Unit Complaint → Type 0 where
-  folded : (folded : Folded) → AreExported image (folded_by folded) → ((text : List ℕ) → calls_at folded.stacks.rows.rows text ≡ calls_of text (acts_in (folded_by folded))) → IsFold Told base image (Ok tt)
-  not_folded : (complaint : Complaint) → IsTop Told base image (Err complaint) → IsFold Told base image (Err complaint)
+pub data IsFold (asks : Option Asks) (Told : SimFault → Complaint → Type 0) (base : List ℕ) (image : Image) : Result Unit Complaint → Type 0 where
+  folded : (folded : Folded) → AreExported asks image (folded_by folded) → ((text : List ℕ) → calls_at folded.stacks.rows.rows text ≡ calls_of text (acts_in (folded_by folded))) → IsFold asks Told base image (Ok tt)
+  not_folded : (complaint : Complaint) → IsTop asks Told base image (Err complaint) → IsFold asks Told base image (Err complaint)
 
 -- the same of events: what they are written for has taken all entries that an export of the trace has
-pub data IsDrawn (Told : SimFault → Complaint → Type 0) (base : List ℕ) (image : Image) : Result Unit Complaint → Type 0 where
-  drawn : (entries : List Entry) → AreExported image entries → IsDrawn Told base image (Ok tt)
-  not_drawn : (complaint : Complaint) → IsTop Told base image (Err complaint) → IsDrawn Told base image (Err complaint)
+pub data IsDrawn (asks : Option Asks) (Told : SimFault → Complaint → Type 0) (base : List ℕ) (image : Image) : Result Unit Complaint → Type 0 where
+  drawn : (entries : List Entry) → AreExported asks image entries → IsDrawn asks Told base image (Ok tt)
+  not_drawn : (complaint : Complaint) → IsTop asks Told base image (Err complaint) → IsDrawn asks Told base image (Err complaint)

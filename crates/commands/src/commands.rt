@@ -80,16 +80,18 @@ pub fn serve_trace<R: Read + Drop, W: Write, H: Host>(
             asked: _,
             is_pretty,
         } => read_trace(files, OutputForm::Lines(style(is_pretty, shown)), watched),
-        TraceRequest::Export(_) => read_trace(files, OutputForm::Stream, watched),
-        TraceRequest::Fold(_) => fold(files, watched),
-        TraceRequest::Draw(_) => draw(files, watched),
+        TraceRequest::Export(_) => {
+            read_trace(files, OutputForm::Stream(shown.choice.as_ref()), watched)
+        }
+        TraceRequest::Fold(_) => fold(files, shown.choice.as_ref(), watched),
+        TraceRequest::Draw(_) => draw(files, shown.choice.as_ref(), watched),
         TraceRequest::Salvage { asked: _, form } => salvage(files, form, shown, watched),
         TraceRequest::Info { asked: _, is_json } => info(files, is_json, watched),
         TraceRequest::Top {
             asked: _,
             ranking,
             is_json,
-        } => top(files, ranking, is_json, watched),
+        } => top(files, shown.choice.as_ref(), ranking, is_json, watched),
         TraceRequest::Wipe {
             asked: _,
             is_forced,
@@ -157,7 +159,7 @@ fn stage<W: Write, H: Host>(output_form: OutputForm<'_>, watched: &Watched<'_, W
             entries: watched.entries(),
             shown: watched.shown(),
         },
-        OutputForm::Stream => Stage::Exporting(watched.entries()),
+        OutputForm::Stream(_) => Stage::Exporting(watched.entries()),
     }
 }
 

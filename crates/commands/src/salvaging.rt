@@ -23,7 +23,7 @@ fn output_form(form: Form, shown: &Shown) -> OutputForm<'_>
 {
     match form {
         Form::Lines { is_pretty } => OutputForm::Lines(style(is_pretty, shown)),
-        Form::Stream => OutputForm::Stream,
+        Form::Stream => OutputForm::Stream(shown.choice.as_ref()),
     }
 }
 

@@ -1,6 +1,7 @@
-//! The entries of a trace are looked at, and what its messages tell is counted.
+//! The entries of a trace are looked at, those that are asked for, and what their messages tell is counted.
 ghost use Rattle.std.specs.Prelude.{◌≡◌, ◌⊎◌, [], IfOk, IfErr};
 ghost use Rattle.stores.specs.FolderStore.{reads_of};
+ghost use Rattle.trace_text.specs.Chooses.{asks_where};
 ghost use Rattle.faults.specs.Complaints.{status_told};
 ghost use Rattle.commands.specs.{Files.CallsToTell, Files.LooksOver, Files.OnlyLooks, Files.most_with, Live.most_to_read, Naming.IsToldAt, Telling.IsOfMemory, Telling.IsOfWriter, Viewing.drawn_by, Viewing.folded_by, Viewing.taken_by, Viewing.IsDrawn, Viewing.IsFold, Viewing.IsViewed, Viewing.IsOfRows, Viewing.IsReadInto, Viewing.IsTop, Viewing.TellsWhy};
 
@@ -16,6 +17,7 @@ use std::io::{self, Write};
 use std::mem;
 use trace_reader::{Host, OutputForm, Watched};
 use trace_summary::{Folded, Perfetto, StreamView, Top, View, ViewFault};
+use trace_text::Choice;
 
 /// Why a trace isn't counted.
 #[derive(Clone, Copy)]
@@ -29,15 +31,16 @@ pub enum Uncounted {
 /// Reads a trace into a writer, as an export writes it.
 fn read_into<W: Write, H: Host>(
     files: &mut Files<'_>,
+    choice: Option<&Choice>,
     watched: &mut Watched<'_, W, H>,
 ) -> Result<(), ReadFailure>
     ensures read { LooksOver files.old.store files.new.store
         (most_to_read (reads_of files.old.store))
-        (IsReadInto (reads_of files.old.store) (W.contents watched.old.writer.now)
-        (W.contents watched.new.writer.now) result) }
+        (IsReadInto (asks_where choice.entry) (reads_of files.old.store)
+        (W.contents watched.old.writer.now) (W.contents watched.new.writer.now) result) }
     ensures place { files.new.place ≡ files.old.place }
 {
-    let done = read_live(files, OutputForm::Stream, watched);
+    let done = read_live(files, OutputForm::Stream(choice), watched);
     watched.host.clear();
     done
 }
@@ -45,6 +48,7 @@ fn read_into<W: Write, H: Host>(
 /// Reads a trace, and hands its entries to a view that has seen none. The other one takes its place meanwhile.
 fn look_at<V: View + Drop, H: Host>(
     files: &mut Files<'_>,
+    choice: Option<&Choice>,
     view: V,
     other: V,
     host: &mut H,
@@ -53,13 +57,13 @@ fn look_at<V: View + Drop, H: Host>(
     requires other { V.seen other ≡ [] }
     ensures viewed { LooksOver files.old.store files.new.store
         (most_to_read (reads_of files.old.store))
-        (IsViewed V.seen (reads_of files.old.store) result) }
+        (IsViewed (asks_where choice.entry) V.seen (reads_of files.old.store) result) }
     ensures place { files.new.place ≡ files.old.place }
 {
     let alloc = files.alloc();
     let mut first = StreamView::new(alloc, view);
     let mut watched = Watched::new(&mut first, host);
-    let done = read_into(files, &mut watched);
+    let done = read_into(files, choice, &mut watched);
     let stream = mem::replace(&mut *watched.writer, StreamView::new(alloc, other));
     drop(watched);
     drop(first);
@@ -72,41 +76,50 @@ fn look_at<V: View + Drop, H: Host>(
 }
 
 /// Reads a trace, and counts what its messages tell.
-fn count<H: Host>(files: &mut Files<'_>, host: &mut H) -> Result<Top, Uncounted>
+fn count<H: Host>(
+    files: &mut Files<'_>,
+    choice: Option<&Choice>,
+    host: &mut H,
+) -> Result<Top, Uncounted>
     ensures counted { LooksOver files.old.store files.new.store
         (most_to_read (reads_of files.old.store))
-        (IsViewed taken_by (reads_of files.old.store) result) }
+        (IsViewed (asks_where choice.entry) taken_by (reads_of files.old.store) result) }
     ensures place { files.new.place ≡ files.old.place }
 {
     let alloc = files.alloc();
-    look_at(files, Top::new(alloc), Top::new(alloc), host)
+    look_at(files, choice, Top::new(alloc), Top::new(alloc), host)
 }
 
 /// Reads a trace, and counts the stacks of its calls.
-fn count_stacks<H: Host>(files: &mut Files<'_>, host: &mut H) -> Result<Folded, Uncounted>
+fn count_stacks<H: Host>(
+    files: &mut Files<'_>,
+    choice: Option<&Choice>,
+    host: &mut H,
+) -> Result<Folded, Uncounted>
     ensures counted { LooksOver files.old.store files.new.store
         (most_to_read (reads_of files.old.store))
-        (IsViewed folded_by (reads_of files.old.store) result) }
+        (IsViewed (asks_where choice.entry) folded_by (reads_of files.old.store) result) }
     ensures place { files.new.place ≡ files.old.place }
 {
     let alloc = files.alloc();
-    look_at(files, Folded::new(alloc), Folded::new(alloc), host)
+    look_at(files, choice, Folded::new(alloc), Folded::new(alloc), host)
 }
 
 /// Reads a trace, and writes events for what its entries tell.
 fn draw_into<'w, W: Write, H: Host>(
     files: &mut Files<'_>,
+    choice: Option<&Choice>,
     out: &'w mut W,
     host: &mut H,
 ) -> Result<Perfetto<'w, W>, Uncounted>
     ensures drawn { LooksOver files.old.store files.new.store
         (most_to_read (reads_of files.old.store))
-        (IsViewed (drawn_by W) (reads_of files.old.store) result) }
+        (IsViewed (asks_where choice.entry) (drawn_by W) (reads_of files.old.store) result) }
     ensures place { files.new.place ≡ files.old.place }
 {
     let alloc = files.alloc();
     let view = Perfetto::new(alloc, Some(out));
-    look_at(files, view, Perfetto::new(alloc, None), host)
+    look_at(files, choice, view, Perfetto::new(alloc, None), host)
 }
 
 /// What is told of a trace that has more rows than are counted.
@@ -163,17 +176,18 @@ fn write_out<W: Write>(written: io::Result<()>, out: &mut W) -> Result<(), Compl
 /// Counts what the messages of a trace tell, and writes the rows that are asked for.
 pub fn top<W: Write, H: Host>(
     files: &mut Files<'_>,
+    choice: Option<&Choice>,
     ranking: Ranking,
     is_json: bool,
     watched: &mut Watched<'_, W, H>,
 ) -> Result<(), Complaint>
     ensures ended { LooksOver files.old.store files.new.store
         (most_with result (most_to_read (reads_of files.old.store)) (reads_of files.old.store))
-        (IsTop (IsToldAt files.old.place files.new.store) files.old.place.base.now
-        (reads_of files.old.store) result) }
+        (IsTop (asks_where choice.entry) (IsToldAt files.old.place files.new.store)
+        files.old.place.base.now (reads_of files.old.store) result) }
     ensures status { IfErr result (λ complaint. status_told complaint ≡ 1) }
 {
-    let top = match count(files, &mut *watched.host) {
+    let top = match count(files, choice, &mut *watched.host) {
         Ok(top) => top,
         Err(why) => return Err(told(files, why, "top")),
     };
@@ -186,15 +200,16 @@ pub fn top<W: Write, H: Host>(
 /// Counts the stacks of calls of a trace, and writes a line for each.
 pub fn fold<W: Write, H: Host>(
     files: &mut Files<'_>,
+    choice: Option<&Choice>,
     watched: &mut Watched<'_, W, H>,
 ) -> Result<(), Complaint>
     ensures ended { LooksOver files.old.store files.new.store
         (most_with result (most_to_read (reads_of files.old.store)) (reads_of files.old.store))
-        (IsFold (IsToldAt files.old.place files.new.store) files.old.place.base.now
-        (reads_of files.old.store) result) }
+        (IsFold (asks_where choice.entry) (IsToldAt files.old.place files.new.store)
+        files.old.place.base.now (reads_of files.old.store) result) }
     ensures status { IfErr result (λ complaint. status_told complaint ≡ 1) }
 {
-    let folded = match count_stacks(files, &mut *watched.host) {
+    let folded = match count_stacks(files, choice, &mut *watched.host) {
         Ok(folded) => folded,
         Err(why) => return Err(told(files, why, "export")),
     };
@@ -207,15 +222,16 @@ pub fn fold<W: Write, H: Host>(
 /// Writes events for what the entries of a trace tell. Where no time is told, standard error says how there are some.
 pub fn draw<W: Write, H: Host>(
     files: &mut Files<'_>,
+    choice: Option<&Choice>,
     watched: &mut Watched<'_, W, H>,
 ) -> Result<(), Complaint>
     ensures ended { LooksOver files.old.store files.new.store
         (most_with result (most_to_read (reads_of files.old.store)) (reads_of files.old.store))
-        (IsDrawn (IsToldAt files.old.place files.new.store) files.old.place.base.now
-        (reads_of files.old.store) result) }
+        (IsDrawn (asks_where choice.entry) (IsToldAt files.old.place files.new.store)
+        files.old.place.base.now (reads_of files.old.store) result) }
     ensures status { IfErr result (λ complaint. status_told complaint ≡ 1) }
 {
-    let mut drawn = match draw_into(files, &mut *watched.writer, &mut *watched.host) {
+    let mut drawn = match draw_into(files, choice, &mut *watched.writer, &mut *watched.host) {
         Ok(drawn) => drawn,
         Err(why) => return Err(told(files, why, "export")),
     };

@@ -25,3 +25,4 @@ pub mod Choosing
 pub mod Objects
 pub mod PartLines
 pub mod MessageFacts
+pub mod Chooses

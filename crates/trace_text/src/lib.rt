@@ -6,8 +6,9 @@
 //! (`IsObject`), whose text reads back as that object (law `objects_read_back`). A message that spells no such term is opaque:
 //! its size stands there. `IsListing` is a whole listing, with the lines that `put_before` and `put_end` put. A `Choice` asks for
 //! entries by their numbers and terms (`chooses`): its listing has the lines of the whole one whose entries it asks for, in
-//! order, and an empty line where it ends (law `chosen_lines_are_kept`). Where memory runs out, nothing is said of the text.
-//! Nothing is read or written out here, and no message is put together from several entries.
+//! order, and an empty line where it ends (law `chosen_lines_are_kept`); a `Chooser` says the same of entries that have no line.
+//! Where memory runs out, nothing is said of the text. Nothing is read or written out here, and no message is put together from
+//! several entries.
 #![tactic(auto)]
 
 mod any_laws;
@@ -19,6 +20,7 @@ mod big_text;
 mod char_text;
 mod choice;
 mod choice_laws;
+mod chooser;
 mod chosen;
 mod controls;
 mod escapes;
@@ -49,6 +51,7 @@ pub use any_laws::{
 pub use atom_text::is_plain;
 pub use choice::{Choice, Filter, FunctionAsked};
 pub use choice_laws::chosen_lines_are_kept;
+pub use chooser::Chooser;
 pub use fact_reader::{FactReader, MessageFacts};
 pub use kinds::{KIND_COUNT, is_kind, kind_at};
 pub use line::{Apart, put_before, put_end, put_line, put_missing, put_unread_line, whole_term};

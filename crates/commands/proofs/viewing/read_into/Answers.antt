@@ -1,3 +1,4 @@
+use Rattle.trace_text.specs.Chooses.{asks_where}
 use Rattle.stores.specs.FolderStore.{reads_of, clock_of}
 use Rattle.commands.proofs.Bounds.{most_read}
 use Rattle.commands.proofs.Viewed.{read_so}
@@ -11,5 +12,5 @@ returns-clause-read g c =
     record {
       only_reads = call.ensures.only_reads;
       at_most = λ h. most_read image (clock_of c.args.files.now.store) (clock_of call.new.files.store) (call.ensures.at_most h) (call.ensures.once h);
-      told = λ h. read_so image (contents c.args.watched.now.writer.now) (contents call.new.watched.writer.now) call.result (call.ensures.tells h) (call.ensures.there h) (call.ensures.why_not h);
+      told = λ h. read_so (asks_where c.args.choice) image (contents c.args.watched.now.writer.now) (contents call.new.watched.writer.now) call.result (call.ensures.tells h) (call.ensures.there h) (call.ensures.why_not h);
     }

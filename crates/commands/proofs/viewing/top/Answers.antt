@@ -1,3 +1,4 @@
+use Rattle.trace_text.specs.Chooses.{asks_where}
 use Rattle.stores.specs.FolderStore.{reads_of, clock_of}
 use Rattle.commands.specs.Live.{most_to_read}
 use Rattle.commands.specs.Naming.{IsToldAt}
@@ -17,7 +18,7 @@ returns-in-Err-clause-ended g c =
     record {
       only_reads = looks_then old mid new e.only_reads more;
       at_most = λ h. tell_after old mid (clock_of new) (most_to_read (reads_of old)) e.only_reads (e.at_most (honest_then mid new more h)) c.told.ensures.at_most;
-      told = λ h. not_counted taken_by (IsToldAt c.args.files.now.place new) c.args.files.now.place.base.now (reads_of old) c.in-Err.why c.told.result (e.told (honest_then mid new more h)) (why_moved c.args.files.now.place c.count.new.files.place new c.in-Err.why c.told.result c.in-Err.ensures.place c.told.ensures.told);
+      told = λ h. not_counted (asks_where c.args.choice) taken_by (IsToldAt c.args.files.now.place new) c.args.files.now.place.base.now (reads_of old) c.in-Err.why c.told.result (e.told (honest_then mid new more h)) (why_moved c.args.files.now.place c.count.new.files.place new c.in-Err.why c.told.result c.in-Err.ensures.place c.told.ensures.told);
     }
 
 pub returns-in-Ok-write-clause-ended : goal.returns-in-Ok-write-clause-ended
@@ -27,7 +28,7 @@ returns-in-Ok-write-clause-ended g c =
     record {
       only_reads = e.only_reads;
       at_most = λ h. most_so c.write_out.result image (clock_of c.args.files.now.store) (clock_of c.count.new.files.store) (most_to_read image) (e.at_most h);
-      told = λ h. is_top (IsToldAt c.args.files.now.place c.count.new.files.store) c.args.files.now.place.base.now (reads_of c.args.files.now.store) c.in-Ok.top c.write_out.result (e.told h) c.in-Ok-write.ensures.counted c.write_out.ensures;
+      told = λ h. is_top (asks_where c.args.choice) (IsToldAt c.args.files.now.place c.count.new.files.store) c.args.files.now.place.base.now (reads_of c.args.files.now.store) c.in-Ok.top c.write_out.result (e.told h) c.in-Ok-write.ensures.counted c.write_out.ensures;
     }
 
 pub returns-clause-ended : goal.returns-clause-ended
@@ -40,5 +41,5 @@ returns-clause-ended g c =
     record {
       only_reads = looks_then old mid new e.only_reads more;
       at_most = λ h. tell_after old mid (clock_of new) (most_to_read (reads_of old)) e.only_reads (e.at_most (honest_then mid new more h)) c.told-in-Err-write.ensures.at_most;
-      told = λ h. not_counted taken_by (IsToldAt c.args.files.now.place new) c.args.files.now.place.base.now (reads_of old) (whys.View c.in-Err-write.fault) c.told-in-Err-write.result tt (why_moved c.args.files.now.place c.count.new.files.place new (whys.View c.in-Err-write.fault) c.told-in-Err-write.result c.in-Ok.ensures.place c.told-in-Err-write.ensures.told);
+      told = λ h. not_counted (asks_where c.args.choice) taken_by (IsToldAt c.args.files.now.place new) c.args.files.now.place.base.now (reads_of old) (whys.View c.in-Err-write.fault) c.told-in-Err-write.result tt (why_moved c.args.files.now.place c.count.new.files.place new (whys.View c.in-Err-write.fault) c.told-in-Err-write.result c.in-Ok.ensures.place c.told-in-Err-write.ensures.told);
     }
