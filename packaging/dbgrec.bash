@@ -37,9 +37,9 @@ _dbgrec() {
             record) offered="$readers $new --help" ;;
             list) offered="$readers --pretty --json $chosen --follow --salvage --help" ;;
             show) offered="$readers $chosen $laid --follow --salvage --help" ;;
-            export) offered="$readers --as --salvage --help" ;;
+            export) offered="$readers --as --salvage $chosen --help" ;;
             info) offered="$readers --json --help" ;;
-            top) offered="$readers --by --sort --limit --json --help" ;;
+            top) offered="$readers --by --sort --limit --json $chosen --help" ;;
             wipe) offered="$readers --force --help" ;;
             stream) offered="--pretty --json $chosen --longest --help" ;;
             *) offered="--help" ;;

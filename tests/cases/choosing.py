@@ -3,6 +3,7 @@ themselves, read by the tables; the lines are those of the whole listing, readab
 
 import collections
 import dataclasses
+import json
 import random
 import struct
 import subprocess
@@ -116,6 +117,21 @@ def chosen(listing, entries, asked):
     return "".join(found).encode()
 
 
+def exported(listing, entries, asked):
+    """The entries of an export that are asked for, by a whole readable listing; each part is a lost message."""
+    found = []
+    for line in listing.decode().splitlines():
+        number, _, rest = line.partition(" ")
+        if not number.isdigit():
+            continue
+        shown = rest.split(" ")[0]
+        entry = entries[int(number)]
+        told = Told() if shown in ("drop", "opaque", "part") else told_by(entry)
+        if asked.lets(int(number), shown, told):
+            found.append(drop(1) if shown == "part" else entry)
+    return found
+
+
 def put_together(entries):
     """The entries of a readable listing by their numbers: a long message stands where its first fragment does."""
     return {number: message(what) if word == "message" else what for number, word, what in joined(entries)}
@@ -159,7 +175,17 @@ class Listed:
                 expected = chosen(listing, entries, asked)
                 same(self.program.good(*words, *options, stdin=data), expected)
                 lines += expected.count(b"\n")
+        for trace in ("file", "wrap"):
+            self.exports(trace, asked, *options)
         return lines
+
+    def exports(self, trace, asked, *options):
+        """Checks the export of a trace with these options, and how many messages its table counts."""
+        found = exported(*self.whole["list", "-p", trace], asked)
+        same(self.program.good("export", trace, *options), b"".join(found))
+        table = json.loads(self.program.good("top", "--json", trace, *options))
+        messages = [entry for entry in found if entry[0] == 0]
+        assert table["messages"] == len(messages), (table["messages"], len(messages), options)
 
 
 def stream_of(name):
