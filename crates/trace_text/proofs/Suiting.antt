@@ -11,7 +11,7 @@ use Rattle.ext_format.proofs.FieldLaws.{IsBytes}
 use Rattle.trace_text.specs.AnyTerm.{AnyTerm, Leaf}
 use Rattle.trace_text.specs.AnyReading.{any_whole_at}
 use Rattle.trace_text.specs.Facts.{Function, traced, function_of, tells_function, called}
-use Rattle.trace_text.specs.Choosing.{Asked, AskedFunction, Asks, asks_no_text, names_kind, names_nothing, is_one_traced, is_text, is_shown, is_of_arity, is_function, is_one_called, is_of_each, is_of_any, suits, suits_opaque, suits_if, if_all, term_in}
+use Rattle.trace_text.specs.Choosing.{Asked, AskedFunction, Asks, asks_no_text, names_kind, names_nothing, is_one_traced, is_text, is_shown, is_of_arity, is_function, is_one_called, is_of_any, suits, suits_opaque, suits_if, if_all, term_in}
 use Rattle.trace_text.specs.Objects.{IsUnread}
 use Rattle.trace_text.specs.Parts.{IsReadSo}
 use Rattle.trace_text.specs.Pretty.{leaf_text}

@@ -1,4 +1,4 @@
-use Rattle.std.proofs.Common.{◌≡◌, rules, List, ℕ, Option, ap, sym, map, string_bytes, ◌∙◌}
+use Rattle.std.proofs.Common.{rules, ap, sym, map, string_bytes, ◌∙◌}
 use Rattle.std.specs.List.{list_any}
 use Rattle.std.proofs.lemmas.Iterator.{YieldsList-from_slice}
 use Rattle.std.proofs.lemmas.Iterator.Search.{any_from_yields_List}
