@@ -12,7 +12,12 @@ use trace_text::{Choice, Filter, FunctionAsked, is_kind};
 
 /// Which numbers of entries are shown.
 fn with_numbers<'a>(alloc: Global, command: Command<'a>) -> Result<Command<'a>, AllocError> {
-    let from = option(alloc, "from", "N", "Shows no entry before the one of this number");
+    let from = option(
+        alloc,
+        "from",
+        "N",
+        "Shows no entry before the one of this number",
+    );
     let to = option(alloc, "to", "N", "Ends behind the entry of this number");
     command
         .arg(from.value_parser(value_parser!(u64)))?
@@ -97,10 +102,7 @@ fn kinds_in<'a>(text: &'a str) -> Result<&'a str, Misuse<'a>>
 }
 
 /// The words of the kinds that an option names, where it names some.
-fn kinds_asked<'a>(
-    matches: &ArgMatches<'a>,
-    name: &str,
-) -> Result<Option<&'a str>, Misuse<'a>> {
+fn kinds_asked<'a>(matches: &ArgMatches<'a>, name: &str) -> Result<Option<&'a str>, Misuse<'a>> {
     match matches.get_str(name) {
         None => Ok(None),
         Some(text) => Ok(Some(kinds_in(text)?)),

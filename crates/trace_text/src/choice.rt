@@ -30,6 +30,7 @@ pub struct Filter {
 
 impl Filter {
     /// Whether it names nothing.
+    #[inline(always)]
     pub fn is_empty(&self) -> bool
         ensures { result ≡ names_nothing (asked_of self.now) }
     {
