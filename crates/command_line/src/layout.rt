@@ -50,10 +50,14 @@ pub struct Layout {
     pub grep: Option<String>,
     /// What was there when it began isn't shown.
     pub is_from_now: bool,
+    /// How many of the last rows alone are shown, where not all are.
+    pub last: Option<u32>,
+    /// What is added to a trace is shown too.
+    pub follows: bool,
 }
 
 impl Layout {
-    /// Whether each line has a row.
+    /// Whether each line has a row, also where the last alone are shown.
     pub fn shows_each(&self) -> bool
         ensures { result ≡ shows_each self.now }
     {

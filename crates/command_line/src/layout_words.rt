@@ -61,7 +61,16 @@ fn with_filters<'a>(alloc: Global, command: Command<'a>) -> Result<Command<'a>, 
             "grep",
             "TEXT",
             "Shows rows whose text has this in it",
-        ))
+        ))?
+        .arg(
+            option(
+                alloc,
+                "last",
+                "N",
+                "Shows the last N rows alone; with -f these of what is there, and then what is added",
+            )
+            .value_parser(value_parser!(u32).range(1..)),
+        )
 }
 
 /// A listing for a person, and the options that say how it is laid out.
@@ -88,12 +97,14 @@ fn moment_asked<'a>(matches: &ArgMatches<'a>, name: &str) -> Result<Option<Momen
     }
 }
 
-/// How a listing is laid out for a person.
+/// How a listing is laid out for a person, which may go on with what is added to a trace.
 pub fn layout_in<'a>(
     alloc: Global,
     matches: &ArgMatches<'a>,
-    is_from_now: bool,
+    follows: bool,
 ) -> Result<Layout, Misuse<'a>> {
+    let last = matches.get_one::<u32>("last");
+    let is_asked_back = matches.get_one::<u64>("from").is_some() || last.is_some();
     let times = if matches.get_flag("relative") {
         TimeColumn::SinceFirst
     } else if matches.get_flag("delta") {
@@ -115,6 +126,8 @@ pub fn layout_in<'a>(
         since: moment_asked(matches, "since")?,
         until: moment_asked(matches, "until")?,
         grep: kept(alloc, matches.get_str("grep"))?,
-        is_from_now,
+        is_from_now: follows && !is_asked_back,
+        last,
+        follows,
     })
 }

@@ -15,6 +15,7 @@ mod console;
 mod counted;
 mod end_writer;
 mod given;
+mod held;
 mod inlet;
 mod laid_out;
 mod laws;

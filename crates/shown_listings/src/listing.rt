@@ -146,13 +146,6 @@ fn told_with(done: Result<(), Complaint>, end: RowsEnd) -> Result<(), Complaint>
     }
 }
 
-/// The writer to which rows went.
-fn rows_out<W: Write>(laid: LaidOut<W>) -> W
-    ensures { result ≡ laid.out }
-{
-    laid.out
-}
-
 /// The text that each row is to have, where one is asked for.
 fn grep_of(layout: &Layout) -> Result<Option<String>, AllocError> {
     match &layout.grep {
@@ -179,8 +172,8 @@ fn list_laid_out<S: Listable, R: Wait, I: Read + Drop, W: Output>(
     let grep = grep_of(layout);
     let mut laid = LaidOut::new(rt.alloc(), taken(rt.alloc(), output), look, grep);
     let (done, left) = list_shown(rt.alloc(), waiter, listing, shown, input, &mut laid);
-    let ended = laid.end();
-    *output = rows_out(laid);
+    let (ended, out) = laid.end();
+    *output = out;
     let told = told_with(done, ended);
     (told, left)
 }

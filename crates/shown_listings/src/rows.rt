@@ -1,6 +1,6 @@
 //! The rows of a listing, made of its objects one by one.
 ghost use Rattle.std.specs.Prelude.{◌≡◌, ◌||◌, ℕ, List, true, false, is_some, IfOk, MatchOption};
-ghost use Rattle.shown_listings.specs.Rows.{IsRow, ShowsInRow};
+ghost use Rattle.shown_listings.specs.Rows.{IsRow, ShowsInRow, is_end};
 
 use crate::clock_text::{Clock, Fineness, Seconds, Stamp, fineness_of, stamp_in};
 use crate::look::Look;
@@ -17,6 +17,9 @@ const STEP: usize = 2;
 /// The most columns for that, where rows aren't cut at a width.
 const MOST_STEPS: usize = 40;
 
+/// The line that tells the end of a trace.
+const END: [u8; 23] = *b"{\"kind\":\"end_of_trace\"}";
+
 /// Ends the colour of a row.
 const PLAIN: &str = "\x1b[0m";
 
@@ -31,6 +34,13 @@ fn colour_of(kind: &str) -> &'static str {
         "drop" | "part" | "opaque" | "before" | "missing" => "\x1b[35m",
         _ => "",
     }
+}
+
+/// Whether a line tells the end of a trace.
+pub fn is_end(line: &[u8]) -> bool
+    ensures { result ≡ is_end line.now }
+{
+    line == END.as_slice()
 }
 
 /// What stands before and behind the text of a row.
@@ -91,9 +101,9 @@ fn inset(look: &Look, depth: usize) -> usize {
 /// How much of a text is shown behind so many columns.
 fn room_behind(look: &Look, columns: usize) -> Room
     ensures { (is_some result.bytes || is_some result.columns) ≡ true
-        → look.now.may_cut ≡ true }
+        → look.now.rule.may_cut ≡ true }
 {
-    if look.may_cut {
+    if look.rule.may_cut {
         Room {
             bytes: look.longest_text,
             columns: look.width.map(|width| width.saturating_sub(columns)),
@@ -108,7 +118,7 @@ fn room_behind(look: &Look, columns: usize) -> Room
 
 /// The row of a text in its frame.
 fn framed(alloc: Global, look: &Look, frame: &Frame, text: &[u8]) -> Result<Vec<u8>, AllocError>
-    ensures { IfOk result (λ row. ShowsInRow look.now.may_cut text.now row.items) }
+    ensures { IfOk result (λ row. ShowsInRow look.now.rule.may_cut text.now row.items) }
 {
     let parts = Parts {
         before: frame.before.as_bytes(),
@@ -146,9 +156,9 @@ impl Rows {
 
     /// Whether a text has a row.
     fn is_wanted(&self, look: &Look, text: &str) -> bool
-        ensures { look.now.shows_each ≡ true → result ≡ true }
+        ensures { look.now.rule.shows_each ≡ true → result ≡ true }
     {
-        look.shows_each
+        look.rule.shows_each
             || (!look.is_from_now || self.is_new) && look.is_between(self.time) && self.has(text)
     }
 
@@ -197,8 +207,8 @@ impl Rows {
         object: &Option<Value>,
         text: &str,
     ) -> Result<Option<Vec<u8>>, AllocError>
-        ensures { IfOk result (λ row. MatchOption row (look.now.shows_each ≡ false)
-            (λ row. ShowsInRow look.now.may_cut text.now row.items)) }
+        ensures { IfOk result (λ row. MatchOption row (look.now.rule.shows_each ≡ false)
+            (λ row. ShowsInRow look.now.rule.may_cut text.now row.items)) }
     {
         let stamp = stamp_in(text.as_bytes());
         let nested = self.nesting.note(Told {
@@ -224,15 +234,14 @@ impl Rows {
         object: &Option<Value>,
         line: &[u8],
     ) -> Result<Option<Vec<u8>>, AllocError>
-        ensures { IfOk result (λ row. MatchOption row (look.now.shows_each ≡ false)
-            (λ row. (text : List ℕ) × ShowsInRow look.now.may_cut text row.items)) }
+        ensures { IfOk result (λ row. MatchOption row (look.now.rule.shows_each ≡ false)
+            (λ row. (text : List ℕ) × ShowsInRow look.now.rule.may_cut text row.items)) }
     {
         let words = match notice_of(self.alloc, object)? {
             Some(words) => words,
             None => String::from_utf8_lossy(self.alloc, line)?,
         };
-        let is_end = member(object, "kind") == Some("end_of_trace");
-        if !self.is_wanted(look, words.as_str()) && !is_end {
+        if !self.is_wanted(look, words.as_str()) && !is_end(line) {
             return Ok(None);
         }
         let frame = if number(object, "n").is_some() {
@@ -257,8 +266,8 @@ impl Rows {
 
     /// The row of a line of a listing; None where none is asked for.
     pub fn row_of(&mut self, look: &Look, line: &[u8]) -> Result<Option<Vec<u8>>, AllocError>
-        ensures { IfOk result (λ row. MatchOption row (look.now.shows_each ≡ false)
-            (λ row. IsRow look.now.may_cut line.now row.items)) }
+        ensures { IfOk result (λ row. MatchOption row (look.now.rule.shows_each ≡ false)
+            (λ row. IsRow look.now.rule.may_cut line.now row.items)) }
     {
         let object = read_object(self.alloc, line)?;
         match text_of(&object) {
