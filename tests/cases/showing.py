@@ -206,6 +206,76 @@ def what_is_added_is_shown_from_now_on(program):
 
 
 @case
+def the_last_rows_are_shown_and_the_end_besides(program):
+    program.good("import", "t", stdin=b"".join(NESTED))
+    shows(program, rows(chosen=(3, 4)) + END, "--last", "2")
+    shows(program, rows(chosen=(4,)) + END, "--last", "1")
+    for count in ("5", "6", "4294967295"):
+        shows(program, rows() + END, "--last", count)
+    same(program.good("show", "-", "--last", "2", stdin=b"".join(NESTED)).decode(), rows(chosen=(3, 4)) + END)
+
+
+@case
+def the_last_of_the_rows_that_are_asked_for_are_shown(program):
+    program.good("import", "t", stdin=b"".join(NESTED))
+    shows(program, rows(chosen=(2,)) + END, "--until", "12:04:31.123458", "--last", "1")
+    shows(program, rows(chosen=(4,)) + END, "--grep", "m,f", "--last", "1")
+    shows(program, END, "--grep", "nowhere", "--last", "1")
+    # nothing is told behind the entry of `--to`
+    shows(program, row(2, TIMES[2], "call", TEXTS[2]) + row(3, TIMES[3], "return", TEXTS[3]), "--from", "2", "--to", "3", "--last", "2")
+    shows(program, row(3, TIMES[3], "return", TEXTS[3]), "--from", "2", "--to", "3", "--last", "1")
+    # times are told as if all rows were shown
+    shows(program, row(4, "+2.000010", "return", TOOK[4] + TEXTS[4]) + END, "--relative", "--last", "1")
+
+
+@case
+def the_last_rows_of_a_stream_that_pauses_are_shown_at_its_end(program):
+    with program.start("show", "--last", "2", "-") as shower:
+        for entry in NESTED:
+            shower.write(entry)
+            time.sleep(0.05)
+        same(shower.end().output.decode(), rows(chosen=(3, 4)) + END)
+
+
+@case
+def the_last_rows_before_a_damage_are_shown(program):
+    outcome = program.run("show", "-", "--last", "2", stdin=b"".join(NESTED) + b"\x05")
+    same((outcome.status, outcome.output.decode()), (1, rows(chosen=(3, 4))))
+
+
+@case
+def rows_without_a_number_count_as_others_do(program):
+    program.good("import", "w", "--kind", "wrap", "--size", "100", "--count", "2", stdin=b"".join(NESTED))
+    found = program.good("show", "w").decode().splitlines()
+    assert found[0].startswith("-- the trace begins at entry "), found
+    entries = len(found) - 2
+    same(program.good("show", "w", "--last", str(entries + 1)).decode().splitlines(), found)
+    same(program.good("show", "w", "--last", str(entries)).decode().splitlines(), found[1:])
+
+
+@case
+def the_last_rows_of_what_single_files_hold_are_shown(program):
+    program.good("import", "t", stdin=b"".join(NESTED))
+    found = program.run("show", "t", "--salvage").output.decode().splitlines()
+    outcome = program.run("show", "t", "--salvage", "--last", "2")
+    same((outcome.status, outcome.output.decode().splitlines()), (1, found[-2:]))
+
+
+@case
+def the_last_rows_of_what_is_there_are_shown_and_then_what_is_added(program):
+    program.good("import", "t", "--keep-open", stdin=b"".join(NESTED[:3]))
+    with program.start("show", "-f", "--last", "1", "t") as follower, program.start("show", "-f", "--last", "9", "--from", "1", "t") as both:
+        same(follower.line() + "\n", row(2, TIMES[2], "call", TEXTS[2]))
+        same(both.line() + "\n", row(1, TIMES[1], "call", TEXTS[1]))
+        same(both.line() + "\n", row(2, TIMES[2], "call", TEXTS[2]))
+        time.sleep(LONG)
+        program.good("import", "t", stdin=b"".join(NESTED[3:]))
+        same(follower.end().output.decode(), rows(chosen=(3, 4)) + END)
+        expected = row(3, TIMES[3], "return", TOOK[3] + TEXTS[3]) + row(4, TIMES[4], "return", TEXTS[4])
+        same(both.end().output.decode(), expected + END)
+
+
+@case
 def what_a_wrap_no_longer_holds_is_told(program):
     program.good("import", "w", "--kind", "wrap", "--size", "100", "--count", "2", stdin=b"".join(NESTED))
     listed = program.good("list", "w", "-p").decode().splitlines()
@@ -223,6 +293,7 @@ def a_wrong_word_is_told_with_what_may_stand_there(program):
         (("--since", "noon"), "error: invalid value 'noon' for '--since or --until <TIME>': a time of day, as 12:04:31.5, a time, as 2026-05-01T12:04:31, or seconds of a monotonic clock, as 17.25"),
         (("--until", "1970-02-29T00:00:00"), "error: invalid value '1970-02-29T00:00:00' for '--since or --until <TIME>'"),
         (("--width", "0"), "error: invalid value '0' for '--width <N>'"),
+        (("--last", "0"), "error: invalid value '0' for '--last <N>'"),
         (("--color", "red"), "error: invalid value 'red' for '--color <WHEN>'"),
         (("--full", "--width", "9"), "error: the argument '--"),
         (("--relative", "--delta"), "error: the argument '--"),
