@@ -44,6 +44,8 @@ pub struct Layout {
     pub width: Option<u32>,
     /// The most bytes of a text that are shown, where not all are.
     pub longest_text: Option<u32>,
+    /// The times of wall clocks are told in UTC, not in the zone of the machine.
+    pub is_utc: bool,
     pub since: Option<Moment>,
     pub until: Option<Moment>,
     /// What the text of each row that is shown has.

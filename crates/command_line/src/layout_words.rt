@@ -21,7 +21,12 @@ fn with_times<'a>(alloc: Global, command: Command<'a>) -> Result<Command<'a>, Al
     );
     command
         .arg(relative)?
-        .arg(delta.conflicts_with("relative")?)
+        .arg(delta.conflicts_with("relative")?)?
+        .arg(flag(
+            alloc,
+            "utc",
+            "Tells and takes times of day in UTC, not in the zone of TZ or of the machine",
+        ))
 }
 
 /// How wide rows are, and what of a text they have.
@@ -123,6 +128,7 @@ pub fn layout_in<'a>(
         is_full: matches.get_flag("full"),
         width: matches.get_one::<u32>("width"),
         longest_text: matches.get_one::<u32>("longest-text"),
+        is_utc: matches.get_flag("utc"),
         since: moment_asked(matches, "since")?,
         until: moment_asked(matches, "until")?,
         grep: kept(alloc, matches.get_str("grep"))?,

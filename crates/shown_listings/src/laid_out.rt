@@ -9,6 +9,7 @@ use crate::look::Look;
 use crate::noted::Noted;
 use crate::rows::Rows;
 use crate::sending::{Unsent, send_held};
+use crate::zone::Zone;
 use std::alloc::{AllocError, Global};
 use std::collections::VecDeque;
 use std::io::{self, ErrorKind, Write};
@@ -65,14 +66,21 @@ pub struct LaidOut<W: Write> {
     pub ghost sends: { Sends (W.contents out) written (drop unsent.taken unsent.bytes.items) (text_of_rows laid.items) } by { Sends-prop (W.contents out) written (drop unsent.taken unsent.bytes.items) (text_of_rows laid.items) },
 }
 
+/// The rows, or where there was no memory for them some that nothing is made of; and whether there was none.
+fn rows_or_none(alloc: Global, rows: Result<Rows, AllocError>) -> (Rows, bool) {
+    match rows {
+        Ok(rows) => (rows, false),
+        Err(AllocError) => (Rows::new(alloc, Zone::Utc, None), true),
+    }
+}
+
 impl<W: Write> LaidOut<W> {
-    /// A writer that nothing came to. It shows the rows whose text has `grep`, where that is there; where there was no memory for
-    /// that, it takes nothing.
+    /// A writer that nothing came to. Where there was no memory for its rows, it takes nothing.
     pub fn new(
         alloc: Global,
         out: W,
         look: Look,
-        grep: Result<Option<String>, AllocError>,
+        rows: Result<Rows, AllocError>,
     ) -> LaidOut<W>
         ghost start: { Option (List ℕ) }
         requires { start ≡ W.contents out }
@@ -81,14 +89,11 @@ impl<W: Write> LaidOut<W> {
         ensures line { result.line.items ≡ [] }
         ensures look { result.look ≡ look }
     {
-        let (grep, is_out_of_memory) = match grep {
-            Ok(grep) => (grep, false),
-            Err(AllocError) => (None, true),
-        };
+        let (rows, is_out_of_memory) = rows_or_none(alloc, rows);
         LaidOut {
             out,
             look,
-            rows: Rows::new(alloc, grep),
+            rows,
             line: Vec::new(alloc),
             unsent: Unsent {
                 bytes: Vec::new(alloc),

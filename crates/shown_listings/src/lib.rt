@@ -30,6 +30,7 @@ mod rows;
 mod screen;
 mod sending;
 mod shown_object;
+mod zone;
 
 pub use console::{Console, console_for};
 pub use inlet::Inlet;

@@ -47,7 +47,7 @@ const DAY: i64 = 86_400_000_000_000;
 /// The order of a time and a moment, where they are of one clock.
 fn compared(stamp: Stamp, moment: Moment) -> Option<Ordering> {
     match (stamp, moment) {
-        (Stamp::Wall(nanos), Moment::OfDay(moment)) => Some((nanos % DAY).cmp(&moment)),
+        (Stamp::Wall(nanos), Moment::OfDay(moment)) => Some(nanos.rem_euclid(DAY).cmp(&moment)),
         (Stamp::Wall(nanos), Moment::Dated(moment)) => Some(nanos.cmp(&moment)),
         (Stamp::Monotonic(nanos), Moment::Monotonic(moment)) => Some(nanos.cmp(&moment)),
         _ => None,
@@ -93,7 +93,7 @@ impl Look {
         }
     }
 
-    /// Whether a time is one that is shown. Where nothing is asked of times, each is, and else none that isn't told.
+    /// Whether a time, as it is told, is one that is shown. Where nothing is asked of times, each is, and else none that isn't told.
     pub fn is_between(&self, time: Option<Stamp>) -> bool {
         let Some(stamp) = time else {
             return self.since.is_none() && self.until.is_none();

@@ -8,6 +8,7 @@ use crate::nesting::{Nested, Nesting, Told};
 use crate::notices::notice_of;
 use crate::row::{Parts, Room, row_of};
 use crate::shown_object::{member, number, read_object, text_of};
+use crate::zone::Zone;
 use serde_json::Value;
 use std::alloc::{AllocError, Global};
 
@@ -58,7 +59,8 @@ pub struct Rows {
     alloc: Global,
     nesting: Nesting,
     clock: Clock,
-    /// The last time that was told.
+    zone: Zone,
+    /// The last time that was told, as the clocks of the zone tell it.
     time: Option<Stamp>,
     /// What comes is new.
     is_new: bool,
@@ -129,12 +131,14 @@ fn framed(alloc: Global, look: &Look, frame: &Frame, text: &[u8]) -> Result<Vec<
 }
 
 impl Rows {
-    /// No object came. Where a text is handed in, only rows whose text has it are asked for.
-    pub fn new(alloc: Global, grep: Option<String>) -> Rows {
+    /// No object came. Times of wall clocks are told in the zone. Where a text is handed in, only rows whose text has it are
+    /// asked for.
+    pub fn new(alloc: Global, zone: Zone, grep: Option<String>) -> Rows {
         Rows {
             alloc,
             nesting: Nesting::new(alloc),
             clock: Clock::new(),
+            zone,
             time: None,
             is_new: false,
             grep,
@@ -174,7 +178,7 @@ impl Rows {
         let number = number(object, "n").unwrap_or(0);
         let mut before = format!(in self.alloc; "{number:>6}  ")?;
         if let Some(stamp) = stamp {
-            let time = self.clock.tell(self.alloc, look.times, stamp)?;
+            let time = self.clock.tell(self.alloc, look.times, stamp, &self.zone)?;
             write!(before, "{time:>15}  ")?;
         } else if self.clock.is_on() {
             put_blanks(&mut before, 17)?;
@@ -217,7 +221,8 @@ impl Rows {
             function: member(object, "mfa"),
             time: stamp.map(Stamp::nanos),
         })?;
-        self.time = stamp.or(self.time);
+        let told = stamp.map(|stamp| stamp.told_in(&self.zone));
+        self.time = told.or(self.time);
         if !self.is_wanted(look, text) {
             return Ok(None);
         }
