@@ -1,5 +1,6 @@
 """Cases of `show`: the rows that docs/FORMATS.md says of entries that are made here."""
 
+import calendar
 import os
 import pty
 import subprocess
@@ -121,6 +122,67 @@ def exceptions_end_calls_and_exits_end_all(program):
     assert found[1].startswith("     1  12:04:31.123463  exception (0.000007 s) {trace_ts,"), found[1]
     assert found[3].startswith("     3  12:04:31.123456  exit        {trace_ts,"), found[3]
     assert found[4].startswith("     4  12:04:31.123456  call      {trace_ts,"), found[4]
+
+
+def in_zone(program, zone, *words):
+    """What `show` shows of the trace t in a zone."""
+    outcome = program.run("show", "t", *words, env=os.environ | {"TZ": zone})
+    same((outcome.status, outcome.errors), (0, b""))
+    return outcome.output.decode()
+
+
+def later(times, hours, minutes=0):
+    """The same, told by clocks that are ahead."""
+    return [f"{int(time[:2]) + hours:02}:{int(time[3:5]) + minutes:02}{time[5:]}" for time in times]
+
+
+@case
+def times_of_day_are_those_of_the_zone(program):
+    program.good("import", "t", stdin=b"".join(NESTED))
+    for zone, hours, minutes in (("Europe/Berlin", 1, 0), (":Europe/Berlin", 1, 0), ("/usr/share/zoneinfo/Europe/Berlin", 1, 0), ("Asia/Kolkata", 5, 30), ("CET-1CEST,M3.5.0,M10.5.0/3", 1, 0), ("<-0330>3:30", -4, 30)):
+        same(in_zone(program, zone), rows(later(TIMES, hours, minutes)) + END)
+        same(in_zone(program, zone, "--utc"), rows() + END)
+    for zone in ("UTC", "", "Nowhere/Else", "/dev/null", "../zoneinfo"):
+        same(in_zone(program, zone), rows() + END)
+    # what passed is the same in each
+    same(in_zone(program, "Asia/Kolkata", "--delta"), rows(["+0.000000", "+0.000001", "+0.000001", "+0.000003", "+2.000005"]) + END)
+
+
+@case
+def times_of_day_are_taken_as_they_are_told(program):
+    program.good("import", "t", stdin=b"".join(NESTED))
+    told = later(TIMES, 5, 30)
+    same(in_zone(program, "Asia/Kolkata", "--since", "17:34:31.123459"), rows(told, chosen=(3, 4)) + END)
+    same(in_zone(program, "Asia/Kolkata", "--since", "12:04:31", "--until", "17:34:32"), rows(told, chosen=range(4)) + END)
+    between = ("--since", "1970-01-01T17:34:31.123457", "--until", "1970-01-01T17:34:31.123458")
+    same(in_zone(program, "Asia/Kolkata", *between), rows(told, chosen=(1, 2)) + END)
+    same(in_zone(program, "Asia/Kolkata", *between, "--utc"), END)
+
+
+def seconds_of(*parts):
+    return calendar.timegm((*parts, 0, 0, 0))
+
+
+@case
+def a_change_of_the_clock_within_a_trace_is_told(program):
+    # clocks go from 02:00 to 03:00 on 29 March 2026, and from 03:00 to 02:00 on 25 October
+    spring, autumn = seconds_of(2026, 3, 29, 1, 0, 0), seconds_of(2026, 10, 25, 1, 0, 0)
+    moments = [(spring - 1) * 1_000_000, spring * 1_000_000, (autumn - 1) * 1_000_000, autumn * 1_000_000]
+    program.good("import", "t", stdin=b"".join(call(number, "f", at) for number, at in enumerate(moments)))
+    told = ["01:59:59.000000", "03:00:00.000000", "02:59:59.000000", "02:00:00.000000"]
+    expected = [row(number, time, "call", call_text(number, "f", at)) for number, (time, at) in enumerate(zip(told, moments))]
+    for zone in ("Europe/Berlin", "CET-1CEST,M3.5.0,M10.5.0/3"):
+        same(in_zone(program, zone), "".join(expected) + END)
+        same(in_zone(program, zone, "--since", "2026-10-25T02:00:00"), "".join(expected[2:]) + END)
+        same(in_zone(program, zone, "--since", "02:30:00", "--until", "03:00:00"), "".join(expected[1:3]) + END)
+
+
+@case
+def a_day_before_the_first_is_told(program):
+    program.good("import", "t", stdin=call(1, "f", 1_000_000))
+    expected = row(0, "19:00:01.000000", "call", call_text(1, "f", 1_000_000)) + END
+    same(in_zone(program, "America/New_York"), expected)
+    same(in_zone(program, "America/New_York", "--since", "19:00:01", "--until", "19:00:01"), expected)
 
 
 @case
