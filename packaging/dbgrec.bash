@@ -4,7 +4,7 @@ _dbgrec() {
     local word=${COMP_WORDS[COMP_CWORD]} before=${COMP_WORDS[COMP_CWORD - 1]} offered=
     local commands="import list show export info top wipe stream record sim"
     local readers="--kind --suffix --count" new="--size --time --after-failure"
-    local chosen="--from --to --only --pid --mfa --not --not-pid --not-mfa" laid="--relative --delta --since --until --grep --color --full --width --longest-text"
+    local chosen="--from --to --only --pid --mfa --not --not-pid --not-mfa" laid="--relative --delta --utc --since --until --grep --last --color --full --width --longest-text"
     local kinds="call return exception send send_lost receive other opaque drop seq_trace return_to spawn spawned exit" kind told=
     kinds+=" register unregister link unlink getting_linked getting_unlinked in in_exiting out out_exiting out_exited"
     kinds+=" gc_minor_start gc_minor_end gc_major_start gc_major_end gc_max_heap_size open closed"
@@ -27,7 +27,7 @@ _dbgrec() {
         [[ $word == *,* ]] && told=${word%,*},
         for kind in $kinds; do offered+="$told$kind "; done
         ;;
-    --suffix | --count | --size | --time | --skip | --from | --to | --pid | --mfa | --not-pid | --not-mfa | --longest | --limit | --since | --until | --grep | --width | --longest-text) return ;;
+    --suffix | --count | --size | --time | --skip | --from | --to | --pid | --mfa | --not-pid | --not-mfa | --longest | --limit | --since | --until | --grep | --last | --width | --longest-text) return ;;
     *)
         if ((COMP_CWORD == 1)); then
             offered="$commands --help --version"

@@ -137,7 +137,7 @@ def a_listing_that_is_refused_memory_is_a_beginning(program):
         kept.reads("list", "--json", "--from", "1", "t")
         kept.reads("list", "--follow", "t")
         kept.reads("show", "t")
-        kept.reads("show", "--color", "always", "--width", "40", "--longest-text", "9", "--grep", "e", "t")
+        kept.reads("show", "--color", "always", "--width", "40", "--longest-text", "9", "--grep", "e", "--last", "1", "t")
         kept.reads("show", "--follow", "--from", "1", "t")
 
 

@@ -8,6 +8,9 @@ import time
 
 PATIENCE = 120
 
+# the zone in which times of day are told, where a case says no other
+os.environ["TZ"] = "UTC"
+
 
 class Program:
     """The built program, run in one folder."""

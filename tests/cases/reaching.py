@@ -51,6 +51,7 @@ STORES = {
 # who only looks
 LOOKS = {
     ("commands/src/state.rt", "first_bytes"): ["File::open"],
+    ("shown_listings/src/zone.rt", "bytes_of"): ["File::open", "fs::metadata"],
     ("stores/src/failure_mark.rt", "is_there"): ["fs::read", "fs::symlink_metadata"],
     ("stores/src/folder.rt", "sync_folder"): ["File::open"],
     ("stores/src/folder.rt", "target_of"): ["fs::canonicalize", "fs::symlink_metadata"],
@@ -67,7 +68,7 @@ LOOKS = {
 RUNTIME = {
     "dbgrec": ["main"],
     "commands": ["awaiting", "crowded", "files", "serving", "sites", "state"],
-    "shown_listings": ["console", "counted", "inlet", "listing", "outlet", "screen"],
+    "shown_listings": ["console", "counted", "inlet", "listing", "outlet", "screen", "zone"],
     "stores": ["failure_mark", "folder", "folder_store", "named_file", "named_files"],
     "faults": ["absence"],
     "trace_lookup": ["lookup", "room", "spot"],

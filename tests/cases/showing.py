@@ -1,5 +1,6 @@
 """Cases of `show`: the rows that docs/FORMATS.md says of entries that are made here."""
 
+import calendar
 import os
 import pty
 import subprocess
@@ -123,6 +124,67 @@ def exceptions_end_calls_and_exits_end_all(program):
     assert found[4].startswith("     4  12:04:31.123456  call      {trace_ts,"), found[4]
 
 
+def in_zone(program, zone, *words):
+    """What `show` shows of the trace t in a zone."""
+    outcome = program.run("show", "t", *words, env=os.environ | {"TZ": zone})
+    same((outcome.status, outcome.errors), (0, b""))
+    return outcome.output.decode()
+
+
+def later(times, hours, minutes=0):
+    """The same, told by clocks that are ahead."""
+    return [f"{int(time[:2]) + hours:02}:{int(time[3:5]) + minutes:02}{time[5:]}" for time in times]
+
+
+@case
+def times_of_day_are_those_of_the_zone(program):
+    program.good("import", "t", stdin=b"".join(NESTED))
+    for zone, hours, minutes in (("Europe/Berlin", 1, 0), (":Europe/Berlin", 1, 0), ("/usr/share/zoneinfo/Europe/Berlin", 1, 0), ("Asia/Kolkata", 5, 30), ("CET-1CEST,M3.5.0,M10.5.0/3", 1, 0), ("<-0330>3:30", -4, 30)):
+        same(in_zone(program, zone), rows(later(TIMES, hours, minutes)) + END)
+        same(in_zone(program, zone, "--utc"), rows() + END)
+    for zone in ("UTC", "", "Nowhere/Else", "/dev/null", "../zoneinfo"):
+        same(in_zone(program, zone), rows() + END)
+    # what passed is the same in each
+    same(in_zone(program, "Asia/Kolkata", "--delta"), rows(["+0.000000", "+0.000001", "+0.000001", "+0.000003", "+2.000005"]) + END)
+
+
+@case
+def times_of_day_are_taken_as_they_are_told(program):
+    program.good("import", "t", stdin=b"".join(NESTED))
+    told = later(TIMES, 5, 30)
+    same(in_zone(program, "Asia/Kolkata", "--since", "17:34:31.123459"), rows(told, chosen=(3, 4)) + END)
+    same(in_zone(program, "Asia/Kolkata", "--since", "12:04:31", "--until", "17:34:32"), rows(told, chosen=range(4)) + END)
+    between = ("--since", "1970-01-01T17:34:31.123457", "--until", "1970-01-01T17:34:31.123458")
+    same(in_zone(program, "Asia/Kolkata", *between), rows(told, chosen=(1, 2)) + END)
+    same(in_zone(program, "Asia/Kolkata", *between, "--utc"), END)
+
+
+def seconds_of(*parts):
+    return calendar.timegm((*parts, 0, 0, 0))
+
+
+@case
+def a_change_of_the_clock_within_a_trace_is_told(program):
+    # clocks go from 02:00 to 03:00 on 29 March 2026, and from 03:00 to 02:00 on 25 October
+    spring, autumn = seconds_of(2026, 3, 29, 1, 0, 0), seconds_of(2026, 10, 25, 1, 0, 0)
+    moments = [(spring - 1) * 1_000_000, spring * 1_000_000, (autumn - 1) * 1_000_000, autumn * 1_000_000]
+    program.good("import", "t", stdin=b"".join(call(number, "f", at) for number, at in enumerate(moments)))
+    told = ["01:59:59.000000", "03:00:00.000000", "02:59:59.000000", "02:00:00.000000"]
+    expected = [row(number, time, "call", call_text(number, "f", at)) for number, (time, at) in enumerate(zip(told, moments))]
+    for zone in ("Europe/Berlin", "CET-1CEST,M3.5.0,M10.5.0/3"):
+        same(in_zone(program, zone), "".join(expected) + END)
+        same(in_zone(program, zone, "--since", "2026-10-25T02:00:00"), "".join(expected[2:]) + END)
+        same(in_zone(program, zone, "--since", "02:30:00", "--until", "03:00:00"), "".join(expected[1:3]) + END)
+
+
+@case
+def a_day_before_the_first_is_told(program):
+    program.good("import", "t", stdin=call(1, "f", 1_000_000))
+    expected = row(0, "19:00:01.000000", "call", call_text(1, "f", 1_000_000)) + END
+    same(in_zone(program, "America/New_York"), expected)
+    same(in_zone(program, "America/New_York", "--since", "19:00:01", "--until", "19:00:01"), expected)
+
+
 @case
 def entries_that_are_chosen_are_shown(program):
     program.good("import", "t", stdin=b"".join(NESTED))
@@ -207,6 +269,76 @@ def what_is_added_is_shown_from_now_on(program):
 
 
 @case
+def the_last_rows_are_shown_and_the_end_besides(program):
+    program.good("import", "t", stdin=b"".join(NESTED))
+    shows(program, rows(chosen=(3, 4)) + END, "--last", "2")
+    shows(program, rows(chosen=(4,)) + END, "--last", "1")
+    for count in ("5", "6", "4294967295"):
+        shows(program, rows() + END, "--last", count)
+    same(program.good("show", "-", "--last", "2", stdin=b"".join(NESTED)).decode(), rows(chosen=(3, 4)) + END)
+
+
+@case
+def the_last_of_the_rows_that_are_asked_for_are_shown(program):
+    program.good("import", "t", stdin=b"".join(NESTED))
+    shows(program, rows(chosen=(2,)) + END, "--until", "12:04:31.123458", "--last", "1")
+    shows(program, rows(chosen=(4,)) + END, "--grep", "m,f", "--last", "1")
+    shows(program, END, "--grep", "nowhere", "--last", "1")
+    # nothing is told behind the entry of `--to`
+    shows(program, row(2, TIMES[2], "call", TEXTS[2]) + row(3, TIMES[3], "return", TEXTS[3]), "--from", "2", "--to", "3", "--last", "2")
+    shows(program, row(3, TIMES[3], "return", TEXTS[3]), "--from", "2", "--to", "3", "--last", "1")
+    # times are told as if all rows were shown
+    shows(program, row(4, "+2.000010", "return", TOOK[4] + TEXTS[4]) + END, "--relative", "--last", "1")
+
+
+@case
+def the_last_rows_of_a_stream_that_pauses_are_shown_at_its_end(program):
+    with program.start("show", "--last", "2", "-") as shower:
+        for entry in NESTED:
+            shower.write(entry)
+            time.sleep(0.05)
+        same(shower.end().output.decode(), rows(chosen=(3, 4)) + END)
+
+
+@case
+def the_last_rows_before_a_damage_are_shown(program):
+    outcome = program.run("show", "-", "--last", "2", stdin=b"".join(NESTED) + b"\x05")
+    same((outcome.status, outcome.output.decode()), (1, rows(chosen=(3, 4))))
+
+
+@case
+def rows_without_a_number_count_as_others_do(program):
+    program.good("import", "w", "--kind", "wrap", "--size", "100", "--count", "2", stdin=b"".join(NESTED))
+    found = program.good("show", "w").decode().splitlines()
+    assert found[0].startswith("-- the trace begins at entry "), found
+    entries = len(found) - 2
+    same(program.good("show", "w", "--last", str(entries + 1)).decode().splitlines(), found)
+    same(program.good("show", "w", "--last", str(entries)).decode().splitlines(), found[1:])
+
+
+@case
+def the_last_rows_of_what_single_files_hold_are_shown(program):
+    program.good("import", "t", stdin=b"".join(NESTED))
+    found = program.run("show", "t", "--salvage").output.decode().splitlines()
+    outcome = program.run("show", "t", "--salvage", "--last", "2")
+    same((outcome.status, outcome.output.decode().splitlines()), (1, found[-2:]))
+
+
+@case
+def the_last_rows_of_what_is_there_are_shown_and_then_what_is_added(program):
+    program.good("import", "t", "--keep-open", stdin=b"".join(NESTED[:3]))
+    with program.start("show", "-f", "--last", "1", "t") as follower, program.start("show", "-f", "--last", "9", "--from", "1", "t") as both:
+        same(follower.line() + "\n", row(2, TIMES[2], "call", TEXTS[2]))
+        same(both.line() + "\n", row(1, TIMES[1], "call", TEXTS[1]))
+        same(both.line() + "\n", row(2, TIMES[2], "call", TEXTS[2]))
+        time.sleep(LONG)
+        program.good("import", "t", stdin=b"".join(NESTED[3:]))
+        same(follower.end().output.decode(), rows(chosen=(3, 4)) + END)
+        expected = row(3, TIMES[3], "return", TOOK[3] + TEXTS[3]) + row(4, TIMES[4], "return", TEXTS[4])
+        same(both.end().output.decode(), expected + END)
+
+
+@case
 def what_a_wrap_no_longer_holds_is_told(program):
     program.good("import", "w", "--kind", "wrap", "--size", "100", "--count", "2", stdin=b"".join(NESTED))
     listed = program.good("list", "w", "-p").decode().splitlines()
@@ -224,6 +356,7 @@ def a_wrong_word_is_told_with_what_may_stand_there(program):
         (("--since", "noon"), "error: invalid value 'noon' for '--since or --until <TIME>': a time of day, as 12:04:31.5, a time, as 2026-05-01T12:04:31, or seconds of a monotonic clock, as 17.25"),
         (("--until", "1970-02-29T00:00:00"), "error: invalid value '1970-02-29T00:00:00' for '--since or --until <TIME>'"),
         (("--width", "0"), "error: invalid value '0' for '--width <N>'"),
+        (("--last", "0"), "error: invalid value '0' for '--last <N>'"),
         (("--color", "red"), "error: invalid value 'red' for '--color <WHEN>'"),
         (("--full", "--width", "9"), "error: the argument '--"),
         (("--relative", "--delta"), "error: the argument '--"),

@@ -20,7 +20,7 @@ OF_CHOICES = {"--from", "--to", "--only", "--pid", "--mfa", "--not", "--not-pid"
 
 OF_LISTINGS = {"--pretty", "--json"} | OF_CHOICES
 
-OF_ROWS = {"--relative", "--delta", "--since", "--until", "--grep", "--color", "--full", "--width", "--longest-text"}
+OF_ROWS = {"--relative", "--delta", "--utc", "--since", "--until", "--grep", "--last", "--color", "--full", "--width", "--longest-text"}
 
 COMMANDS = {
     "import": OF_NEW_FILES | {"--flush", "--keep-open", "--skip", "--longest", "--after-failure"},

@@ -2,7 +2,7 @@
 use Rattle.std.specs.Prelude.{Bool, not, ◌&&◌, ◌||◌, is_some, is_none}
 use Rattle.command_line.specs.declared.layout.Layout.{Layout}
 
--- each line has a row
+-- each line has a row, also where the last alone are shown
 abbrev pub shows_each : Layout → Bool
 shows_each layout = ((is_none layout.since && is_none layout.until) && is_none layout.grep) && not layout.is_from_now
 

@@ -232,7 +232,7 @@ fn show<'a>(alloc: Global, command: Command<'a>) -> Result<Command<'a>, AllocErr
     let command = of_files(
         alloc,
         command,
-        "BASE may be -: then an entry stream is read from standard input. With -f what is there already is shown with --from alone.\n\nExample: dbgrec show trace",
+        "BASE may be -: then an entry stream is read from standard input. With -f what is there already is shown with --from or --last alone.\n\nExample: dbgrec show trace",
     )?
     .arg(follow(alloc))?
     .arg(salvage(alloc).conflicts_with("follow")?)?;
@@ -622,12 +622,11 @@ fn show_in<'a>(alloc: Global, matches: &ArgMatches<'a>) -> Result<Request<'a>, M
     let asked = asked_in(matches);
     let is_stream = asked.base == "-";
     let follows = matches.get_flag("follow") && !is_stream;
-    let is_from_now = follows && matches.get_one::<u64>("from").is_none();
     let shown = Shown {
         is_json: true,
         choice: choice_in(alloc, matches)?,
         is_plain: false,
-        layout: Some(layout_in(alloc, matches, is_from_now)?),
+        layout: Some(layout_in(alloc, matches, follows)?),
     };
     let is_pretty = true;
     Ok(if is_stream {

@@ -44,16 +44,22 @@ pub struct Layout {
     pub width: Option<u32>,
     /// The most bytes of a text that are shown, where not all are.
     pub longest_text: Option<u32>,
+    /// The times of wall clocks are told in UTC, not in the zone of the machine.
+    pub is_utc: bool,
     pub since: Option<Moment>,
     pub until: Option<Moment>,
     /// What the text of each row that is shown has.
     pub grep: Option<String>,
     /// What was there when it began isn't shown.
     pub is_from_now: bool,
+    /// How many of the last rows alone are shown, where not all are.
+    pub last: Option<u32>,
+    /// What is added to a trace is shown too.
+    pub follows: bool,
 }
 
 impl Layout {
-    /// Whether each line has a row.
+    /// Whether each line has a row, also where the last alone are shown.
     pub fn shows_each(&self) -> bool
         ensures { result ≡ shows_each self.now }
     {

@@ -21,7 +21,12 @@ fn with_times<'a>(alloc: Global, command: Command<'a>) -> Result<Command<'a>, Al
     );
     command
         .arg(relative)?
-        .arg(delta.conflicts_with("relative")?)
+        .arg(delta.conflicts_with("relative")?)?
+        .arg(flag(
+            alloc,
+            "utc",
+            "Tells and takes times of day in UTC, not in the zone of TZ or of the machine",
+        ))
 }
 
 /// How wide rows are, and what of a text they have.
@@ -61,7 +66,16 @@ fn with_filters<'a>(alloc: Global, command: Command<'a>) -> Result<Command<'a>, 
             "grep",
             "TEXT",
             "Shows rows whose text has this in it",
-        ))
+        ))?
+        .arg(
+            option(
+                alloc,
+                "last",
+                "N",
+                "Shows the last N rows alone; with -f these of what is there, and then what is added",
+            )
+            .value_parser(value_parser!(u32).range(1..)),
+        )
 }
 
 /// A listing for a person, and the options that say how it is laid out.
@@ -88,12 +102,14 @@ fn moment_asked<'a>(matches: &ArgMatches<'a>, name: &str) -> Result<Option<Momen
     }
 }
 
-/// How a listing is laid out for a person.
+/// How a listing is laid out for a person, which may go on with what is added to a trace.
 pub fn layout_in<'a>(
     alloc: Global,
     matches: &ArgMatches<'a>,
-    is_from_now: bool,
+    follows: bool,
 ) -> Result<Layout, Misuse<'a>> {
+    let last = matches.get_one::<u32>("last");
+    let is_asked_back = matches.get_one::<u64>("from").is_some() || last.is_some();
     let times = if matches.get_flag("relative") {
         TimeColumn::SinceFirst
     } else if matches.get_flag("delta") {
@@ -112,9 +128,12 @@ pub fn layout_in<'a>(
         is_full: matches.get_flag("full"),
         width: matches.get_one::<u32>("width"),
         longest_text: matches.get_one::<u32>("longest-text"),
+        is_utc: matches.get_flag("utc"),
         since: moment_asked(matches, "since")?,
         until: moment_asked(matches, "until")?,
         grep: kept(alloc, matches.get_str("grep"))?,
-        is_from_now,
+        is_from_now: follows && !is_asked_back,
+        last,
+        follows,
     })
 }

@@ -4,7 +4,9 @@ use Rattle.std.proofs.lemmas.Bool.{or_parts, ltb-false, eqb-false}
 use Rattle.std.proofs.lemmas.List.{drop-drop, take-append-drop, drop_all, length-drop}
 use Rattle.std.proofs.Math.Seq.{take-append_seam, take-length}
 use Rattle.std.proofs.lemmas.List.Elements.{All-append, All-map, All-cons, All-nil, All-push}
-use Rattle.std.specs.Prelude.{nat_lt, slice_index_or, is_some, Some, None, option_and_then, codes, IsUtf8, IfSome, MatchOption}
+use Rattle.std.specs.Prelude.{nat_lt, slice_index_or, is_some, Some, None, option_and_then, option_to_list, codes, IsUtf8, IfSome, MatchOption}
+use Rattle.std.specs.declared.vec.Vec.{Vec}
+use Rattle.std.specs.declared.alloc.Global.{Global}
 use Rattle.serde_json.specs.Data.{Data}
 use Rattle.serde_json.specs.Read.{read}
 use Rattle.serde_json.specs.Find.{get, as_str}
@@ -12,8 +14,9 @@ use Rattle.std.specs.List.{All}
 use Rattle.std.specs.Io.KnownBytes.{Appends, Keeps}
 use Rattle.std.proofs.KnownBytes.{Appends-trans, Appends-nil}
 use Rattle.shown_listings.specs.declared.given.Given.{Given}
+use Rattle.shown_listings.specs.declared.look.Rule.{Rule}
 use Rattle.shown_listings.specs.Ends.{text_of_lines, counted}
-use Rattle.shown_listings.specs.Rows.{shown_byte, unfed_byte, cut_sign, ShowsText, whole, front, HasNoFeed, ShowsInRow, IsRow, HaveRows, none, with_row, left_out, text_of_rows, Sends, AreLines, given_lines, text_in, bit, laid_contents}
+use Rattle.shown_listings.specs.Rows.{shown_byte, unfed_byte, cut_sign, ShowsText, whole, front, HasNoFeed, ShowsInRow, IsRow, HaveRows, none, with_row, left_out, text_of_rows, Sends, AreLines, given_lines, text_in, rows_in, bit, told_last, laid_contents}
 
 abbrev other : ℕ → Type 0
 other byte = byte ≢ 10
@@ -82,32 +85,34 @@ row-made cut text before part after row shows is = record {
 }
 
 -- One line more has its row.
-pub rows-grown : (each cut : Bool) (lines rows : List (List ℕ)) (l r : List ℕ) → IsRow cut l r → HaveRows each cut lines rows → HaveRows each cut (lines ++ l ∷ []) (rows ++ r ∷ [])
+rows-grown : (each cut : Bool) (lines rows : List (List ℕ)) (l r : List ℕ) → IsRow cut l r → HaveRows each cut lines rows → HaveRows each cut (lines ++ l ∷ []) (rows ++ r ∷ [])
 rows-grown each cut _ _ l r is none = with_row l r is none
 rows-grown each cut _ _ l r is (with_row line first {lines} {rows} was more) = with_row line first was (rows-grown each cut lines rows l r is more)
 rows-grown each cut _ _ l r is (left_out line {lines} {rows} so more) = left_out line so (rows-grown each cut lines rows l r is more)
 
 -- One line more has none.
-pub rows-left : (each cut : Bool) (lines rows : List (List ℕ)) (l : List ℕ) → each ≡ false → HaveRows each cut lines rows → HaveRows each cut (lines ++ l ∷ []) rows
+rows-left : (each cut : Bool) (lines rows : List (List ℕ)) (l : List ℕ) → each ≡ false → HaveRows each cut lines rows → HaveRows each cut (lines ++ l ∷ []) rows
 rows-left each cut _ _ l lacks none = left_out l lacks none
 rows-left each cut _ _ l lacks (with_row line first {lines} {rows} was more) = with_row line first was (rows-left each cut lines rows l lacks more)
 rows-left each cut _ _ l lacks (left_out line {lines} {rows} so more) = left_out line so (rows-left each cut lines rows l lacks more)
 
-pub rows-grown-at : (each cut : Bool) (lines later rows more : List (List ℕ)) (l r : List ℕ) → IsRow cut l r → later ≡ lines ++ l ∷ [] → more ≡ rows ++ r ∷ [] → HaveRows each cut lines rows → HaveRows each cut later more
-rows-grown-at each cut lines later rows more l r is came laid have =
-    subst (λ ls. HaveRows each cut ls more) (sym came) (subst (λ rs. HaveRows each cut (lines ++ l ∷ []) rs) (sym laid) (rows-grown each cut lines rows l r is have))
+-- One line more has its row, or none.
+pub line-laid : (each cut : Bool) (lines rows : List (List ℕ)) (line : List ℕ) (row : Option (Vec ℕ Global)) → MatchOption row (each ≡ false) (λ r. IsRow cut line r.items)
+    → HaveRows each cut lines rows → HaveRows each cut (lines ++ line ∷ []) (rows ++ rows_in (option_to_list row))
+line-laid each cut lines rows line None lacks have = subst (λ rs. HaveRows each cut (lines ++ line ∷ []) rs) (sym (append-nil rows)) (rows-left each cut lines rows line lacks have)
+line-laid each cut lines rows line (Some row) is have = rows-grown each cut lines rows line row.items is have
 
-pub rows-left-at : (each cut : Bool) (lines later rows : List (List ℕ)) (l : List ℕ) → each ≡ false → later ≡ lines ++ l ∷ [] → HaveRows each cut lines rows → HaveRows each cut later rows
-rows-left-at each cut lines later rows l lacks came have = subst (λ ls. HaveRows each cut ls rows) (sym came) (rows-left each cut lines rows l lacks have)
-
-pub lines-grown : (lines : List (List ℕ)) (line : List ℕ) → text_of_lines (lines ++ line ∷ []) ≡ text_of_lines lines ++ (line ++ 10 ∷ [])
+lines-grown : (lines : List (List ℕ)) (line : List ℕ) → text_of_lines (lines ++ line ∷ []) ≡ text_of_lines lines ++ (line ++ 10 ∷ [])
 lines-grown [] line = refl
 lines-grown (first ∷ lines) line =
     ap (λ l. first ++ 10 ∷ l) (lines-grown lines line) ∙ sym (append_assoc first (10 ∷ text_of_lines lines) (line ++ 10 ∷ []))
 
-pub text_of_rows-grown : (rows : List (List ℕ)) (r : List ℕ) → text_of_rows (rows ++ r ∷ []) ≡ text_of_rows rows ++ r
-text_of_rows-grown [] r = append-nil r
-text_of_rows-grown (first ∷ rows) r = ap (λ l. first ++ l) (text_of_rows-grown rows r) ∙ sym (append_assoc first (text_of_rows rows) r)
+pub text_of_rows-append : (rows more : List (List ℕ)) → text_of_rows (rows ++ more) ≡ text_of_rows rows ++ text_of_rows more
+text_of_rows-append [] more = refl
+text_of_rows-append (first ∷ rows) more = ap (λ l. first ++ l) (text_of_rows-append rows more) ∙ sym (append_assoc first (text_of_rows rows) (text_of_rows more))
+
+text_of_rows-grown : (rows : List (List ℕ)) (r : List ℕ) → text_of_rows (rows ++ r ∷ []) ≡ text_of_rows rows ++ r
+text_of_rows-grown rows r = text_of_rows-append rows (r ∷ []) ∙ ap (λ l. text_of_rows rows ++ l) (append-nil r)
 
 -- What is behind a place is all of it.
 pub rest-whole : (n : ℕ) (bytes : List ℕ) → take (length bytes - n) (drop n bytes) ≡ drop n bytes
@@ -167,14 +172,10 @@ matched (Some x) N P Q f is = f x is
 -- ---- a line more
 
 -- The line that came whole has no line feed of its own.
-pub lines_whole-grown : (lines later : List (List ℕ)) (line rest left : List ℕ) → AreLines lines line → HasNoFeed rest → later ≡ lines ++ (line ++ rest) ∷ [] → left ≡ [] → AreLines later left
-lines_whole-grown lines later line rest left are other_rest came cleared =
+pub lines-laid : (lines later : List (List ℕ)) (line : List ℕ) → AreLines lines line → later ≡ lines ++ line ∷ [] → AreLines later line
+lines-laid lines later line are came =
     let P : List (List ℕ) → Type 0 = λ l. All HasNoFeed l in
-    let Q : List ℕ → Type 0 = λ l. HasNoFeed l in
-    record {
-      each = subst P (sym came) (All-push HasNoFeed lines (line ++ rest) are.each (All-append other line rest are.last other_rest));
-      last = subst Q (sym cleared) (All-nil other);
-    }
+    record { each = subst P (sym came) (All-push HasNoFeed lines line are.each are.last); last = are.last }
 
 -- More of a line came.
 pub line-grown : (lines : List (List ℕ)) (line more after : List ℕ) → AreLines lines line → HasNoFeed more → after ≡ line ++ more → AreLines lines after
@@ -203,23 +204,20 @@ sends-next now written taken sent row rows later all was came =
 pub line-back : (line rest after : List ℕ) (held : ℕ) → held ≡ length line → after ≡ take held (line ++ rest) → after ≡ line
 line-back line rest after held size back = back ∙ ap (λ n. take n (line ++ rest)) size ∙ take-append_seam line rest
 
+-- the numbers that tell which rows a writer of rows has come before the others
+abbrev pub with_rule : Rule → List ℕ → List ℕ
+with_rule rule told = bit rule.shows_each ∷ bit rule.may_cut ∷ told_last rule.last ∷ bit rule.follows ∷ told
+
 -- What a writer holds grows by what is given.
-pub contents-grown : (each cut each_then cut_then : Bool) (start later : Option (List ℕ)) (given after part : List ℕ) → each_then ≡ each → cut_then ≡ cut → later ≡ start → after ≡ given ++ part
-    → Appends (laid_contents each cut start given) (laid_contents each_then cut_then later after) part
+pub contents-grown : (rule rule_then : Rule) (start later : Option (List ℕ)) (given after part : List ℕ) → rule_then ≡ rule → later ≡ start → after ≡ given ++ part
+    → Appends (laid_contents rule start given) (laid_contents rule_then later after) part
 unfolding laid_contents
-contents-grown each cut each_then cut_then start later given after part same_each same_cut same grown =
+contents-grown rule rule_then start later given after part same_rule same grown =
     let whole_text : counted later ++ after ≡ (counted start ++ given) ++ part = ap (λ s. counted s ++ after) same ∙ ap (λ l. counted start ++ l) grown ∙ sym (append_assoc (counted start) given part) in
-    ap (λ b. bit b ∷ bit cut_then ∷ (counted later ++ after)) same_each ∙ ap (λ b. bit each ∷ bit b ∷ (counted later ++ after)) same_cut ∙ ap (λ l. bit each ∷ bit cut ∷ l) whole_text
+    ap (λ (r : Rule). with_rule r (counted later ++ after)) same_rule ∙ ap (λ l. with_rule rule l) whole_text
 
-pub contents-kept : (each cut each_then cut_then : Bool) (start later : Option (List ℕ)) (given after : List ℕ) → each_then ≡ each → cut_then ≡ cut → later ≡ start → after ≡ given
-    → Keeps (laid_contents each cut start given) (laid_contents each_then cut_then later after)
+pub contents-kept : (rule rule_then : Rule) (start later : Option (List ℕ)) (given after : List ℕ) → rule_then ≡ rule → later ≡ start → after ≡ given
+    → Keeps (laid_contents rule start given) (laid_contents rule_then later after)
 unfolding laid_contents
-contents-kept each cut each_then cut_then start later given after same_each same_cut same kept =
-    ap (λ b. bit b ∷ bit cut_then ∷ (counted later ++ after)) same_each ∙ ap (λ b. bit each ∷ bit b ∷ (counted later ++ after)) same_cut
-    ∙ ap (λ s. bit each ∷ bit cut ∷ (counted s ++ after)) same ∙ ap (λ l. bit each ∷ bit cut ∷ (counted start ++ l)) kept
-
-pub matched-some : {A : Type 0} (o : Option A) (x : A) (N : Type 0) (P : A → Type 0) → o ≡ Some x → MatchOption o N P → P x
-matched-some o x N P e is = subst (λ k. MatchOption k N P) e is
-
-pub matched-none : {A : Type 0} (o : Option A) (N : Type 0) (P : A → Type 0) → o ≡ None → MatchOption o N P → N
-matched-none o N P e is = subst (λ k. MatchOption k N P) e is
+contents-kept rule rule_then start later given after same_rule same kept =
+    ap (λ (r : Rule). with_rule r (counted later ++ after)) same_rule ∙ ap (λ s. with_rule rule (counted s ++ after)) same ∙ ap (λ l. with_rule rule (counted start ++ l)) kept

@@ -5,7 +5,8 @@ use Rattle.command_line.specs.declared.layout.Layout.{Layout}
 use Rattle.command_line.specs.Layouts.{shows_each, may_cut}
 use Rattle.shown_listings.specs.declared.laid_out.RowsEnd.{RowsEnd}
 use Rattle.shown_listings.specs.declared.laid_out.RowsEnd.TheVariants as ends
-use Rattle.shown_listings.specs.Rows.{HaveRows, AreLines, given_lines, text_of_rows}
+use Rattle.shown_listings.specs.declared.look.Rule.{Rule}
+use Rattle.shown_listings.specs.Rows.{AreLines, ShowsRows, given_lines}
 use Rattle.trace_text.specs.declared.choice.Choice.{Choice}
 use Rattle.command_line.specs.declared.request.Shown.{Shown}
 use Rattle.shown_listings.specs.Ends.{Passed}
@@ -45,19 +46,17 @@ abbrev pub ShowsBy : Bool → Listing → Listing
 ShowsBy false Lists result was now = Lists result was now
 ShowsBy true Lists result was now = UpToEnd Lists result was now
 
+-- which rows a layout asks for
+abbrev pub rule_in : Layout → Rule
+rule_in layout = record { shows_each = shows_each layout; may_cut = may_cut layout; last = layout.last; follows = layout.follows }
+
 -- A text was laid out, as far as it came: its lines have rows, and the first bytes of these are written, or all.
 pub record HasRows (layout : Layout) (whole : Type 0) (text : List ℕ) (was now : Option (List ℕ)) : Type 0 where
   pub lines : List (List ℕ)
   pub rest : List ℕ
   pub is : given_lines lines rest ≡ text
   pub each : AreLines lines rest
-  pub rows : List (List ℕ)
-  pub have : ∥ HaveRows (shows_each layout) (may_cut layout) lines rows ∥₁
-  pub written : List ℕ
-  pub left : List ℕ
-  pub front : written ++ left ≡ text_of_rows rows
-  pub all : whole → left ≡ []
-  pub shown : Appends was now written
+  pub shows : ShowsRows (rule_in layout) whole lines was now
 
 -- All that is listed went to a writer that held some bytes before. Where a text came to these, it was laid out.
 pub record LaysOut (layout : Layout) (whole : Type 0) (Lists : Option (List ℕ) → Option (List ℕ) → Type 0) (was now : Option (List ℕ)) : Type 0 where

@@ -1,11 +1,15 @@
 -- The rows of a listing for people, one for a line.
-use Rattle.std.specs.Prelude.{◌≡◌, ◌≢◌, ℕ, Bool, true, false, ◌||◌, ◌==◌, nat_lt, Option, Some, List, [], ◌∷◌, ◌++◌, map, take, codes, if◌then◌else◌, option_and_then, IfSome, IsUtf8}
+use Rattle.std.specs.Prelude.{◌≡◌, ◌≢◌, ℕ, suc, ◌-◌, Bool, true, false, ◌||◌, ◌==◌, nat_lt, Option, Some, None, OnSome, List, [], ◌∷◌, ◌++◌, map, take, drop, length, codes, if◌then◌else◌, option_and_then, IfSome, IsUtf8, bytes_eq}
+use Rattle.std.specs.declared.vec.Vec.{Vec}
+use Rattle.std.specs.declared.alloc.Global.{Global}
 use Rattle.std.specs.List.{All}
-use Rattle.std.specs.Coded.{coded_list, coded_ℕ, Coded-set, Π_prop, →_prop}
+use Rattle.std.specs.Coded.{coded_list, coded_ℕ, Coded-set, Unit-prop, Π_prop, →_prop}
 use Rattle.shown_listings.specs.Growth.{Appends-prop}
 use Rattle.std.specs.Io.KnownBytes.{Appends}
 use Rattle.shown_listings.specs.Ends.{text_of_lines, counted}
 use Rattle.shown_listings.specs.declared.given.Given.{Given}
+use Rattle.shown_listings.specs.declared.look.Rule.{Rule}
+use Rattle.trace_text.specs.Objects.{object_text, end_members}
 use Rattle.serde_json.specs.Read.{read}
 use Rattle.serde_json.specs.Find.{get, as_str}
 
@@ -55,6 +59,65 @@ pub data HaveRows (each cut : Bool) : List (List ℕ) → List (List ℕ) → Ty
   with_row : (line row : List ℕ) {lines rows : List (List ℕ)} → IsRow cut line row → HaveRows each cut lines rows → HaveRows each cut (line ∷ lines) (row ∷ rows)
   left_out : (line : List ℕ) {lines rows : List (List ℕ)} → each ≡ false → HaveRows each cut lines rows → HaveRows each cut (line ∷ lines) rows
 
+-- the line is the last of the listing of a trace
+abbrev pub is_end : List ℕ → Bool
+is_end line = bytes_eq line (object_text end_members)
+
+-- the last n rows
+abbrev pub last_rows : ℕ → List (List ℕ) → List (List ℕ)
+last_rows n rows = drop (length rows - n) rows
+
+-- Of the rows that the lines have, these are the last n. The last line of a listing isn't among them.
+pub record HaveLast (n : ℕ) (each cut : Bool) (lines rows : List (List ℕ)) : Type 0 where
+  pub unended : All (λ line. is_end line ≡ false) lines
+  pub all : List (List ℕ)
+  pub have : HaveRows each cut lines all
+  pub are : rows ≡ last_rows n all
+
+-- what comes behind lines of which the last rows alone are shown: the last line of the listing; or, where what is added is shown too, any
+pub data ComesBehind (follows : Bool) : List (List ℕ) → Type 0 where
+  added : (lines : List (List ℕ)) → follows ≡ true → ComesBehind follows lines
+  ended : (line : List ℕ) (lines : List (List ℕ)) → is_end line ≡ true → ComesBehind follows (line ∷ lines)
+
+-- of the first lines the last n rows are shown, of the others each row that they have
+pub record HaveLastFirst (n : ℕ) (each cut follows : Bool) (lines rows : List (List ℕ)) : Type 0 where
+  pub first : List (List ℕ)
+  pub others : List (List ℕ)
+  pub shown : List (List ℕ)
+  pub more : List (List ℕ)
+  pub lines_are : lines ≡ first ++ others
+  pub rows_are : rows ≡ shown ++ more
+  pub last : HaveLast n each cut first shown
+  pub behind : ComesBehind follows others
+  pub have : HaveRows each cut others more
+
+-- the rows of lines, of which no row is held back
+abbrev pub HavePassed : Option ℕ → Rule → List (List ℕ) → List (List ℕ) → Type 0
+HavePassed None rule lines rows = HaveRows rule.shows_each rule.may_cut lines rows
+HavePassed (Some n) rule lines rows = HaveLastFirst n rule.shows_each rule.may_cut rule.follows lines rows
+
+-- the rows of lines, of which so many are held back, or none
+abbrev pub AreLaid : Option ℕ → Rule → List (List ℕ) → List (List ℕ) → Type 0
+AreLaid None rule lines rows = HavePassed rule.last rule lines rows
+AreLaid (Some n) rule lines rows = (rule.last ≡ Some n) × HaveLast n rule.shows_each rule.may_cut lines rows
+
+-- how many rows are held back behind a line
+abbrev pub held_behind : List ℕ → Option ℕ → Option ℕ
+held_behind line most = if is_end line then None else most
+
+-- the texts of rows that are held back
+abbrev pub rows_in : List (Vec ℕ Global) → List (List ℕ)
+rows_in rows = map (λ row. row.items) rows
+
+-- of rows of which so many are held back at most, the last; else all
+abbrev pub kept_rows : Option ℕ → List (List ℕ) → List (List ℕ)
+kept_rows None rows = rows
+kept_rows (Some n) rows = last_rows n rows
+
+-- while rows are held back none was sent
+abbrev pub SendsNone : Option ℕ → List (List ℕ) → Type 0
+SendsNone most sent = OnSome most (sent ≡ [])
+
 -- rows, one behind the other
 abbrev pub text_of_rows : List (List ℕ) → List ℕ
 text_of_rows [] = []
@@ -78,9 +141,25 @@ abbrev pub bit : Bool → ℕ
 bit false = 0
 bit true = 1
 
+-- a number that tells how many rows are held back
+abbrev pub told_last : Option ℕ → ℕ
+told_last None = 0
+told_last (Some n) = suc n
+
 -- A writer of rows holds, as a writer, which rows it has, what the one below held when it was made, and what it was given since.
-unfoldable pub laid_contents : Bool → Bool → Option (List ℕ) → List ℕ → Option (List ℕ)
-laid_contents each cut start given = Some (bit each ∷ bit cut ∷ (counted start ++ given))
+unfoldable pub laid_contents : Rule → Option (List ℕ) → List ℕ → Option (List ℕ)
+laid_contents rule start given = Some (bit rule.shows_each ∷ bit rule.may_cut ∷ told_last rule.last ∷ bit rule.follows ∷ (counted start ++ given))
+
+-- The rows of lines went to a writer: the first bytes of them, or all.
+pub record ShowsRows (rule : Rule) (whole : Type 0) (lines : List (List ℕ)) (was now : Option (List ℕ)) : Type 0 where
+  pub rows : List (List ℕ)
+  pub held : Option ℕ
+  pub are : ∥ AreLaid held rule lines rows ∥₁
+  pub written : List ℕ
+  pub left : List ℕ
+  pub front : written ++ left ≡ text_of_rows rows
+  pub all : whole → left ≡ []
+  pub shown : Appends was now written
 
 pub Sends-prop : (now : Option (List ℕ)) (written : Given) (left all : List ℕ) → IsProp (Sends now written left all)
 Sends-prop now written left all = λ p q. λ i. record {
@@ -90,6 +169,10 @@ Sends-prop now written left all = λ p q. λ i. record {
 
 pub HasNoFeed-prop : (bytes : List ℕ) → IsProp (HasNoFeed bytes)
 HasNoFeed-prop bytes = Π_prop (λ k. Π_prop (λ d. →_prop (→_prop (λ x y. absurd x))))
+
+pub SendsNone-prop : (most : Option ℕ) (sent : List (List ℕ)) → IsProp (SendsNone most sent)
+SendsNone-prop None sent = Unit-prop
+SendsNone-prop (Some n) sent = Coded-set (coded_list (coded_list coded_ℕ)) _ _
 
 pub AreLines-prop : (lines : List (List ℕ)) (rest : List ℕ) → IsProp (AreLines lines rest)
 AreLines-prop lines rest = λ p q. λ i. record {

@@ -1,5 +1,6 @@
 //! The times of rows.
 
+use crate::zone::Zone;
 use command_line::TimeColumn;
 use std::alloc::{AllocError, Global};
 use std::fmt;
@@ -8,8 +9,8 @@ use trace_summary::time_in;
 /// The nanoseconds of a second.
 const SECOND: u64 = 1_000_000_000;
 
-/// The seconds of a day.
-const DAY: u64 = 86_400;
+/// The nanoseconds of a day.
+const DAY: i64 = 86_400_000_000_000;
 
 /// The time that a message tells, in nanoseconds.
 #[derive(Clone, Copy)]
@@ -24,6 +25,14 @@ impl Stamp {
     pub fn nanos(self) -> i64 {
         match self {
             Stamp::Wall(nanos) | Stamp::Monotonic(nanos) => nanos,
+        }
+    }
+
+    /// As the clocks of a zone tell it.
+    pub fn told_in(self, zone: &Zone) -> Stamp {
+        match self {
+            Stamp::Wall(nanos) => Stamp::Wall(zone.told_at(nanos)),
+            Stamp::Monotonic(_) => self,
         }
     }
 }
@@ -55,7 +64,7 @@ pub struct TimeOfDay(pub u64);
 
 impl fmt::Display for TimeOfDay {
     fn fmt<W: fmt::Write>(&self, f: &mut fmt::Formatter<W>) -> fmt::Result {
-        let seconds = self.0 / SECOND % DAY;
+        let seconds = self.0 / SECOND;
         let (hours, minutes) = (seconds / 3_600, seconds / 60 % 60);
         let (rest, micros) = (seconds % 60, self.0 % SECOND / 1_000);
         write!(f, "{hours:02}:{minutes:02}:{rest:02}.{micros:06}")
@@ -153,12 +162,13 @@ impl Clock {
         self.wall.first.is_some() || self.monotonic.first.is_some()
     }
 
-    /// What the column has for a row with this time.
+    /// What the column has for a row with this time, in a zone.
     pub fn tell(
         &mut self,
         alloc: Global,
         column: TimeColumn,
         stamp: Stamp,
+        zone: &Zone,
     ) -> Result<String, AllocError> {
         let nanos = stamp.nanos();
         let had = match stamp {
@@ -169,6 +179,7 @@ impl Clock {
         had.note(nanos);
         match (stamp, column) {
             (Stamp::Wall(nanos), TimeColumn::Clock) => {
+                let nanos = zone.told_at(nanos).rem_euclid(DAY);
                 let time = TimeOfDay(u64::try_from(nanos).unwrap_or(0));
                 format!(in alloc; "{time}")
             }

@@ -1,14 +1,17 @@
 //! A writer that lays out a listing for a person.
-ghost use Rattle.std.specs.Prelude.{◌≡◌, ◌≤◌, ◌<◌, ◌+◌, ◌++◌, ◌∷◌, ℕ, Option, List, [], length, take, drop, OnOk, OnErr, MatchOption};
+ghost use Rattle.std.specs.Prelude.{◌≡◌, ◌≤◌, ◌<◌, ◌+◌, ◌++◌, ◌∷◌, ℕ, Option, List, [], length, take, drop, OnOk, OnErr, MatchOption, IsOk};
 ghost use Rattle.std.specs.Io.{WritesAtMost, KnownBytes.Keeps, KnownBytes.WriteAppends};
-ghost use Rattle.shown_listings.specs.{Rows.HaveRows, Rows.AreLines, Rows.AreLines-prop, Rows.Sends, Rows.Sends-prop, Rows.HasNoFeed, Rows.text_of_rows, Rows.given_lines, Rows.laid_contents};
+ghost use Rattle.shown_listings.specs.{Rows.AreLaid, Rows.AreLines, Rows.AreLines-prop, Rows.Sends, Rows.Sends-prop, Rows.SendsNone, Rows.SendsNone-prop, Rows.ShowsRows, Rows.HasNoFeed, Rows.text_of_rows, Rows.rows_in, Rows.given_lines, Rows.laid_contents};
 
 use crate::given::Given;
+use crate::held::{held_behind, hold};
 use crate::look::Look;
 use crate::noted::Noted;
 use crate::rows::Rows;
-use crate::sending::{Unsent, send};
+use crate::sending::{Unsent, send_held};
+use crate::zone::Zone;
 use std::alloc::{AllocError, Global};
+use std::collections::VecDeque;
 use std::io::{self, ErrorKind, Write};
 
 /// The end of a line.
@@ -25,6 +28,19 @@ pub enum RowsEnd {
     NoMemory,
 }
 
+/// How rows ended, by whether there was memory for each and by how the last were sent.
+fn end_of(is_out_of_memory: bool, sent: io::Result<()>) -> RowsEnd
+    ensures { result ≡ RowsEnd.Written → IsOk sent }
+{
+    if is_out_of_memory {
+        RowsEnd::NoMemory
+    } else if sent.is_ok() {
+        RowsEnd::Written
+    } else {
+        RowsEnd::Unwritten
+    }
+}
+
 /// Takes a listing as objects, and writes a row for each line.
 #[derive(Drop)]
 pub struct LaidOut<W: Write> {
@@ -33,48 +49,58 @@ pub struct LaidOut<W: Write> {
     rows: Rows,
     /// What came of a line that hasn't come whole.
     line: Vec<u8>,
-    /// The last row.
+    /// The last row that was begun.
     unsent: Unsent,
+    /// The rows behind it.
+    held: VecDeque<Vec<u8>>,
+    /// How many of these are held back at most, where they are.
+    most: Option<u32>,
     /// There was no memory for a row.
     is_out_of_memory: bool,
     pub written: Given,
     pub lines: Noted,
-    pub laid: Noted,
+    laid: Noted,
     pub ghost lines_whole: { AreLines lines.items line.items } by { AreLines-prop lines.items line.items },
-    pub ghost rows_each: { ∥ HaveRows look.shows_each look.may_cut lines.items laid.items ∥₁ },
+    pub ghost rows_each: { ∥ AreLaid most look.rule lines.items (laid.items ++ rows_in held.items) ∥₁ },
+    pub ghost sends_none: { SendsNone most laid.items } by { SendsNone-prop most laid.items },
     pub ghost sends: { Sends (W.contents out) written (drop unsent.taken unsent.bytes.items) (text_of_rows laid.items) } by { Sends-prop (W.contents out) written (drop unsent.taken unsent.bytes.items) (text_of_rows laid.items) },
 }
 
+/// The rows, or where there was no memory for them some that nothing is made of; and whether there was none.
+fn rows_or_none(alloc: Global, rows: Result<Rows, AllocError>) -> (Rows, bool) {
+    match rows {
+        Ok(rows) => (rows, false),
+        Err(AllocError) => (Rows::new(alloc, Zone::Utc, None), true),
+    }
+}
+
 impl<W: Write> LaidOut<W> {
-    /// A writer that nothing came to. It shows the rows whose text has `grep`, where that is there; where there was no memory for
-    /// that, it takes nothing.
+    /// A writer that nothing came to. Where there was no memory for its rows, it takes nothing.
     pub fn new(
         alloc: Global,
         out: W,
         look: Look,
-        grep: Result<Option<String>, AllocError>,
+        rows: Result<Rows, AllocError>,
     ) -> LaidOut<W>
         ghost start: { Option (List ℕ) }
         requires { start ≡ W.contents out }
         ensures start { result.written.start ≡ W.contents out }
         ensures lines { result.lines.items ≡ [] }
         ensures line { result.line.items ≡ [] }
-        ensures out { result.out ≡ out }
         ensures look { result.look ≡ look }
     {
-        let (grep, is_out_of_memory) = match grep {
-            Ok(grep) => (grep, false),
-            Err(AllocError) => (None, true),
-        };
+        let (rows, is_out_of_memory) = rows_or_none(alloc, rows);
         LaidOut {
             out,
             look,
-            rows: Rows::new(alloc, grep),
+            rows,
             line: Vec::new(alloc),
             unsent: Unsent {
                 bytes: Vec::new(alloc),
                 taken: 0,
             },
+            held: VecDeque::new(alloc),
+            most: look.rule.last,
             is_out_of_memory,
             written: Given::new(),
             lines: Noted::new(),
@@ -82,36 +108,53 @@ impl<W: Write> LaidOut<W> {
         }
     }
 
-    /// Writes what is left of the rows.
+    /// Writes what is left of the rows, and tells how they ended.
+    pub fn end(self) -> (RowsEnd, W)
+        ensures { ShowsRows self.look.rule (result.0 ≡ RowsEnd.Written) self.lines.items
+            self.written.start (W.contents result.1) }
+    {
+        let LaidOut {
+            mut out,
+            mut unsent,
+            mut held,
+            is_out_of_memory,
+            mut written,
+            mut laid,
+            ..
+        } = self;
+        let sent = send_held(&mut out, &mut unsent, &mut held, &mut written, &mut laid);
+        let end = end_of(is_out_of_memory, sent);
+        (end, out)
+    }
+
+    /// Writes the rows that aren't held back.
     fn send(&mut self) -> io::Result<()>
         ensures look { self.new.look ≡ self.old.look }
         ensures line { self.new.line ≡ self.old.line }
         ensures lines { self.new.lines ≡ self.old.lines }
-        ensures laid { self.new.laid ≡ self.old.laid }
         ensures start { self.new.written.start ≡ self.old.written.start }
-        ensures all { OnOk result
-            (length self.new.unsent.bytes.items ≤ self.new.unsent.taken) }
     {
-        send(&mut self.out, &mut self.unsent, &mut self.written)
+        if self.most.is_some() {
+            return Ok(());
+        }
+        send_held(
+            &mut self.out,
+            &mut self.unsent,
+            &mut self.held,
+            &mut self.written,
+            &mut self.laid,
+        )
     }
 
-    /// Writes what is left of the rows, and tells how they ended.
-    pub fn end(&mut self) -> RowsEnd
+    /// Where what comes from now on is shown too, no row is held back any more.
+    fn let_out(&mut self)
         ensures look { self.new.look ≡ self.old.look }
         ensures line { self.new.line ≡ self.old.line }
         ensures lines { self.new.lines ≡ self.old.lines }
-        ensures laid { self.new.laid ≡ self.old.laid }
         ensures start { self.new.written.start ≡ self.old.written.start }
-        ensures all { result ≡ RowsEnd.Written
-            → length self.new.unsent.bytes.items ≤ self.new.unsent.taken }
     {
-        let sent = self.send();
-        if self.is_out_of_memory {
-            RowsEnd::NoMemory
-        } else if sent.is_ok() {
-            RowsEnd::Written
-        } else {
-            RowsEnd::Unwritten
+        if self.look.rule.follows {
+            self.most = None;
         }
     }
 
@@ -128,10 +171,26 @@ impl<W: Write> LaidOut<W> {
         self.line.extend_from_slice(more)
     }
 
+    /// Makes the row of the line that came.
+    fn lay(&mut self) -> Result<(), AllocError>
+        ensures look { self.new.look ≡ self.old.look }
+        ensures start { self.new.written.start ≡ self.old.written.start }
+        ensures line { self.new.line ≡ self.old.line }
+        ensures ok { OnOk result (self.new.lines.items
+            ≡ self.old.lines.items ++ self.old.line.items ∷ []) }
+        ensures err { OnErr result (self.new.lines ≡ self.old.lines) }
+    {
+        let row = self.rows.row_of(&self.look, &self.line)?;
+        let most = held_behind(&self.line, self.most);
+        hold(&mut self.held, row, most)?;
+        self.most = most;
+        self.lines.note(&self.line);
+        Ok(())
+    }
+
     /// Takes the rest of a line, and makes its row.
     fn end_line(&mut self, rest: &[u8]) -> Result<(), AllocError>
-        requires no_feed { HasNoFeed rest.now }
-        requires sent { length self.old.unsent.bytes.items ≤ self.old.unsent.taken }
+        requires { HasNoFeed rest.now }
         ensures look { self.new.look ≡ self.old.look }
         ensures start { self.new.written.start ≡ self.old.written.start }
         ensures ok { OnOk result (given_lines self.new.lines.items self.new.line.items
@@ -139,26 +198,15 @@ impl<W: Write> LaidOut<W> {
         ensures err { OnErr result ((self.new.lines ≡ self.old.lines)
             × (self.new.line.items ≡ self.old.line.items)) }
     {
-        let held = self.line.len();
+        let before = self.line.len();
         self.line.extend_from_slice(rest)?;
-        match self.rows.row_of(&self.look, &self.line) {
-            Ok(Some(row)) => {
-                self.lines.note(&self.line);
-                self.laid.note(&row);
-                self.unsent = Unsent {
-                    bytes: row,
-                    taken: 0,
-                };
-                self.line.clear();
-                Ok(())
-            }
-            Ok(None) => {
-                self.lines.note(&self.line);
+        match self.lay() {
+            Ok(()) => {
                 self.line.clear();
                 Ok(())
             }
             Err(fault) => {
-                self.line.truncate(held);
+                self.line.truncate(before);
                 Err(fault)
             }
         }
@@ -182,13 +230,12 @@ fn line_end(bytes: &[u8]) -> Option<usize>
 impl<W: Write> LaidOut<W> {
     /// Takes bytes up to the end of a line, or all.
     fn take(&mut self, bytes: &[u8]) -> Result<usize, AllocError>
-        requires { length self.old.unsent.bytes.items ≤ self.old.unsent.taken }
         ensures look { self.new.look ≡ self.old.look }
         ensures bound { WritesAtMost result bytes.now }
         ensures bytes { WriteAppends
-            (laid_contents self.old.look.shows_each self.old.look.may_cut self.old.written.start
+            (laid_contents self.old.look.rule self.old.written.start
             (given_lines self.old.lines.items self.old.line.items))
-            (laid_contents self.new.look.shows_each self.new.look.may_cut self.new.written.start
+            (laid_contents self.new.look.rule self.new.written.start
             (given_lines self.new.lines.items self.new.line.items)) result bytes.now }
     {
         match line_end(bytes) {
@@ -205,14 +252,14 @@ impl<W: Write> LaidOut<W> {
 }
 
 impl<W: Write> Write for LaidOut<W> {
-    ghost contents = { λ laid. laid_contents laid.look.shows_each laid.look.may_cut laid.written.start (given_lines laid.lines.items laid.line.items) };
+    ghost contents = { λ laid. laid_contents laid.look.rule laid.written.start (given_lines laid.lines.items laid.line.items) };
 
     fn write(&mut self, bytes: &[u8]) -> io::Result<usize>
         ensures bound { WritesAtMost result bytes.now }
         ensures bytes { WriteAppends
-            (laid_contents self.old.look.shows_each self.old.look.may_cut self.old.written.start
+            (laid_contents self.old.look.rule self.old.written.start
             (given_lines self.old.lines.items self.old.line.items))
-            (laid_contents self.new.look.shows_each self.new.look.may_cut self.new.written.start
+            (laid_contents self.new.look.rule self.new.written.start
             (given_lines self.new.lines.items self.new.line.items)) result bytes.now }
         ensures look { self.new.look ≡ self.old.look }
     {
@@ -231,11 +278,12 @@ impl<W: Write> Write for LaidOut<W> {
 
     fn flush(&mut self) -> io::Result<()>
         ensures stay { Keeps
-            (laid_contents self.old.look.shows_each self.old.look.may_cut self.old.written.start
+            (laid_contents self.old.look.rule self.old.written.start
             (given_lines self.old.lines.items self.old.line.items))
-            (laid_contents self.new.look.shows_each self.new.look.may_cut self.new.written.start
+            (laid_contents self.new.look.rule self.new.written.start
             (given_lines self.new.lines.items self.new.line.items)) }
     {
+        self.let_out();
         self.send()?;
         self.rows.begin();
         self.out.flush()

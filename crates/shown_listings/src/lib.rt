@@ -15,6 +15,7 @@ mod console;
 mod counted;
 mod end_writer;
 mod given;
+mod held;
 mod inlet;
 mod laid_out;
 mod laws;
@@ -29,6 +30,7 @@ mod rows;
 mod screen;
 mod sending;
 mod shown_object;
+mod zone;
 
 pub use console::{Console, console_for};
 pub use inlet::Inlet;

@@ -11,7 +11,9 @@ use crate::end_writer::EndWriter;
 use crate::laid_out::{LaidOut, RowsEnd};
 use crate::look::Look;
 use crate::outlet::{Output, taken};
+use crate::rows::Rows;
 use crate::screen::screen_of;
+use crate::zone::{Zone, local_zone};
 use command_line::{Layout, Shown};
 use faults::Complaint;
 use script_runner::SimFault;
@@ -48,7 +50,8 @@ impl<W: Output> Output for EndWriter<W> {
 
 impl<W: Output> Output for LaidOut<W> {
     fn none(alloc: Global) -> Self {
-        LaidOut::new(alloc, W::none(alloc), Look::PLAIN, Ok(None))
+        let rows = Rows::new(alloc, Zone::Utc, None);
+        LaidOut::new(alloc, W::none(alloc), Look::PLAIN, Ok(rows))
     }
 }
 
@@ -146,19 +149,18 @@ fn told_with(done: Result<(), Complaint>, end: RowsEnd) -> Result<(), Complaint>
     }
 }
 
-/// The writer to which rows went.
-fn rows_out<W: Write>(laid: LaidOut<W>) -> W
-    ensures { result ≡ laid.out }
-{
-    laid.out
-}
-
-/// The text that each row is to have, where one is asked for.
-fn grep_of(layout: &Layout) -> Result<Option<String>, AllocError> {
-    match &layout.grep {
-        Some(text) => Ok(Some(text.clone()?)),
-        None => Ok(None),
-    }
+/// What makes the rows that a layout asks for.
+fn rows_for(rt: &HostRuntime, layout: &Layout) -> Result<Rows, AllocError> {
+    let grep = match &layout.grep {
+        Some(text) => Some(text.clone()?),
+        None => None,
+    };
+    let zone = if layout.is_utc {
+        Zone::Utc
+    } else {
+        local_zone(rt)?
+    };
+    Ok(Rows::new(rt.alloc(), zone, grep))
 }
 
 /// Lists what is shown, laid out for a person.
@@ -176,11 +178,11 @@ fn list_laid_out<S: Listable, R: Wait, I: Read + Drop, W: Output>(
         (W.contents output.old) (W.contents output.new) }
 {
     let look = Look::new(layout, screen_of(rt, layout));
-    let grep = grep_of(layout);
-    let mut laid = LaidOut::new(rt.alloc(), taken(rt.alloc(), output), look, grep);
+    let rows = rows_for(rt, layout);
+    let mut laid = LaidOut::new(rt.alloc(), taken(rt.alloc(), output), look, rows);
     let (done, left) = list_shown(rt.alloc(), waiter, listing, shown, input, &mut laid);
-    let ended = laid.end();
-    *output = rows_out(laid);
+    let (ended, out) = laid.end();
+    *output = out;
     let told = told_with(done, ended);
     (told, left)
 }

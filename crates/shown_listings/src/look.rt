@@ -1,6 +1,6 @@
 //! How rows look, by what a command line asks and by what they are written to.
 ghost use Rattle.std.specs.Prelude.{◌≡◌};
-ghost use Rattle.command_line.specs.Layouts.{shows_each, may_cut};
+ghost use Rattle.shown_listings.specs.Listings.{rule_in};
 
 use crate::clock_text::Stamp;
 use command_line::{Layout, Moment, TimeColumn};
@@ -14,6 +14,19 @@ pub struct Screen {
     pub width: Option<usize>,
 }
 
+/// Which rows are shown, and whether these may lack a part of a text.
+#[derive(Clone, Copy)]
+pub struct Rule {
+    /// Each line has a row, also where the last alone are shown.
+    pub shows_each: bool,
+    /// A text may be cut.
+    pub may_cut: bool,
+    /// How many of the last rows alone are shown, where not all are.
+    pub last: Option<u32>,
+    /// What comes after the first flush is shown too.
+    pub follows: bool,
+}
+
 /// How rows look, and which are shown.
 #[derive(Clone, Copy)]
 pub struct Look {
@@ -23,10 +36,7 @@ pub struct Look {
     pub longest_text: Option<usize>,
     pub since: Option<Moment>,
     pub until: Option<Moment>,
-    /// Each line has a row.
-    pub shows_each: bool,
-    /// A text may be cut.
-    pub may_cut: bool,
+    pub rule: Rule,
     /// What was there when it began isn't shown.
     pub is_from_now: bool,
 }
@@ -37,7 +47,7 @@ const DAY: i64 = 86_400_000_000_000;
 /// The order of a time and a moment, where they are of one clock.
 fn compared(stamp: Stamp, moment: Moment) -> Option<Ordering> {
     match (stamp, moment) {
-        (Stamp::Wall(nanos), Moment::OfDay(moment)) => Some((nanos % DAY).cmp(&moment)),
+        (Stamp::Wall(nanos), Moment::OfDay(moment)) => Some(nanos.rem_euclid(DAY).cmp(&moment)),
         (Stamp::Wall(nanos), Moment::Dated(moment)) => Some(nanos.cmp(&moment)),
         (Stamp::Monotonic(nanos), Moment::Monotonic(moment)) => Some(nanos.cmp(&moment)),
         _ => None,
@@ -53,15 +63,18 @@ impl Look {
         longest_text: None,
         since: None,
         until: None,
-        shows_each: true,
-        may_cut: false,
+        rule: Rule {
+            shows_each: true,
+            may_cut: false,
+            last: None,
+            follows: false,
+        },
         is_from_now: false,
     };
 
     /// How a listing looks on a screen.
     pub fn new(layout: &Layout, screen: Screen) -> Look
-        ensures each { result.shows_each ≡ shows_each layout.now }
-        ensures cut { result.may_cut ≡ may_cut layout.now }
+        ensures { result.rule ≡ rule_in layout.now }
     {
         Look {
             times: layout.times,
@@ -70,13 +83,17 @@ impl Look {
             longest_text: layout.longest_text.map(|most| most as usize),
             since: layout.since,
             until: layout.until,
-            shows_each: layout.shows_each(),
-            may_cut: layout.may_cut(),
+            rule: Rule {
+                shows_each: layout.shows_each(),
+                may_cut: layout.may_cut(),
+                last: layout.last,
+                follows: layout.follows,
+            },
             is_from_now: layout.is_from_now,
         }
     }
 
-    /// Whether a time is one that is shown. Where nothing is asked of times, each is, and else none that isn't told.
+    /// Whether a time, as it is told, is one that is shown. Where nothing is asked of times, each is, and else none that isn't told.
     pub fn is_between(&self, time: Option<Stamp>) -> bool {
         let Some(stamp) = time else {
             return self.since.is_none() && self.until.is_none();

@@ -1,6 +1,6 @@
 //! The rows of a listing, made of its objects one by one.
 ghost use Rattle.std.specs.Prelude.{◌≡◌, ◌||◌, ℕ, List, true, false, is_some, IfOk, MatchOption};
-ghost use Rattle.shown_listings.specs.Rows.{IsRow, ShowsInRow};
+ghost use Rattle.shown_listings.specs.Rows.{IsRow, ShowsInRow, is_end};
 
 use crate::clock_text::{Clock, Fineness, Seconds, Stamp, fineness_of, stamp_in};
 use crate::look::Look;
@@ -8,6 +8,7 @@ use crate::nesting::{Nested, Nesting, Told};
 use crate::notices::notice_of;
 use crate::row::{Parts, Room, row_of};
 use crate::shown_object::{member, number, read_object, text_of};
+use crate::zone::Zone;
 use serde_json::Value;
 use std::alloc::{AllocError, Global};
 
@@ -16,6 +17,9 @@ const STEP: usize = 2;
 
 /// The most columns for that, where rows aren't cut at a width.
 const MOST_STEPS: usize = 40;
+
+/// The line that tells the end of a trace.
+const END: [u8; 23] = *b"{\"kind\":\"end_of_trace\"}";
 
 /// Ends the colour of a row.
 const PLAIN: &str = "\x1b[0m";
@@ -33,6 +37,13 @@ fn colour_of(kind: &str) -> &'static str {
     }
 }
 
+/// Whether a line tells the end of a trace.
+pub fn is_end(line: &[u8]) -> bool
+    ensures { result ≡ is_end line.now }
+{
+    line == END.as_slice()
+}
+
 /// What stands before and behind the text of a row.
 #[derive(Drop)]
 struct Frame {
@@ -48,7 +59,8 @@ pub struct Rows {
     alloc: Global,
     nesting: Nesting,
     clock: Clock,
-    /// The last time that was told.
+    zone: Zone,
+    /// The last time that was told, as the clocks of the zone tell it.
     time: Option<Stamp>,
     /// What comes is new.
     is_new: bool,
@@ -91,9 +103,9 @@ fn inset(look: &Look, depth: usize) -> usize {
 /// How much of a text is shown behind so many columns.
 fn room_behind(look: &Look, columns: usize) -> Room
     ensures { (is_some result.bytes || is_some result.columns) ≡ true
-        → look.now.may_cut ≡ true }
+        → look.now.rule.may_cut ≡ true }
 {
-    if look.may_cut {
+    if look.rule.may_cut {
         Room {
             bytes: look.longest_text,
             columns: look.width.map(|width| width.saturating_sub(columns)),
@@ -108,7 +120,7 @@ fn room_behind(look: &Look, columns: usize) -> Room
 
 /// The row of a text in its frame.
 fn framed(alloc: Global, look: &Look, frame: &Frame, text: &[u8]) -> Result<Vec<u8>, AllocError>
-    ensures { IfOk result (λ row. ShowsInRow look.now.may_cut text.now row.items) }
+    ensures { IfOk result (λ row. ShowsInRow look.now.rule.may_cut text.now row.items) }
 {
     let parts = Parts {
         before: frame.before.as_bytes(),
@@ -119,12 +131,14 @@ fn framed(alloc: Global, look: &Look, frame: &Frame, text: &[u8]) -> Result<Vec<
 }
 
 impl Rows {
-    /// No object came. Where a text is handed in, only rows whose text has it are asked for.
-    pub fn new(alloc: Global, grep: Option<String>) -> Rows {
+    /// No object came. Times of wall clocks are told in the zone. Where a text is handed in, only rows whose text has it are
+    /// asked for.
+    pub fn new(alloc: Global, zone: Zone, grep: Option<String>) -> Rows {
         Rows {
             alloc,
             nesting: Nesting::new(alloc),
             clock: Clock::new(),
+            zone,
             time: None,
             is_new: false,
             grep,
@@ -146,9 +160,9 @@ impl Rows {
 
     /// Whether a text has a row.
     fn is_wanted(&self, look: &Look, text: &str) -> bool
-        ensures { look.now.shows_each ≡ true → result ≡ true }
+        ensures { look.now.rule.shows_each ≡ true → result ≡ true }
     {
-        look.shows_each
+        look.rule.shows_each
             || (!look.is_from_now || self.is_new) && look.is_between(self.time) && self.has(text)
     }
 
@@ -164,7 +178,7 @@ impl Rows {
         let number = number(object, "n").unwrap_or(0);
         let mut before = format!(in self.alloc; "{number:>6}  ")?;
         if let Some(stamp) = stamp {
-            let time = self.clock.tell(self.alloc, look.times, stamp)?;
+            let time = self.clock.tell(self.alloc, look.times, stamp, &self.zone)?;
             write!(before, "{time:>15}  ")?;
         } else if self.clock.is_on() {
             put_blanks(&mut before, 17)?;
@@ -197,8 +211,8 @@ impl Rows {
         object: &Option<Value>,
         text: &str,
     ) -> Result<Option<Vec<u8>>, AllocError>
-        ensures { IfOk result (λ row. MatchOption row (look.now.shows_each ≡ false)
-            (λ row. ShowsInRow look.now.may_cut text.now row.items)) }
+        ensures { IfOk result (λ row. MatchOption row (look.now.rule.shows_each ≡ false)
+            (λ row. ShowsInRow look.now.rule.may_cut text.now row.items)) }
     {
         let stamp = stamp_in(text.as_bytes());
         let nested = self.nesting.note(Told {
@@ -207,7 +221,8 @@ impl Rows {
             function: member(object, "mfa"),
             time: stamp.map(Stamp::nanos),
         })?;
-        self.time = stamp.or(self.time);
+        let told = stamp.map(|stamp| stamp.told_in(&self.zone));
+        self.time = told.or(self.time);
         if !self.is_wanted(look, text) {
             return Ok(None);
         }
@@ -224,15 +239,14 @@ impl Rows {
         object: &Option<Value>,
         line: &[u8],
     ) -> Result<Option<Vec<u8>>, AllocError>
-        ensures { IfOk result (λ row. MatchOption row (look.now.shows_each ≡ false)
-            (λ row. (text : List ℕ) × ShowsInRow look.now.may_cut text row.items)) }
+        ensures { IfOk result (λ row. MatchOption row (look.now.rule.shows_each ≡ false)
+            (λ row. (text : List ℕ) × ShowsInRow look.now.rule.may_cut text row.items)) }
     {
         let words = match notice_of(self.alloc, object)? {
             Some(words) => words,
             None => String::from_utf8_lossy(self.alloc, line)?,
         };
-        let is_end = member(object, "kind") == Some("end_of_trace");
-        if !self.is_wanted(look, words.as_str()) && !is_end {
+        if !self.is_wanted(look, words.as_str()) && !is_end(line) {
             return Ok(None);
         }
         let frame = if number(object, "n").is_some() {
@@ -257,8 +271,8 @@ impl Rows {
 
     /// The row of a line of a listing; None where none is asked for.
     pub fn row_of(&mut self, look: &Look, line: &[u8]) -> Result<Option<Vec<u8>>, AllocError>
-        ensures { IfOk result (λ row. MatchOption row (look.now.shows_each ≡ false)
-            (λ row. IsRow look.now.may_cut line.now row.items)) }
+        ensures { IfOk result (λ row. MatchOption row (look.now.rule.shows_each ≡ false)
+            (λ row. IsRow look.now.rule.may_cut line.now row.items)) }
     {
         let object = read_object(self.alloc, line)?;
         match text_of(&object) {

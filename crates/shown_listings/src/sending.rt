@@ -1,8 +1,10 @@
 //! Bytes that a writer is given as far as it takes them.
-ghost use Rattle.std.specs.Prelude.{◌≡◌, ◌≤◌, ◌++◌, ℕ, List, length, drop, OnOk};
-ghost use Rattle.shown_listings.specs.Rows.{Sends};
+ghost use Rattle.std.specs.Prelude.{◌≡◌, ◌≤◌, ◌++◌, ℕ, List, [], length, drop, OnOk};
+ghost use Rattle.shown_listings.specs.Rows.{Sends, rows_in, text_of_rows};
 
 use crate::given::Given;
+use crate::noted::Noted;
+use std::collections::VecDeque;
 use std::io::{self, ErrorKind, Write};
 
 /// Bytes of which the first were taken.
@@ -30,6 +32,36 @@ pub fn send<W: Write>(out: &mut W, unsent: &mut Unsent, written: &mut Given) -> 
         }
         written.note(&rest[..count]);
         unsent.taken += count;
+    }
+    Ok(())
+}
+
+/// Gives a writer what is left of a row, and then the rows that are held, each of which is noted when it is begun.
+pub fn send_held<W: Write>(
+    out: &mut W,
+    unsent: &mut Unsent,
+    held: &mut VecDeque<Vec<u8>>,
+    written: &mut Given,
+    laid: &mut Noted,
+) -> io::Result<()>
+    ensures sends { Sends (W.contents out.old) written.old
+        (drop unsent.old.taken unsent.old.bytes.items) (text_of_rows laid.old.items)
+        → Sends (W.contents out.new) written.new
+        (drop unsent.new.taken unsent.new.bytes.items) (text_of_rows laid.new.items) }
+    ensures rows { laid.new.items ++ rows_in held.new.items
+        ≡ laid.old.items ++ rows_in held.old.items }
+    ensures start { written.new.start ≡ written.old.start }
+    ensures all { OnOk result ((length unsent.new.bytes.items ≤ unsent.new.taken)
+        × (rows_in held.new.items ≡ [])) }
+{
+    send(out, unsent, written)?;
+    'rows: while let Some(row) = held.pop_front() {
+        laid.note(&row);
+        *unsent = Unsent {
+            bytes: row,
+            taken: 0,
+        };
+        send(out, unsent, written)?;
     }
     Ok(())
 }

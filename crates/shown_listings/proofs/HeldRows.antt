@@ -1,0 +1,169 @@
+-- Rows of which the last are held back.
+use Rattle.std.proofs.Common.{◌≡◌, ℕ, ◌+◌, ◌-◌, ◌≤◌, Bool, true, false, List, [], ◌∷◌, ◌++◌, length, drop, refl, sym, ◌∙◌, ap, subst, append_assoc, append-nil, length-append, length-drop, arith}
+use Rattle.std.specs.Prelude.{Option, Some, None, is_some, IfSome, MatchOption, option_to_list, if◌then◌else◌}
+use Rattle.std.specs.Coded.{Unit-prop}
+use Rattle.std.specs.List.{All}
+use Rattle.std.specs.declared.vec.Vec.{Vec}
+use Rattle.std.specs.declared.alloc.Global.{Global}
+use Rattle.std.proofs.lemmas.List.{drop-drop, drop-append-le, drop_all}
+use Rattle.std.proofs.lemmas.List.Elements.{All-push, All-nil}
+use Rattle.std.proofs.Math.Bridge.{le_prop}
+use Rattle.std.proofs.Math.Logic.{∥∥₁_elim, ∥∥₁_map}
+use Rattle.shown_listings.specs.declared.look.Rule.{Rule}
+use Rattle.shown_listings.specs.Rows.{IsRow, HaveRows, none, is_end, last_rows, HaveLast, ComesBehind, added, ended, HaveLastFirst, HavePassed, AreLaid, held_behind, rows_in, kept_rows, SendsNone}
+use Rattle.shown_listings.proofs.RowLemmas.{line-laid}
+
+-- Of the last rows, with more behind them, the last are those of all.
+last-of-last : (n : ℕ) (all more : List (List ℕ)) → last_rows n (last_rows n all ++ more) ≡ last_rows n (all ++ more)
+last-of-last n all more =
+    let past = length all - n in
+    let rows = all ++ more in
+    let behind : drop past rows ≡ drop past all ++ more = drop-append-le past all more (omega arith) in
+    let count : past + (length (drop past rows) - n) ≡ length rows - n = omega (arith, length-drop past rows, length-append all more) in
+    ap (λ rs. last_rows n rs) (sym behind) ∙ drop-drop (length (drop past rows) - n) past rows ∙ ap (λ k. drop k rows) count
+
+-- They are no more than so many.
+few-last : (n : ℕ) (all : List (List ℕ)) → length (last_rows n all) ≤ n
+few-last n all = omega (arith, length-drop (length all - n) all)
+
+abbrev HasRow : Rule → List ℕ → Option (Vec ℕ Global) → Type 0
+HasRow rule line row = MatchOption row (rule.shows_each ≡ false) (λ r. IsRow rule.may_cut line r.items)
+
+abbrev Last : ℕ → Rule → List (List ℕ) → List (List ℕ) → Type 0
+Last n rule lines rows = HaveLast n rule.shows_each rule.may_cut lines rows
+
+-- A line more comes to those of which the last rows are held back.
+last-on : (n : ℕ) (rule : Rule) (lines rows : List (List ℕ)) (line : List ℕ) (row : Option (Vec ℕ Global)) → is_end line ≡ false → HasRow rule line row → Last n rule lines rows
+    → Last n rule (lines ++ line ∷ []) (last_rows n (rows ++ rows_in (option_to_list row)))
+last-on n rule lines rows line row other is was = record {
+  unended = All-push (λ l. is_end l ≡ false) lines line was.unended other;
+  all = was.all ++ rows_in (option_to_list row);
+  have = line-laid rule.shows_each rule.may_cut lines was.all line row is was.have;
+  are = ap (λ rs. last_rows n (rs ++ rows_in (option_to_list row))) was.are ∙ last-of-last n was.all (rows_in (option_to_list row));
+}
+
+behind-on : (follows : Bool) (lines : List (List ℕ)) (line : List ℕ) → ComesBehind follows lines → ComesBehind follows (lines ++ line ∷ [])
+behind-on follows _ line (added lines so) = added (lines ++ line ∷ []) so
+behind-on follows _ line (ended first lines is) = ended first (lines ++ line ∷ []) is
+
+-- A line more comes to those of which no row is held back.
+passed-on : (last : Option ℕ) (rule : Rule) (lines rows : List (List ℕ)) (line : List ℕ) (row : Option (Vec ℕ Global)) → HasRow rule line row → HavePassed last rule lines rows
+    → HavePassed last rule (lines ++ line ∷ []) (rows ++ rows_in (option_to_list row))
+passed-on None rule lines rows line row is was = line-laid rule.shows_each rule.may_cut lines rows line row is was
+passed-on (Some n) rule lines rows line row is was = record {
+  first = was.first;
+  others = was.others ++ line ∷ [];
+  shown = was.shown;
+  more = was.more ++ rows_in (option_to_list row);
+  lines_are = ap (λ ls. ls ++ line ∷ []) was.lines_are ∙ append_assoc was.first was.others (line ∷ []);
+  rows_are = ap (λ rs. rs ++ rows_in (option_to_list row)) was.rows_are ∙ append_assoc was.shown was.more (rows_in (option_to_list row));
+  last = was.last;
+  behind = behind-on rule.follows was.others line was.behind;
+  have = line-laid rule.shows_each rule.may_cut was.others was.more line row is was.have;
+}
+
+-- The line that ends a listing comes to those of which the last rows are held back.
+ended-on : (n : ℕ) (rule : Rule) (lines rows : List (List ℕ)) (line : List ℕ) (row : Option (Vec ℕ Global)) → is_end line ≡ true → HasRow rule line row → Last n rule lines rows
+    → HavePassed (Some n) rule (lines ++ line ∷ []) (rows ++ rows_in (option_to_list row))
+ended-on n rule lines rows line row end is was = record {
+  first = lines;
+  others = line ∷ [];
+  shown = rows;
+  more = rows_in (option_to_list row);
+  lines_are = refl;
+  rows_are = refl;
+  last = was;
+  behind = ended line [] end;
+  have = line-laid rule.shows_each rule.may_cut [] [] line row is none;
+}
+
+-- What comes from now on is shown too.
+let_out-last : (n : ℕ) (rule : Rule) (lines rows : List (List ℕ)) → rule.follows ≡ true → Last n rule lines rows → HavePassed (Some n) rule lines rows
+let_out-last n rule lines rows so was = record {
+  first = lines;
+  others = [];
+  shown = rows;
+  more = [];
+  lines_are = sym (append-nil lines);
+  rows_are = sym (append-nil rows);
+  last = was;
+  behind = added [] so;
+  have = none;
+}
+
+pub let_out : (most : Option ℕ) (rule : Rule) (lines rows : List (List ℕ)) → rule.follows ≡ true → AreLaid most rule lines rows → AreLaid None rule lines rows
+let_out None rule lines rows so was = was
+let_out (Some n) rule lines rows so was = subst (λ o. HavePassed o rule lines rows) (sym was.0) (let_out-last n rule lines rows so was.1)
+
+laid-by : (end : Bool) (most : Option ℕ) (rule : Rule) (lines laid held after : List (List ℕ)) (line : List ℕ) (row : Option (Vec ℕ Global)) → is_end line ≡ end → HasRow rule line row → SendsNone most laid
+    → after ≡ kept_rows (if end then None else most) (held ++ rows_in (option_to_list row)) → AreLaid most rule lines (laid ++ held)
+    → AreLaid (if end then None else most) rule (lines ++ line ∷ []) (laid ++ after)
+laid-by true None rule lines laid held after line row end is sends kept was =
+    let P : List (List ℕ) → Type 0 = λ rs. HavePassed rule.last rule (lines ++ line ∷ []) rs in
+    let rows : (laid ++ held) ++ rows_in (option_to_list row) ≡ laid ++ after = append_assoc laid held (rows_in (option_to_list row)) ∙ ap (λ rs. laid ++ rs) (sym kept) in
+    subst P rows (passed-on rule.last rule lines (laid ++ held) line row is was)
+laid-by false None rule lines laid held after line row end is sends kept was =
+    let P : List (List ℕ) → Type 0 = λ rs. HavePassed rule.last rule (lines ++ line ∷ []) rs in
+    let rows : (laid ++ held) ++ rows_in (option_to_list row) ≡ laid ++ after = append_assoc laid held (rows_in (option_to_list row)) ∙ ap (λ rs. laid ++ rs) (sym kept) in
+    subst P rows (passed-on rule.last rule lines (laid ++ held) line row is was)
+laid-by true (Some n) rule lines laid held after line row end is sends kept was =
+    let P : List (List ℕ) → Type 0 = λ rs. HavePassed rule.last rule (lines ++ line ∷ []) rs in
+    let Q : Option ℕ → Type 0 = λ o. HavePassed o rule (lines ++ line ∷ []) ((laid ++ held) ++ rows_in (option_to_list row)) in
+    let rows : (laid ++ held) ++ rows_in (option_to_list row) ≡ laid ++ after = append_assoc laid held (rows_in (option_to_list row)) ∙ ap (λ rs. laid ++ rs) (sym kept) in
+    subst P rows (subst Q (sym was.0) (ended-on n rule lines (laid ++ held) line row end is was.1))
+laid-by false (Some n) rule lines laid held after line row end is sends kept was =
+    let P : List (List ℕ) → Type 0 = λ rs. Last n rule lines rs in
+    let Q : List (List ℕ) → Type 0 = λ rs. Last n rule (lines ++ line ∷ []) rs in
+    let now : Last n rule lines held = subst P (ap (λ l. l ++ held) sends) was.1 in
+    (was.0, subst Q (sym kept ∙ sym (ap (λ l. l ++ after) sends)) (last-on n rule lines held line row end is now))
+
+-- A line more came, and its row is held with those before.
+pub laid-on : (most : Option ℕ) (rule : Rule) (lines later laid held after : List (List ℕ)) (line : List ℕ) (row : Option (Vec ℕ Global)) → HasRow rule line row → SendsNone most laid
+    → after ≡ kept_rows (held_behind line most) (held ++ rows_in (option_to_list row)) → later ≡ lines ++ line ∷ [] → AreLaid most rule lines (laid ++ held) → AreLaid (held_behind line most) rule later (laid ++ after)
+laid-on most rule lines later laid held after line row is sends kept came was =
+    subst (λ ls. AreLaid (held_behind line most) rule ls (laid ++ after)) (sym came) (laid-by (is_end line) most rule lines laid held after line row refl is sends kept was)
+
+sends_none-by : (end : Bool) (most : Option ℕ) (laid : List (List ℕ)) → SendsNone most laid → SendsNone (if end then None else most) laid
+sends_none-by true most laid sends = tt
+sends_none-by false most laid sends = sends
+
+-- While rows are held back behind the line none was sent.
+pub sends_none-on : (most : Option ℕ) (laid : List (List ℕ)) (line : List ℕ) → SendsNone most laid → SendsNone (held_behind line most) laid
+sends_none-on most laid line sends = sends_none-by (is_end line) most laid sends
+
+few-prop : (most : Option ℕ) (held : List (List ℕ)) → IsProp (IfSome most (λ n. length held ≤ n))
+few-prop None held = Unit-prop
+few-prop (Some n) held = le_prop
+
+few-by : (end : Bool) (most : Option ℕ) (rule : Rule) (lines laid held : List (List ℕ)) → SendsNone most laid → AreLaid most rule lines (laid ++ held) → IfSome (if end then None else most) (λ n. length held ≤ n)
+few-by true most rule lines laid held sends was = tt
+few-by false None rule lines laid held sends was = tt
+few-by false (Some n) rule lines laid held sends was =
+    let same : held ≡ last_rows n was.1.all = sym (ap (λ l. l ++ held) sends) ∙ was.1.are in
+    subst (λ rs. length rs ≤ n) (sym same) (few-last n was.1.all)
+
+-- No more than so many are held back.
+pub few-held : (most : Option ℕ) (rule : Rule) (lines laid held : List (List ℕ)) (line : List ℕ) → SendsNone most laid → ∥ AreLaid most rule lines (laid ++ held) ∥₁ → IfSome (held_behind line most) (λ n. length held ≤ n)
+few-held most rule lines laid held line sends was = ∥∥₁_elim was (few-prop (held_behind line most) held) (few-by (is_end line) most rule lines laid held sends)
+
+last-new : (n : ℕ) (rule : Rule) → Last n rule [] []
+last-new n rule = record { unended = All-nil (λ l. is_end l ≡ false); all = []; have = none; are = sym (drop_all (0 - n) [] (omega arith)) }
+
+new-by : (most : Option ℕ) (rule : Rule) → most ≡ rule.last → AreLaid most rule [] []
+new-by None rule is = subst (λ o. HavePassed o rule [] []) is none
+new-by (Some n) rule is = (sym is, last-new n rule)
+
+-- No line came yet.
+pub laid-new : (most : Option ℕ) (rule : Rule) (lines rows : List (List ℕ)) → most ≡ rule.last → lines ≡ [] → rows ≡ [] → AreLaid most rule lines rows
+laid-new most rule lines rows is no_lines no_rows =
+    let P : List (List ℕ) → Type 0 = λ ls. AreLaid most rule ls rows in
+    let Q : List (List ℕ) → Type 0 = λ rs. AreLaid most rule [] rs in
+    subst P (sym no_lines) (subst Q (sym no_rows) (new-by most rule is))
+
+pub none_sent : (most : Option ℕ) (laid : List (List ℕ)) → laid ≡ [] → SendsNone most laid
+none_sent None laid is = tt
+none_sent (Some n) laid is = is
+
+pub none_held : (most : Option ℕ) (laid : List (List ℕ)) → is_some most ≡ false → SendsNone most laid
+none_held None laid is = tt
+none_held (Some n) laid is = absurd cc
