@@ -22,7 +22,7 @@ _dbgrec() {
     --as) offered="stream folded perfetto" ;;
     --by) offered="function process kind" ;;
     --color) offered="always never auto" ;;
-    --sort) offered="count exceptions total mean longest" ;;
+    --sort) offered="count exceptions total mean longest waiting" ;;
     --only | --not)
         [[ $word == *,* ]] && told=${word%,*},
         for kind in $kinds; do offered+="$told$kind "; done

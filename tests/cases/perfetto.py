@@ -4,10 +4,11 @@ rules of the format that hold of each trace."""
 import json
 import os
 import re
+import shutil
 import struct
 import subprocess
 
-from cases import group, stored
+from cases import STREAMS, Skipped, group, stored
 from entries import drop, kept, message
 from importing import TRACES, stream_of
 from program import PATIENCE, Outcome, same
@@ -192,6 +193,36 @@ def of_more_open_calls_the_outermost_are_slices(program):
     entries = [call(1, "f", at) for at in range(many)] + [returns(1, "f", many + at) for at in range(many)]
     found = [line.split()[0] for line in events_of(program, *entries)]
     same(found, ["B"] * 256 + ["i"] * 44 + ["i"] * 44 + ["E"] * 256)
+
+
+# ---- as a page draws them
+
+
+def loaded(page, asked, *words):
+    """What a browser without a window makes of a page that reads a file."""
+    command = ["chromium", "--headless", "--no-sandbox", "--disable-gpu", "--allow-file-access-from-files", "--virtual-time-budget=20000", *words, f"{page.as_uri()}?{asked.as_uri()}"]
+    return subprocess.run(command, capture_output=True, timeout=PATIENCE, check=True).stdout.decode()
+
+
+@case
+def a_page_draws_every_event(program):
+    if shutil.which("chromium") is None:
+        raise Skipped("there is no chromium")
+    page, file, picture = STREAMS / "events.html", program.folder / "t.json", program.folder / "t.png"
+    for name in TRACES:
+        program.good("import", "t", stdin=stream_of(name))
+        file.write_bytes(program.run(*DRAWN, "t").output)
+        program.good("wipe", "t")
+        count = dict.fromkeys("BEXisf", 0)
+        tracks = 0
+        for event in json.loads(file.read_bytes())["traceEvents"]:
+            count[event["ph"]] = count.get(event["ph"], 0) + 1
+            tracks += event["name"] == "thread_name"
+        said = re.search(r'<p id="told">([^<]*)</p>', loaded(page, file, "--dump-dom"))
+        marks = count["X"] + count["i"]
+        same((name, said[1]), (name, f"{tracks} tracks, {count['B']} slices, {marks} marks, {count['f']} arrows of {count['s']} sends, 0 faults"))
+    loaded(page, file, f"--screenshot={picture}", "--window-size=1200,900")
+    assert picture.read_bytes().startswith(b"\x89PNG"), picture
 
 
 # ---- arrows

@@ -13,7 +13,7 @@ from importing import TRACES, stream_of
 from program import PATIENCE, Outcome, same
 from segments import FILE_HEADER, segment, wrap_header
 from telling import damaged
-from terms import AnyReader, Unread, short_atom
+from terms import AnyReader, name_text, short_atom, text, Unread
 
 CASES, case = group()
 
@@ -76,8 +76,8 @@ def fails(number, name, at=None):
     return told_at(number, "exception_from", function(name, b"\x61\x02"), reason, at=at)
 
 
-def sends(number, at=None, word="send", what=b"\x61\x07"):
-    return told_at(number, word, what, pid(99), at=at)
+def sends(number, at=None, word="send", what=b"\x61\x07", to=pid(99)):
+    return told_at(number, word, what, to, at=at)
 
 
 def receives(number, at=None, what=b"\x61\x07"):
@@ -100,6 +100,7 @@ class Process:
     calls: int = 0
     sent: int = 0
     received: int = 0
+    waiting: int = 0
 
 
 def exported(entries):
@@ -125,13 +126,19 @@ def time_of(entry):
     return ((mega * 1_000_000 + seconds) * 1_000_000 + micros) * 1_000
 
 
+def receiver_of(entry):
+    """The process that a message tells another to be sent to, as a term; None where it is none."""
+    sort, to = AnyReader(entry[5:]).whole()[1][4]
+    return (sort, to) if sort == "pid" else None
+
+
 class Count:
     """What is counted of the entries of an export."""
 
     def __init__(self, entries):
         self.functions, self.processes, self.kinds = {}, {}, {}
         self.messages = self.unread = self.lost = 0
-        self.open, self.moments = {}, []
+        self.open, self.moments, self.waiting = {}, [], {}
         # of each entry the time since the first one that is told, and how many messages it is, and says were lost
         self.course = []
         for entry in exported(entries):
@@ -157,10 +164,20 @@ class Count:
             process.calls += told.kind == "call"
             process.sent += told.kind in ("send", "send_lost")
             process.received += told.kind == "receive"
+        if told.kind == "send" and receiver_of(entry):
+            self.wait(text(receiver_of(entry), name_text), 1)
+        if told.kind == "receive":
+            self.wait(told.process, -1)
         if told.kind == "exit":
             self.open.pop(told.process, None)
         if told.kind in ("call", "return", "exception"):
             self.take_of_function(told, time)
+
+    def wait(self, process, more):
+        """One message more, or less, waits for a process."""
+        self.waiting[process] = max(0, self.waiting.get(process, 0) + more)
+        row = self.processes.setdefault(process, Process())
+        row.waiting = max(row.waiting, self.waiting[process])
 
     def take_of_function(self, told, time):
         module, name, arity = told.function
@@ -336,8 +353,56 @@ def what_a_process_sends_and_receives_is_counted(program):
     stored_as(program, entries)
     count = check(program, "t", entries)
     same((count.messages, count.unread, count.lost), (8, 2, 3))
-    same(count.processes, {pid_text(1): Process(0, 2, 1), pid_text(2): Process(1, 1, 0), pid_text(3): Process(0, 0, 1)})
+    rows = {pid_text(1): Process(0, 2, 1), pid_text(2): Process(1, 1, 0), pid_text(3): Process(0, 0, 1), pid_text(99): Process(waiting=2)}
+    same(count.processes, rows)
     same(count.kinds, {"send": 2, "receive": 2, "send_lost": 1, "call": 1})
+
+
+def waiting_in(program, *entries):
+    """The most messages that waited for each process, of a trace of these entries."""
+    stored_as(program, entries)
+    check(program, "t", entries)
+    said = told_rows(top(program, "t", "--by", "process"), "process")
+    program.good("wipe", "t")
+    return {name: row["waiting"] for name, row in said.items()}
+
+
+@case
+def the_most_messages_that_wait_for_a_process_are_told(program):
+    one, two, three = map(pid_text, (1, 2, 3))
+    to = {"to": pid(2)}
+    # two wait at once, before and after one is received; what anybody sends counts
+    found = waiting_in(program, sends(1, **to), sends(3, **to), receives(2), sends(1, **to), receives(2), receives(2), sends(1, **to))
+    same(found, {one: 0, two: 2, three: 0})
+    # where none waits, none does after a receive
+    same(waiting_in(program, receives(2), receives(2), sends(1, **to)), {one: 0, two: 1})
+    same(waiting_in(program, sends(2, **to), sends(2, **to), receives(2), receives(2)), {two: 2})
+    # lost messages and times say nothing of it
+    same(waiting_in(program, sends(1, 5, **to), drop(3), sends(1, 4, **to), message(b"x")), {one: 0, two: 2})
+    # a name, a name with its node, and a process that isn't there
+    named, far = short_atom("worker"), b"\x68\x02" + short_atom("worker") + short_atom("n@h")
+    lost = sends(1, word="send_to_non_existing_process", **to)
+    same(waiting_in(program, sends(1, to=named), sends(1, to=far), sends(1, to=b"\x68\x01" + pid(2)), lost), {one: 0})
+    # the message may be any term, and more may stand behind the receiver
+    bytes_of = b"\x6d\x00\x00\x00\x09,{[<'\">}#,"
+    what = b"\x68\x03" + short_atom("a,'b{") + b"\x74\x00\x00\x00\x01" + bytes_of + pid(3) + b"\x6b\x00\x05a,\"b{"
+    added = told_at(1, "send", what, pid(2), bytes_of, b"\x61\x01", at=7)
+    same(waiting_in(program, added, told_at(1, "send", what, pid(2), pid(3)), sends(1, 9, what=what, **to)), {one: 0, two: 3})
+    # a message of many members, and one that is none of a send
+    same(waiting_in(program, told_at(1, "spawn", pid(3), b"\x6a", pid(2)), call(1, "f")), {one: 0})
+
+
+@case
+def processes_are_in_the_order_of_what_waits(program):
+    to = {"to": pid(2)}
+    stored_as(program, [call(1, "f"), call(1, "f"), call(2, "f"), sends(1, **to), sends(1, **to), receives(2), sends(1)])
+    said = program.good("top", "t", "--by", "process", "--sort", "waiting").decode().splitlines()
+    same([line.split() for line in said[:4]], [
+        ["calls", "sent", "received", "waiting", "process"],
+        ["1", "0", "1", "2", pid_text(2)],
+        ["0", "0", "0", "1", pid_text(99)],
+        ["2", "3", "0", "0", pid_text(1)],
+    ])
 
 
 @case
@@ -382,9 +447,14 @@ def a_table_counts_the_messages_of_a_listing(program):
 # ---- order, limit and text
 
 # the column by which each word puts functions in order
-COLUMNS = {"count": "calls", "exceptions": "exceptions", "total": "total", "mean": "mean", "longest": "longest"}
+COLUMNS = {"count": "calls", "exceptions": "exceptions", "total": "total", "mean": "mean", "longest": "longest", "waiting": "calls"}
 
 FIRST = {"process": "calls", "kind": "count"}
+
+
+def column_of(by, words, column):
+    """The column by which these words put rows in order, of which functions have this one."""
+    return "waiting" if (by, words) == ("process", ("--sort", "waiting")) else FIRST.get(by, column)
 
 MIXED = [
     *(call(1, "f", 10), call(1, "g", 20), fails(1, "g", 25), returns(1, "f", 3_000_100)),
@@ -431,7 +501,7 @@ def course_of(count):
 def lines_of(count, by, names, more=0):
     """The words of the lines of a table with the rows of these names."""
     has_times = bool(count.moments)
-    columns = {"function": ["calls", "exceptions", *(["total", "mean", "longest"] if has_times else []), "open"], "process": ["calls", "sent", "received"], "kind": ["count"]}[by]
+    columns = {"function": ["calls", "exceptions", *(["total", "mean", "longest"] if has_times else []), "open"], "process": ["calls", "sent", "received", "waiting"], "kind": ["count"]}[by]
     yield [*columns, by]
     for name in names:
         row = count.rows(by)[name]
@@ -453,7 +523,7 @@ def rows_are_in_the_order_that_is_asked_for(program):
         for by in ("function", "process", "kind"):
             for words, column in (((), "total" if count.moments else "calls"), *((("--sort", word), column) for word, column in COLUMNS.items())):
                 said = top(program, name, "--by", by, *words, "--limit", "100000")
-                same((name, by, words, [row[by] for row in said["rows"]]), (name, by, words, ordered(count.rows(by), FIRST.get(by, column))))
+                same((name, by, words, [row[by] for row in said["rows"]]), (name, by, words, ordered(count.rows(by), column_of(by, words, column))))
 
 
 @case

@@ -105,12 +105,19 @@ told(Kind, Pid, [Function | _], Time, Counted) when Kind =:= return; Kind =:= ex
             put_stack(Pid, Outer, Time, add(Key, total, Took, add(Key, timed, 1, Longest)))
     end;
 told(exit, Pid, _, Time, Counted) -> put_stack(Pid, [], Time, Counted);
-told('receive', Pid, _, _, Counted) -> add({process, Pid}, received, 1, Counted);
+told('receive', Pid, _, _, Counted) -> wait(Pid, -1, add({process, Pid}, received, 1, Counted));
+told(send, Pid, [_, To | _], _, Counted) when is_pid(To) -> wait(To, 1, add({process, Pid}, sent, 1, Counted));
 told(Kind, Pid, _, _, Counted) when Kind =:= send; Kind =:= send_lost -> add({process, Pid}, sent, 1, Counted);
 told(_, _, _, _, Counted) -> Counted.
 add(Row, Name, Number, Counted) ->
     Numbers = maps:get(Row, Counted, #{}),
     Counted#{Row => Numbers#{Name => maps:get(Name, Numbers, 0) + Number}}.
+
+%% how many messages wait for a process, and the most that ever did
+wait(Pid, More, Counted) ->
+    Row = maps:get({process, Pid}, Counted, #{}),
+    Now = max(0, number(now, Row) + More),
+    Counted#{{process, Pid} => Row#{now => Now, waiting => max(Now, number(waiting, Row))}}.
 stack(Pid, #{stacks := Stacks}) -> element(1, maps:get(Pid, Stacks, {[], 0})).
 
 %% a stack of calls, of which the 256 innermost are told, has run until it is changed
@@ -135,8 +142,8 @@ row(function, Function, Row, Open) ->
     [io_lib:format("{\"calls\":~w,\"exceptions\":~w,\"function\":\"~ts\",", [number(calls, Row), number(exception, Row), function(Function)]),
      io_lib:format("\"longest\":~w,\"mean\":~w,\"open\":~w,\"returns\":~w,\"total\":~w}", [Longest, Mean, Count, number(return, Row), Total])];
 row(process, Pid, Row, _) ->
-    Numbers = [number(calls, Row), process(Pid), number(received, Row), number(sent, Row)],
-    io_lib:format("{\"calls\":~w,\"process\":\"~ts\",\"received\":~w,\"sent\":~w}", Numbers);
+    Numbers = [number(calls, Row), process(Pid), number(received, Row), number(sent, Row), number(waiting, Row)],
+    io_lib:format("{\"calls\":~w,\"process\":\"~ts\",\"received\":~w,\"sent\":~w,\"waiting\":~w}", Numbers);
 row(kind, Kind, Row, _) -> io_lib:format("{\"count\":~w,\"kind\":\"~ts\"}", [number(count, Row), Kind]);
 row(folded, {Pid, Stack}, #{ran := Ran}, _) ->
     [process(Pid), [[";", function(Function)] || Function <- Stack], " ", integer_to_list(Ran div 1000)].

@@ -287,7 +287,7 @@ fn sort<'a>(alloc: Global) -> Arg<'a> {
         "NUMBER",
         "The number by which rows are in order, the greatest first [default: total where there are times, else count]",
     )
-    .value_parser(["count", "exceptions", "total", "mean", "longest"].as_slice())
+    .value_parser(["count", "exceptions", "total", "mean", "longest", "waiting"].as_slice())
 }
 
 fn limit<'a>(alloc: Global) -> Arg<'a> {
@@ -565,6 +565,7 @@ fn order_in(matches: &ArgMatches<'_>) -> Option<Order> {
         Some("total") => Some(Order::Total),
         Some("mean") => Some(Order::Mean),
         Some("longest") => Some(Order::Longest),
+        Some("waiting") => Some(Order::Waiting),
         _ => None,
     }
 }

@@ -20,6 +20,8 @@ pub enum Order {
     Mean,
     /// The time of the longest call.
     Longest,
+    /// The most messages that waited for a process.
+    Waiting,
 }
 
 /// The rows that are shown.

@@ -1,14 +1,14 @@
 -- What one more message does to the rows.
-use Rattle.std.proofs.Common.{◌≡◌, ℕ, ◌+◌, Bool, true, false, ◌&&◌, ◌||◌, ◌==◌, List, [], ◌∷◌, ◌++◌, Option, Some, refl, sym, ap, ◌∙◌, arith, unwrap_or, option_map, Vec, bytes_eq, codes, ⊎_elim}
+use Rattle.std.proofs.Common.{◌≡◌, ℕ, ◌+◌, ◌<◌, ◌≤◌, Bool, true, false, ◌&&◌, ◌||◌, ◌==◌, List, [], ◌∷◌, ◌++◌, Option, Some, None, if◌then◌else◌, fold, refl, sym, ap, ◌∙◌, subst, arith, unwrap_or, option_map, Vec, bytes_eq, codes, ⊎_elim}
 use borrow.Author.Tests.{eqb-true, ne_eqb}
 use Rattle.std.specs.declared.alloc.Global.{Global}
 use Rattle.std.specs.Cmp.Lexicographic.{bytes_decides}
 use Rattle.std.specs.HashMap.{HashMap}
 use Rattle.std.proofs.lemmas.Bool.{cases_Bool, cond-true, cond-false}
-use Rattle.std.proofs.lemmas.List.Sums.{sum_by_push}
+use Rattle.std.proofs.lemmas.List.Sums.{fold_push, sum_by_push}
 use Rattle.trace_text.specs.MessageFacts.{Facts}
-use Rattle.trace_summary.specs.Counting.{Telling, Read, how_many, is_told, is_of, is_sent, row_of, kind_row}
-use Rattle.trace_summary.specs.Rows.{row_at, Puts, one_if, counts_of_function, function_counts_with, no_function_counts, is_of_functions, counts_of_process, process_counts_with, no_process_counts, is_of_processes, AreFunctionsCounted, AreProcessesCounted, AreKindsCounted}
+use Rattle.trace_summary.specs.Counting.{Telling, Read, Waiting, none_waits, comes_if, goes_if, waits_after, waiting_for, how_many, passes, does, is_told, is_to, is_of, is_sent, row_of, kind_row, ProcessCounts, all_of_process, counted_of_process}
+use Rattle.trace_summary.specs.Rows.{row_at, Puts, one_if, counts_of_function, function_counts_with, no_function_counts, is_of_functions, counts_of_process, process_counts_with, process_counts_sent_to, process_counts_at, no_process_counts, is_of_processes, who_does, PutsProcess, PutsIfTold, AreFunctionsCounted, AreProcessesCounted, AreKindsCounted}
 use Rattle.trace_summary.specs.declared.row.FunctionRow.{FunctionRow}
 use Rattle.trace_summary.specs.declared.row.ProcessRow.{ProcessRow}
 
@@ -98,14 +98,156 @@ functions_counted old new told facts function put is_function one puts is_put be
     all_stepped counts_of_function (λ x y z. record { calls = x; returns = y; exceptions = z }) (λ f. f.function) (is_of (codes "call")) (is_of (codes "return")) (is_of (codes "exception"))
     old new told facts function put (function_counts_with facts.kind) is_function one (λ x y z. refl) puts is_put before
 
--- those of processes
-pub processes_counted : {S : Type 0} (old new : HashMap (Vec ℕ Global) ProcessRow S) (told : List Telling) (facts : Facts) (process : List ℕ) (put : ProcessRow)
-    → facts.tracee ≡ Some process → is_of_processes facts.kind ≡ true → Puts old new process put
-    → counts_of_process put ≡ process_counts_with facts.kind (unwrap_or (option_map counts_of_process (row_at old process)) no_process_counts)
+-- ---- processes
+
+-- no more wait than ever did
+abbrev Bounded : ProcessCounts → Type 0
+Bounded counts = counts.waiting.now ≤ counts.waiting.most
+
+goes_bounded : (goes : Bool) (waiting : Waiting) → waiting.now ≤ waiting.most → (goes_if goes waiting).now ≤ (goes_if goes waiting).most
+goes_bounded true waiting le = omega (arith, le)
+goes_bounded false waiting le = le
+
+comes_bounded : (comes : Bool) (waiting : Waiting) → waiting.now ≤ waiting.most → (comes_if comes waiting).now ≤ (comes_if comes waiting).most
+comes_bounded true waiting le = omega arith
+comes_bounded false waiting le = le
+
+bounded_from : (process : List ℕ) (waiting : Waiting) (told : List Telling) → waiting.now ≤ waiting.most → (fold (waits_after process) waiting told).now ≤ (fold (waits_after process) waiting told).most
+bounded_from process waiting [] le = le
+bounded_from process waiting (telling ∷ told) le =
+    bounded_from process (waits_after process waiting telling) told (comes_bounded (passes (is_to process) telling) _ (goes_bounded (passes (does process (is_of (codes "receive"))) telling) waiting le))
+
+-- where nothing is counted, there is nothing
+nothing : (counts : ProcessCounts) → Bounded counts → all_of_process counts ≡ 0 → counts ≡ no_process_counts
+nothing counts bounded none =
+    let a : counts.calls ≡ 0 = omega (arith, none) in
+    let b : counts.sent ≡ 0 = omega (arith, none) in
+    let d : counts.received ≡ 0 = omega (arith, none) in
+    let e : counts.waiting.most ≡ 0 = omega (arith, none) in
+    let f : counts.waiting.now ≡ 0 = omega (arith, e, bounded) in
+    λ i. record { calls = a i; sent = b i; received = d i; waiting = record { now = f i; most = e i } }
+
+row_counts : (counts : ProcessCounts) → Bounded counts → unwrap_or (row_of (all_of_process counts) counts) no_process_counts ≡ counts
+row_counts counts bounded = go (all_of_process counts == 0) refl
+  where
+    go : (b : Bool) → (all_of_process counts == 0) ≡ b → unwrap_or (row_of (all_of_process counts) counts) no_process_counts ≡ counts
+    go true e = rw e (sym (nothing counts bounded (eqb-true (all_of_process counts) 0 e)))
+    go false e = rw e refl
+
+has_row : (counts : ProcessCounts) → 0 < all_of_process counts → row_of (all_of_process counts) counts ≡ Some counts
+has_row counts some = let e : (all_of_process counts == 0) ≡ false = ne_eqb (all_of_process counts) 0 (λ none. omega (arith, none, some)) in rw e refl
+
+abbrev own_with : Bool → Bool → Bool → ProcessCounts → ProcessCounts
+own_with p q r counts = record { calls = counts.calls + one_if p; sent = counts.sent + one_if q; received = counts.received + one_if r; waiting = goes_if r counts.waiting }
+
+-- a message that is counted counts for something
+own_some : (p q r : Bool) (counts : ProcessCounts) → (p || (q || r)) ≡ true → 0 < all_of_process (own_with p q r counts)
+own_some true q r counts h = omega arith
+own_some false true r counts h = omega arith
+own_some false false true counts h = omega arith
+own_some false false false counts h = cc
+
+own_none : (counts : ProcessCounts) → own_with false false false counts ≡ counts
+own_none counts =
+    let a : counts.calls + 0 ≡ counts.calls = omega arith in
+    let b : counts.sent + 0 ≡ counts.sent = omega arith in
+    let d : counts.received + 0 ≡ counts.received = omega arith in
+    λ i. record { calls = a i; sent = b i; received = d i; waiting = counts.waiting }
+
+-- one of the process, and one that isn't counted or of another
+own_steps : (t p q r : Bool) (counts : ProcessCounts) → own_with (t && p) (t && q) (t && r) counts ≡ (if (p || (q || r)) && t then own_with p q r counts else counts)
+own_steps false true q r counts = own_none counts
+own_steps false false true r counts = own_none counts
+own_steps false false false true counts = own_none counts
+own_steps false false false false counts = own_none counts
+own_steps true true q r counts = refl
+own_steps true false true r counts = refl
+own_steps true false false true counts = refl
+own_steps true false false false counts = own_none counts
+
+abbrev own_if : List ℕ → Facts → ProcessCounts → ProcessCounts
+own_if process facts counts = if is_told process (who_does facts) then process_counts_with facts.kind counts else counts
+
+abbrev sent_if : List ℕ → Facts → ProcessCounts → ProcessCounts
+sent_if process facts counts = if is_to process facts then process_counts_sent_to counts else counts
+
+told_if : (b : Bool) (process : List ℕ) (who : Option (List ℕ)) → is_told process (if b then who else None) ≡ (b && is_told process who)
+told_if true process who = refl
+told_if false process who = refl
+
+sent_by : (b : Bool) (counts : ProcessCounts) → (if b then process_counts_sent_to counts else counts) ≡ record counts { waiting = comes_if b counts.waiting }
+sent_by true counts = refl
+sent_by false counts = refl
+
+-- what one message more comes to
+counted_more : (process : List ℕ) (told : List Telling) (facts : Facts) → counted_of_process process (told ++ (Read facts ∷ [])) ≡ sent_if process facts (own_if process facts (counted_of_process process told))
+counted_more process told facts =
+    let counts = counted_of_process process told in
+    let t = is_told process facts.tracee in
+    let p = is_of (codes "call") facts in
+    let q = is_sent facts in
+    let r = is_of (codes "receive") facts in
+    let own = own_steps t p q r counts ∙ sym (ap (λ b. if b then process_counts_with facts.kind counts else counts) (told_if (p || (q || r)) process facts.tracee)) in
+    let calls = how_many_more (does process (is_of (codes "call"))) told facts in
+    let sent = how_many_more (does process is_sent) told facts in
+    let received = how_many_more (does process (is_of (codes "receive"))) told facts in
+    let waits = fold_push (waits_after process) none_waits told (Read facts) in
+    (λ i. record { calls = calls i; sent = sent i; received = received i; waiting = waits i })
+    ∙ ap (λ (counts : ProcessCounts). record counts { waiting = comes_if (is_to process facts) counts.waiting }) own
+    ∙ sym (sent_by (is_to process facts) (own_if process facts counts))
+
+module _ {S : Type 0} (counts : ProcessCounts) (bounded : Bounded counts) (process : List ℕ) (old new : HashMap (Vec ℕ Global) ProcessRow S)
+    (is : option_map counts_of_process (row_at old process) ≡ row_of (all_of_process counts) counts) (change : ProcessCounts → ProcessCounts) where
+  abbrev HasChange : Bool → Type 0
+  HasChange b = option_map counts_of_process (row_at new process) ≡ row_of (all_of_process (if b then change counts else counts)) (if b then change counts else counts)
+
+  -- no row is put
+  put_none : ((process : List ℕ) → row_at new process ≡ row_at old process) → HasChange false
+  put_none same = ap (option_map counts_of_process) (same process) ∙ is
+
+  -- the row of one process is put
+  put_for : (text : List ℕ) → ((counts : ProcessCounts) → 0 < all_of_process (change counts)) → PutsProcess old new text (change (process_counts_at old text)) → HasChange (bytes_eq text process)
+  put_for text some (put, puts, is_put) = ⊎_elim same differs (cases_Bool (bytes_eq text process))
+    where
+      same : bytes_eq text process ≡ true → HasChange (bytes_eq text process)
+      same y =
+          let is_text : text ≡ process = (bytes_decides text process).0 y in
+          let had : process_counts_at old text ≡ counts = ap (process_counts_at old) is_text ∙ ap (λ o. unwrap_or o no_process_counts) is ∙ row_counts counts bounded in
+          subst HasChange (sym y)
+          (ap (option_map counts_of_process) (puts process ∙ cond-true (bytes_eq text process) (Some put) (row_at old process) y) ∙ ap Some (is_put ∙ ap change had) ∙ sym (has_row (change counts) (some counts)))
+
+      differs : bytes_eq text process ≡ false → HasChange (bytes_eq text process)
+      differs n = subst HasChange (sym n) (ap (option_map counts_of_process) (puts process ∙ cond-false (bytes_eq text process) (Some put) (row_at old process) n) ∙ is)
+
+  put_if : (text : Option (List ℕ)) → ((counts : ProcessCounts) → 0 < all_of_process (change counts)) → PutsIfTold text change old new → HasChange (is_told process text)
+  put_if None some puts = put_none puts
+  put_if (Some text) some puts = put_for text some puts
+
+-- the rows of processes, after what a message tells of one was put, and then that it is sent to one
+pub processes_counted : {S : Type 0} (old middle new : HashMap (Vec ℕ Global) ProcessRow S) (told : List Telling) (facts : Facts)
+    → PutsIfTold (who_does facts) (process_counts_with facts.kind) old middle → PutsIfTold facts.receiver process_counts_sent_to middle new
     → AreProcessesCounted old told → AreProcessesCounted new (told ++ (Read facts ∷ []))
-processes_counted old new told facts process put is_process one puts is_put before =
-    all_stepped counts_of_process (λ x y z. record { calls = x; sent = y; received = z }) (λ f. f.tracee) (is_of (codes "call")) is_sent (is_of (codes "receive"))
-    old new told facts process put (process_counts_with facts.kind) is_process one (λ x y z. refl) puts is_put before
+processes_counted old middle new told facts does comes before process =
+    put_if (own_if process facts counts) own_bounded process middle new (first (is_of_processes facts.kind) refl does) process_counts_sent_to facts.receiver (λ counts. omega arith) comes
+    ∙ ap (λ (counts : ProcessCounts). row_of (all_of_process counts) counts) (sym (counted_more process told facts))
+  where
+    abbrev counts : ProcessCounts
+    counts = counted_of_process process told
+
+    bounded : Bounded counts
+    bounded = bounded_from process none_waits told (omega arith)
+
+    first : (b : Bool) → is_of_processes facts.kind ≡ b → PutsIfTold (if b then facts.tracee else None) (process_counts_with facts.kind) old middle
+        → HasChange counts bounded process old middle (before process) (process_counts_with facts.kind) (is_told process (if b then facts.tracee else None))
+    first true e puts = put_if counts bounded process old middle (before process) (process_counts_with facts.kind) facts.tracee (λ counts. own_some _ _ _ counts e) puts
+    first false e puts = put_none counts bounded process old middle (before process) (process_counts_with facts.kind) puts
+
+    own_bounded : Bounded (own_if process facts counts)
+    own_bounded = go (is_told process (who_does facts))
+      where
+        go : (b : Bool) → Bounded (if b then process_counts_with facts.kind counts else counts)
+        go true = goes_bounded (bytes_eq facts.kind (codes "receive")) counts.waiting bounded
+        go false = bounded
 
 -- those of kinds
 pub kinds_counted : {S : Type 0} (old new : HashMap (Vec ℕ Global) ℕ S) (told : List Telling) (facts : Facts)

@@ -1,5 +1,5 @@
 -- What is counted of the messages of a trace.
-use Rattle.std.specs.Prelude.{ℕ, ◌+◌, Bool, true, false, ◌&&◌, ◌||◌, ◌==◌, Option, Some, None, List, [], ◌∷◌, ◌++◌, map, count_by, sum_by, codes, if◌then◌else◌}
+use Rattle.std.specs.Prelude.{ℕ, ◌+◌, ◌-◌, max, Bool, true, false, ◌&&◌, ◌||◌, ◌==◌, Option, Some, None, List, [], ◌∷◌, ◌++◌, map, count_by, fold, sum_by, codes, if◌then◌else◌}
 use Rattle.std.specs.Str.{bytes_eq}
 use Rattle.entry_codec.specs.Entries.{Entry, Message, Drop}
 use Rattle.trace_text.specs.MessageFacts.{Facts, facts_in, as_told}
@@ -81,6 +81,42 @@ tells function test facts = is_told function facts.function && test facts
 abbrev pub does : List ℕ → (Facts → Bool) → Facts → Bool
 does process test facts = is_told process facts.tracee && test facts
 
+-- whether it is sent to this process, which is there
+abbrev pub is_to : List ℕ → Facts → Bool
+is_to process facts = is_told process facts.receiver
+
+-- ---- messages that wait
+
+-- how many wait for a process, and the most that ever did
+pub record Waiting : Type 0 where
+  pub now : ℕ
+  pub most : ℕ
+
+abbrev pub none_waits : Waiting
+none_waits = record { now = 0; most = 0 }
+
+-- one is sent to it
+abbrev pub one_comes : Waiting → Waiting
+one_comes waiting = record { now = waiting.now + 1; most = max waiting.most (waiting.now + 1) }
+
+-- it receives one; where none waits, none does after that
+abbrev pub one_goes : Waiting → Waiting
+one_goes waiting = record waiting { now = waiting.now - 1 }
+
+abbrev pub comes_if : Bool → Waiting → Waiting
+comes_if comes waiting = if comes then one_comes waiting else waiting
+
+abbrev pub goes_if : Bool → Waiting → Waiting
+goes_if goes waiting = if goes then one_goes waiting else waiting
+
+-- an entry tells one or the other, or neither
+abbrev pub waits_after : List ℕ → Waiting → Telling → Waiting
+waits_after process waiting telling = comes_if (passes (is_to process) telling) (goes_if (passes (does process (is_of (codes "receive"))) telling) waiting)
+
+-- the messages that wait for a process behind all entries
+abbrev pub waiting_for : List ℕ → List Telling → Waiting
+waiting_for process told = fold (waits_after process) none_waits told
+
 -- ---- rows
 
 -- what is counted of a function
@@ -94,6 +130,7 @@ pub record ProcessCounts : Type 0 where
   pub calls : ℕ
   pub sent : ℕ
   pub received : ℕ
+  pub waiting : Waiting
 
 -- there is a row where something is counted
 abbrev pub row_of : {C : Type 0} → ℕ → C → Option C
@@ -111,6 +148,7 @@ counted_of_process process told = record {
   calls = how_many (does process (is_of (codes "call"))) told;
   sent = how_many (does process is_sent) told;
   received = how_many (does process (is_of (codes "receive"))) told;
+  waiting = waiting_for process told;
 }
 
 -- all that is counted of one
@@ -118,7 +156,7 @@ abbrev pub all_of_function : FunctionCounts → ℕ
 all_of_function counts = counts.calls + counts.returns + counts.exceptions
 
 abbrev pub all_of_process : ProcessCounts → ℕ
-all_of_process counts = counts.calls + counts.sent + counts.received
+all_of_process counts = counts.calls + counts.sent + counts.received + counts.waiting.most
 
 -- the row of a function
 abbrev pub function_row : List ℕ → List Telling → Option FunctionCounts

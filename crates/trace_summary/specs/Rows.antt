@@ -5,9 +5,11 @@ use Rattle.std.specs.HashMap.{HashMap, get_by}
 use Rattle.std.specs.Map.{update}
 use Rattle.std.specs.Option.{option_map, unwrap_or}
 use Rattle.std.specs.Str.{bytes_eq}
-use Rattle.trace_summary.specs.Counting.{Telling, FunctionCounts, ProcessCounts, function_row, process_row, kind_row}
+use Rattle.trace_text.specs.MessageFacts.{Facts}
+use Rattle.trace_summary.specs.Counting.{Telling, Waiting, none_waits, one_comes, goes_if, FunctionCounts, ProcessCounts, function_row, process_row, kind_row}
 use Rattle.trace_summary.specs.declared.row.FunctionRow.{FunctionRow}
 use Rattle.trace_summary.specs.declared.row.ProcessRow.{ProcessRow}
+use Rattle.trace_summary.specs.declared.row.Waiting.{Waiting as TheWaiting}
 
 module _ {R S : Type 0} where
   -- the row of a text
@@ -21,15 +23,18 @@ module _ {R S : Type 0} where
 abbrev pub counts_of_function : FunctionRow → FunctionCounts
 counts_of_function row = record { calls = row.calls; returns = row.returns; exceptions = row.exceptions }
 
+abbrev pub waiting_in : TheWaiting → Waiting
+waiting_in waiting = record { now = waiting.now; most = waiting.most }
+
 abbrev pub counts_of_process : ProcessRow → ProcessCounts
-counts_of_process row = record { calls = row.calls; sent = row.sent; received = row.received }
+counts_of_process row = record { calls = row.calls; sent = row.sent; received = row.received; waiting = waiting_in row.waiting }
 
 -- nothing is counted yet
 abbrev pub no_function_counts : FunctionCounts
 no_function_counts = record { calls = 0; returns = 0; exceptions = 0 }
 
 abbrev pub no_process_counts : ProcessCounts
-no_process_counts = record { calls = 0; sent = 0; received = 0 }
+no_process_counts = record { calls = 0; sent = 0; received = 0; waiting = none_waits }
 
 abbrev pub one_if : Bool → ℕ
 one_if test = if test then 1 else 0
@@ -47,7 +52,12 @@ process_counts_with kind counts = record {
   calls = counts.calls + one_if (bytes_eq kind (codes "call"));
   sent = counts.sent + one_if (bytes_eq kind (codes "send") || bytes_eq kind (codes "send_lost"));
   received = counts.received + one_if (bytes_eq kind (codes "receive"));
+  waiting = goes_if (bytes_eq kind (codes "receive")) counts.waiting;
 }
+
+-- with one message more that is sent to it
+abbrev pub process_counts_sent_to : ProcessCounts → ProcessCounts
+process_counts_sent_to counts = record counts { waiting = one_comes counts.waiting }
 
 module _ {S : Type 0} where
   -- what is counted of a function; nothing where it has no row
@@ -58,6 +68,15 @@ module _ {S : Type 0} where
   abbrev pub process_counts_at : HashMap (Vec ℕ Global) ProcessRow S → List ℕ → ProcessCounts
   process_counts_at rows process = unwrap_or (option_map counts_of_process (row_at rows process)) no_process_counts
 
+  -- the row of this process takes these counts on, and the others stay
+  abbrev pub PutsProcess : HashMap (Vec ℕ Global) ProcessRow S → HashMap (Vec ℕ Global) ProcessRow S → List ℕ → ProcessCounts → Type 0
+  PutsProcess old new process counts = (row : ProcessRow) × Puts old new process row × (counts_of_process row ≡ counts)
+
+  -- so does that of one that is told, where one is
+  abbrev pub PutsIfTold : Option (List ℕ) → (ProcessCounts → ProcessCounts) → HashMap (Vec ℕ Global) ProcessRow S → HashMap (Vec ℕ Global) ProcessRow S → Type 0
+  PutsIfTold None change old new = (process : List ℕ) → row_at new process ≡ row_at old process
+  PutsIfTold (Some process) change old new = PutsProcess old new process (change (process_counts_at old process))
+
 -- the kinds that are counted of functions
 abbrev pub is_of_functions : List ℕ → Bool
 is_of_functions kind = bytes_eq kind (codes "call") || (bytes_eq kind (codes "return") || bytes_eq kind (codes "exception"))
@@ -65,6 +84,10 @@ is_of_functions kind = bytes_eq kind (codes "call") || (bytes_eq kind (codes "re
 -- the kinds that are counted of processes
 abbrev pub is_of_processes : List ℕ → Bool
 is_of_processes kind = bytes_eq kind (codes "call") || ((bytes_eq kind (codes "send") || bytes_eq kind (codes "send_lost")) || bytes_eq kind (codes "receive"))
+
+-- the process that a message is counted of
+abbrev pub who_does : Facts → Option (List ℕ)
+who_does facts = if is_of_processes facts.kind then facts.tracee else None
 
 module _ {S : Type 0} where
   -- each function has the row that these messages give it

@@ -25,7 +25,9 @@ abbrev coded_function_counts : Coded FunctionCounts
 coded_function_counts = code_by (ℕ × (ℕ × ℕ)) (coded× coded_ℕ (coded× coded_ℕ coded_ℕ)) (λ c. (c.calls, (c.returns, c.exceptions))) (λ p. record { calls = p.0; returns = p.1.0; exceptions = p.1.1 }) (λ _. refl)
 
 abbrev coded_process_counts : Coded ProcessCounts
-coded_process_counts = code_by (ℕ × (ℕ × ℕ)) (coded× coded_ℕ (coded× coded_ℕ coded_ℕ)) (λ c. (c.calls, (c.sent, c.received))) (λ p. record { calls = p.0; sent = p.1.0; received = p.1.1 }) (λ _. refl)
+coded_process_counts =
+    code_by (ℕ × (ℕ × (ℕ × (ℕ × ℕ)))) (coded× coded_ℕ (coded× coded_ℕ (coded× coded_ℕ (coded× coded_ℕ coded_ℕ)))) (λ c. (c.calls, (c.sent, (c.received, (c.waiting.now, c.waiting.most)))))
+    (λ p. record { calls = p.0; sent = p.1.0; received = p.1.1.0; waiting = record { now = p.1.1.1.0; most = p.1.1.1.1 } }) (λ _. refl)
 
 -- each has one proof at most
 pub IsCounted-prop : (tallies : Tallies) (told : List Telling) → IsProp (IsCounted tallies told)

@@ -15,6 +15,7 @@ pub enum Figure {
     Open,
     Sent,
     Received,
+    Waiting,
     Count,
 }
 
@@ -30,6 +31,7 @@ impl Figure {
             Figure::Open => "open",
             Figure::Sent => "sent",
             Figure::Received => "received",
+            Figure::Waiting => "waiting",
             Figure::Count => "count",
         }
     }
@@ -131,6 +133,7 @@ impl Shown for ProcessRow {
             Figure::Calls => Cell::Count(self.calls),
             Figure::Sent => Cell::Count(self.sent),
             Figure::Received => Cell::Count(self.received),
+            Figure::Waiting => Cell::Count(self.waiting.most),
             _ => Cell::None,
         }
     }

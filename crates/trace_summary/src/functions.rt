@@ -6,8 +6,8 @@ ghost use Rattle.trace_summary.specs.declared.row.FunctionRow.{FunctionRow as Th
 
 use crate::open_calls::{OpenCall, OpenCalls};
 use crate::row::FunctionRow;
-use crate::rows::{put_row, row_at};
-use crate::view::ViewFault;
+use crate::rows::put_new;
+use crate::view::{ViewFault, or_too_many};
 use std::alloc::Global;
 use std::collections::HashMap;
 use trace_text::MessageFacts;
@@ -39,12 +39,12 @@ impl Functions {
         }
     }
 
-    /// Counts a message that was read.
+    /// Counts a message that was read, where there are at most so many rows.
     pub fn count(
         &mut self,
         facts: &MessageFacts<'_>,
         time: Option<i64>,
-        has_room: bool,
+        most: usize,
     ) -> Result<(), ViewFault>
         ensures { (told : List Telling) → AreFunctionsCounted self.old.rows told
             → OnOk result (AreFunctionsCounted self.new.rows (with_read told facts.now)) }
@@ -56,7 +56,7 @@ impl Functions {
         let Some(function) = facts.function else {
             return Ok(());
         };
-        self.count_one(function, facts, time, has_room)
+        self.count_one(function, facts, time, most)
     }
 
     /// Forgets the open calls of a process that exits.
@@ -76,40 +76,38 @@ impl Functions {
         function: &[u8],
         facts: &MessageFacts<'_>,
         time: Option<i64>,
-        has_room: bool,
+        most: usize,
     ) -> Result<(), ViewFault>
         ensures { OnOk result ((row : TheRow) × Puts self.old.rows self.new.rows function.now row
             × (counts_of_function row ≡ function_counts_with facts.now.kind.now
             (function_counts_at self.old.rows function.now))) }
     {
-        let Some(row) = self.row(function)?.with(facts.kind) else {
+        if let Some(row) = self.rows.get_mut(function) {
+            *row = with_message(*row, &mut self.open, facts, time)?;
+            return Ok(());
+        }
+        let Ok(number) = u32::try_from(self.rows.len()) else {
             return Err(ViewFault::TooMany);
         };
-        let call = OpenCall {
-            function: row.number,
-            time,
-        };
-        let took = self.open.note(facts.tracee, facts.kind, call)?;
-        put_row(
-            &mut self.rows,
-            self.alloc,
-            function,
-            row.timed(took),
-            has_room,
-        )
+        let row = with_message(FunctionRow::new(number), &mut self.open, facts, time)?;
+        put_new(&mut self.rows, self.alloc, function, row, most)
     }
+}
 
-    /// The row of a function, a new one where there is none.
-    fn row(&self, function: &[u8]) -> Result<FunctionRow, ViewFault>
-        ensures { IfOk result (λ row. counts_of_function row
-            ≡ function_counts_at self.now.rows function.now) }
-    {
-        if let Some(row) = row_at(&self.rows, function) {
-            return Ok(row);
-        }
-        match u32::try_from(self.rows.len()) {
-            Ok(number) => Ok(FunctionRow::new(number)),
-            Err(_) => Err(ViewFault::TooMany),
-        }
-    }
+/// The row of a function with one message more, which opens a call or ends one.
+fn with_message(
+    row: FunctionRow,
+    open: &mut OpenCalls,
+    facts: &MessageFacts<'_>,
+    time: Option<i64>,
+) -> Result<FunctionRow, ViewFault>
+    ensures { IfOk result (λ counted. counts_of_function counted
+        ≡ function_counts_with facts.now.kind.now (counts_of_function row)) }
+{
+    let call = OpenCall {
+        function: row.number,
+        time,
+    };
+    let took = open.note(facts.tracee, facts.kind, call)?;
+    Ok(or_too_many(row.with(facts.kind))?.timed(took))
 }

@@ -16,7 +16,7 @@ pub trait Ranked: Copy {
 impl Ranked for FunctionRow {
     fn rank(&self, order: Order) -> u64 {
         match order {
-            Order::Count => self.calls,
+            Order::Count | Order::Waiting => self.calls,
             Order::Exceptions => self.exceptions,
             Order::Total => self.times.total,
             Order::Mean => self.times.mean().unwrap_or(0),
@@ -26,8 +26,11 @@ impl Ranked for FunctionRow {
 }
 
 impl Ranked for ProcessRow {
-    fn rank(&self, _order: Order) -> u64 {
-        self.calls
+    fn rank(&self, order: Order) -> u64 {
+        match order {
+            Order::Waiting => self.waiting.most,
+            _ => self.calls,
+        }
     }
 }
 

@@ -4,7 +4,8 @@ ghost use Rattle.std.specs.Option.{unwrap_or};
 ghost use Rattle.trace_summary.specs.Counting.{Telling, with_read};
 ghost use Rattle.trace_summary.specs.Rows.{AreKindsCounted, Puts, row_at as the_row_at};
 
-use crate::rows::{put_row, row_at};
+use crate::rows::put_new;
+use crate::tallies::one_more;
 use crate::view::ViewFault;
 use std::alloc::Global;
 use std::collections::HashMap;
@@ -42,10 +43,10 @@ impl Kinds {
             (unwrap_or (the_row_at self.old.rows kind.now) 0 + 1)) }
     {
         let kind = kind.as_bytes();
-        let count = row_at(&self.rows, kind).unwrap_or(0);
-        let Some(count) = count.checked_add(1) else {
-            return Err(ViewFault::TooMany);
-        };
-        put_row(&mut self.rows, self.alloc, kind, count, true)
+        if let Some(count) = self.rows.get_mut(kind) {
+            *count = one_more(*count)?;
+            return Ok(());
+        }
+        put_new(&mut self.rows, self.alloc, kind, 1, usize::MAX)
     }
 }

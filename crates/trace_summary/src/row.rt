@@ -1,8 +1,9 @@
 //! What is counted of one function, and of one process.
+
 ghost use Rattle.std.specs.Prelude.{◌≡◌, IfSome};
 
 /// How long calls took, in nanoseconds. Of a function that calls itself the inner calls count too.
-#[derive(Clone, Copy, Debug, PartialEq, Eq)]
+#[derive(Clone, Copy)]
 pub struct Times {
     /// How many calls that returned have a time.
     pub timed: u64,
@@ -37,7 +38,7 @@ impl Times {
 }
 
 /// What is counted of one function.
-#[derive(Clone, Copy, Debug, PartialEq, Eq)]
+#[derive(Clone, Copy)]
 pub struct FunctionRow {
     pub calls: u64,
     pub returns: u64,
@@ -88,16 +89,54 @@ impl FunctionRow {
     }
 }
 
+/// The messages that wait for a process: those that were sent to it, and that it hasn't received.
+#[derive(Clone, Copy)]
+pub struct Waiting {
+    now: u64,
+    /// The most that ever did.
+    pub most: u64,
+}
+
+impl Waiting {
+    ghost use Rattle.trace_summary.specs.Rows.{waiting_in};
+    ghost use Rattle.trace_summary.specs.Counting.{none_waits, one_comes, one_goes};
+
+    /// No message was sent to it.
+    const NONE: Waiting = Waiting { now: 0, most: 0 };
+
+    /// One is sent to it; None where their number has no value in u64.
+    fn with_one(self) -> Option<Waiting>
+        ensures { IfSome result (λ waiting. waiting_in waiting ≡ one_comes (waiting_in self)) }
+    {
+        let now = self.now.checked_add(1)?;
+        Some(Waiting {
+            now,
+            most: self.most.max(now),
+        })
+    }
+
+    /// It receives one, where one is waiting.
+    fn without_one(self) -> Waiting
+        ensures { waiting_in result ≡ one_goes (waiting_in self) }
+    {
+        Waiting {
+            now: self.now.saturating_sub(1),
+            most: self.most,
+        }
+    }
+}
+
 /// What is counted of one process.
-#[derive(Clone, Copy, Debug, PartialEq, Eq)]
+#[derive(Clone, Copy)]
 pub struct ProcessRow {
     pub calls: u64,
     pub sent: u64,
     pub received: u64,
+    pub waiting: Waiting,
 }
 
 impl ProcessRow {
-    ghost use Rattle.trace_summary.specs.Rows.{counts_of_process, no_process_counts, process_counts_with};
+    ghost use Rattle.trace_summary.specs.Rows.{counts_of_process, no_process_counts, process_counts_with, process_counts_sent_to};
 
     /// No message told of it.
     pub fn new() -> ProcessRow
@@ -107,6 +146,7 @@ impl ProcessRow {
             calls: 0,
             sent: 0,
             received: 0,
+            waiting: Waiting::NONE,
         }
     }
 
@@ -116,10 +156,27 @@ impl ProcessRow {
             counts_of_process row ≡ process_counts_with kind.now (counts_of_process self)) }
     {
         let is_sent = kind == "send" || kind == "send_lost";
+        let is_received = kind == "receive";
         Some(ProcessRow {
             calls: self.calls.checked_add(u64::from(kind == "call"))?,
             sent: self.sent.checked_add(u64::from(is_sent))?,
-            received: self.received.checked_add(u64::from(kind == "receive"))?,
+            received: self.received.checked_add(u64::from(is_received))?,
+            waiting: if is_received {
+                self.waiting.without_one()
+            } else {
+                self.waiting
+            },
+        })
+    }
+
+    /// With one message more that is sent to it; None where a count has no value in u64.
+    pub fn sent_to(self) -> Option<ProcessRow>
+        ensures { IfSome result (λ row.
+            counts_of_process row ≡ process_counts_sent_to (counts_of_process self)) }
+    {
+        Some(ProcessRow {
+            waiting: self.waiting.with_one()?,
+            ..self
         })
     }
 }

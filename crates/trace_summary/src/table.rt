@@ -24,7 +24,12 @@ static TIMED_FUNCTIONS: [Figure; 6] = [
 /// Those of one that has none.
 static FUNCTIONS: [Figure; 3] = [Figure::Calls, Figure::Exceptions, Figure::Open];
 
-static PROCESSES: [Figure; 3] = [Figure::Calls, Figure::Sent, Figure::Received];
+static PROCESSES: [Figure; 4] = [
+    Figure::Calls,
+    Figure::Sent,
+    Figure::Received,
+    Figure::Waiting,
+];
 
 static KINDS: [Figure; 1] = [Figure::Count];
 

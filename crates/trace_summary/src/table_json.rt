@@ -150,6 +150,7 @@ impl Table<'_> {
             object.put_number("calls", row.calls)?;
             object.put_number("sent", row.sent)?;
             object.put_number("received", row.received)?;
+            object.put_number("waiting", row.waiting.most)?;
             rows.push(object.end())?;
         }
         Ok(())

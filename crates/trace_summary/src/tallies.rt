@@ -16,7 +16,7 @@ use trace_text::MessageFacts;
 const MOST_ROWS: usize = 1_000_000;
 
 /// One more, where that has a value in u64.
-fn one_more(count: u64) -> Result<u64, ViewFault>
+pub fn one_more(count: u64) -> Result<u64, ViewFault>
     ensures { IfOk result (λ more. more ≡ count + 1) }
 {
     match count.checked_add(1) {
@@ -88,15 +88,6 @@ impl Tallies {
         }
     }
 
-    /// Whether it may have one more function or process.
-    fn has_room(&self) -> bool {
-        self.functions
-            .rows
-            .len()
-            .saturating_add(self.processes.rows.len())
-            < MOST_ROWS
-    }
-
     /// Counts a message that was read.
     pub fn count_read(&mut self, facts: &MessageFacts<'_>) -> Result<(), ViewFault>
         ensures { (told : List Telling) → IsCounted self.old told
@@ -105,10 +96,10 @@ impl Tallies {
         let time = time_in(facts.text);
         self.messages = one_more(self.messages)?;
         self.kinds.count(facts)?;
-        let has_room = self.has_room();
-        self.processes.count(facts, has_room)?;
-        let has_room = self.has_room();
-        self.functions.count(facts, time, has_room)?;
+        let most = MOST_ROWS.saturating_sub(self.functions.rows.len());
+        self.processes.count(facts, most)?;
+        let most = MOST_ROWS.saturating_sub(self.processes.rows.len());
+        self.functions.count(facts, time, most)?;
         self.span = Span::with(self.span, time);
         self.course.note_message(time);
         Ok(())

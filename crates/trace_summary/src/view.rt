@@ -1,6 +1,6 @@
 //! What looks at the entries of a trace, one by one.
 
-ghost use Rattle.std.specs.Prelude.{◌≡◌, ◌++◌, ◌∷◌, [], List, OnOk, OnErr};
+ghost use Rattle.std.specs.Prelude.{◌≡◌, ◌++◌, ◌∷◌, [], List, IfOk, OnOk, OnErr, Some};
 ghost use Rattle.entry_codec.specs.{Entries.Entry, Seen.lent};
 ghost use Rattle.trace_summary.specs.declared.view.ViewFault.TheVariants.{NoMemory};
 
@@ -23,6 +23,13 @@ impl From<AllocError> for ViewFault {
     fn from(_fault: AllocError) -> Self {
         ViewFault::NoMemory
     }
+}
+
+/// A count that has a value.
+pub fn or_too_many<T>(counted: Option<T>) -> Result<T, ViewFault>
+    ensures { IfOk result (λ value. counted ≡ Some value) }
+{
+    counted.ok_or(ViewFault::TooMany)
 }
 
 /// Looks at entries, the oldest first.

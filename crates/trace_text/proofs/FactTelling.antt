@@ -7,7 +7,7 @@ use Rattle.ext_format.proofs.FieldLaws.{IsBytes}
 use Rattle.trace_text.specs.declared.sight.Kind.{Kind}
 use Rattle.trace_text.specs.declared.sight.Sight.{Sight}
 use Rattle.trace_text.specs.AnyTerm.{Leaf, AnyTerm}
-use Rattle.trace_text.specs.Facts.{Function, traced, tells_function, function_of, arity_told}
+use Rattle.trace_text.specs.Facts.{Function, traced, tells_function, function_of, arity_told, sent_to}
 use Rattle.trace_text.specs.MessageFacts.{Facts, called_text, facts_of, facts_in, IsTextOf}
 use Rattle.trace_text.specs.Objects.{IsUnread, arity_text, function_text}
 use Rattle.trace_text.specs.Parts.{IsReadSo, IsSeenSo, IsTheTracee}
@@ -65,15 +65,16 @@ some_lent now false lent = refl
 pub function_lent : {R : Type 0} (now : R → List ℕ) (tells : Bool) (o : Option R) (lent : R) (held : List ℕ) (told : Option (List ℕ)) → o ≡ then_some tells lent → now lent ≡ held → then_some tells held ≡ told → option_map now o ≡ told
 function_lent now tells o lent held told is by e = ap (option_map now) is ∙ some_lent now tells lent ∙ ap (then_some tells) by ∙ e
 
-abbrev facts_by : List ℕ → Option (List ℕ) → Option (List ℕ) → Facts
-facts_by kind who function = record { kind = kind; tracee = who; function = function }
+abbrev facts_by : List ℕ → Option (List ℕ) → Option (List ℕ) → Option (List ℕ) → Facts
+facts_by kind who function receiver = record { kind = kind; tracee = who; function = function; receiver = receiver }
 
-pub facts_are : (t : AnyTerm) (kind : Option Kind) (word : List ℕ) (who function : Option (List ℕ)) → kind ≡ (sight t).kind → word ≡ kind_word kind → who ≡ option_map leaf_text (traced t)
-    → function ≡ called_text t → facts_by word who function ≡ facts_of t
-facts_are t kind word who function is says traces calls =
+pub facts_are : (t : AnyTerm) (kind : Option Kind) (word : List ℕ) (who function receiver : Option (List ℕ)) → kind ≡ (sight t).kind → word ≡ kind_word kind → who ≡ option_map leaf_text (traced t)
+    → function ≡ called_text t → receiver ≡ option_map leaf_text (sent_to t) → facts_by word who function receiver ≡ facts_of t
+facts_are t kind word who function receiver is says traces calls sends =
     let k = kind_word (sight t).kind in
     let p = option_map leaf_text (traced t) in
-    ap (λ (w : List ℕ). facts_by w who function) (says ∙ ap kind_word is) ∙ ap (λ (o : Option (List ℕ)). facts_by k o function) traces ∙ ap (λ (o : Option (List ℕ)). facts_by k p o) calls
+    ap (λ (w : List ℕ). facts_by w who function receiver) (says ∙ ap kind_word is) ∙ ap (λ (o : Option (List ℕ)). facts_by k o function receiver) traces
+    ∙ ap (λ (o : Option (List ℕ)). facts_by k p o receiver) calls ∙ ap (λ (o : Option (List ℕ)). facts_by k p (called_text t) o) sends
 
 pub facts_read : (bytes text : List ℕ) (kind : Option Kind) (seen : List Sight) (told : Facts) (r : IsReadSo kind bytes seen text) → told ≡ facts_of r.t → Some told ≡ facts_in bytes
 facts_read bytes text kind seen told r e = ap Some e ∙ sym (ap (option_map facts_of) (term_spelled bytes r.t r.short r.spells))

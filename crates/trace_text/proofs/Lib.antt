@@ -21,6 +21,7 @@ pub mod OnePretty
 pub mod Between
 pub mod PartLemmas
 pub mod Suiting
+pub mod ReceiverLemmas
 pub mod Lined
 pub mod ChosenLines
 pub mod SubsetLemmas

@@ -27,7 +27,7 @@ use Rattle.trace_text.specs.BigText.{whole_decimal, whole_signed}
 use Rattle.trace_text.specs.Choosing.{is_count}
 use Rattle.trace_text.specs.Facts.{tells_function, is_tag, is_tracee, leaf_if, Function, with_names, function_in, function_behind, behind_tag, tracee_of, traced, function_of, arity_told}
 use Rattle.trace_text.specs.Objects.{unsigned_told}
-use Rattle.trace_text.specs.Parts.{members_seen, IsSeenSo, is_tuple, Opens, PutMessage}
+use Rattle.trace_text.specs.Parts.{members_seen, IsFifthAt, IsSeenSo, is_tuple, Opens, PutMessage, PutParts}
 use Rattle.trace_text.specs.Pretty.{is_printable, leaf_text, IsPretty, a_leaf, a_tuple, ArePretty, with_member}
 use Rattle.trace_text.specs.Printed.{Puts, PutTerm, PutMembers, any_tuple_of}
 use Rattle.trace_text.specs.declared.sight.Shape.{Shape}
@@ -542,6 +542,16 @@ list_none inner bytes behind n e some =
 
 -- ---- as it is put
 
+-- the fifth member stays where it is when more is put
+pub fifth_stays : (t : AnyTerm) (text new more : List ℕ) (place now : ℕ) → IsFifthAt t text place → new ≡ text ++ more → now ≡ place → IsFifthAt t new now
+fifth_stays (tuple (member a (member b (member c (member d (member e ts)))))) text new more place now (front, own, rest, p, is, text_is) put same =
+    (front, own, rest ++ more, p, same ∙ is, put ∙ ap (λ (l : List ℕ). l ++ more) text_is ∙ append_assoc front (44 ∷ (own ++ rest)) more ∙ ap (λ (l : List ℕ). front ++ 44 ∷ l) (append_assoc own rest more))
+fifth_stays t text new more place now is e same = tt
+
+pub no_fifth : (t : AnyTerm) (text : List ℕ) (place : ℕ) → is_tuple t ≡ false → IsFifthAt t text place
+no_fifth (tuple ts) text place e = absurd cc
+no_fifth t text place e = tt
+
 no_tuple_seen : (t : AnyTerm) → is_tuple t ≡ false → (None ≡ (sight t).kind) × ([] ≡ members_seen t)
 no_tuple_seen (tuple ts) e = absurd cc
 no_tuple_seen t e = (refl, refl)
@@ -550,21 +560,24 @@ pub other_put : (read : Read AnyTerm) (rest : List ℕ) (seen : List Sight) (old
     → PutMessage None old new read rest
 other_put read rest seen old new p cleared none =
     let never = no_tuple_seen p.t (none (p.t, rest) p.is) in
-    record { t = p.t; is = p.is; text = p.text; pretty = p.pretty; line_is = p.line_is; is_kind = never.0; members = cleared ∙ never.1 }
+    record { t = p.t; is = p.is; text = p.text; pretty = p.pretty; line_is = p.line_is; is_kind = never.0; members = cleared ∙ never.1; fifth = no_fifth p.t new.text.items new.place (none (p.t, rest) p.is) }
 
-pub members_put : (read : List ℕ → Read AnyTerm) (bytes one two rest : List ℕ) (n count : ℕ) (old new : Written Sight) (kind : Option Kind) → old.seen.items ≡ [] → count ≡ n → one ≡ old.text.items ++ codes "{"
-    → PutMembers First one old.seen.items (any_members_at read count bytes) two new.seen.items rest → new.text.items ≡ two ++ codes "}" → kind ≡ parts_kind new.seen.items → PutMessage kind old new (any_tuple_of read n bytes) rest
-members_put read bytes one two rest n count old new kind empty same is_one m is_new is_kind =
+pub members_put : (read : List ℕ → Read AnyTerm) (bytes rest : List ℕ) (n count : ℕ) (old begun put new : Written Sight) (kind : Option Kind) → old.seen.items ≡ [] → count ≡ n → begun.text.items ≡ old.text.items ++ codes "{"
+    → begun.seen.items ≡ old.seen.items → PutParts begun put (any_members_at read count bytes) rest → new.text.items ≡ put.text.items ++ codes "}" → new.seen.items ≡ put.seen.items → new.place ≡ put.place → kind ≡ parts_kind new.seen.items
+    → PutMessage kind old new (any_tuple_of read n bytes) rest
+members_put read bytes rest n count old begun put new kind empty same is_one stayed parts is_new still at is_kind =
+    let m = parts.put in
     let members : any_members_at read n bytes ≡ Ok (m.ts, rest) = ap (λ (k : ℕ). any_members_at read k bytes) (sym same) ∙ m.is in
-    let seen : new.seen.items ≡ sights m.ts = m.seen_is ∙ ap (λ (l : List Sight). l ++ sights m.ts) empty in
+    let seen : new.seen.items ≡ sights m.ts = still ∙ m.seen_is ∙ ap (λ (l : List Sight). l ++ sights m.ts) (stayed ∙ empty) in
     record {
       t = tuple m.ts;
       is = rw members refl;
       text = codes "{" ++ m.text ++ codes "}";
       pretty = a_tuple m.ts m.text m.pretty;
-      line_is = bracketed old.text.items (codes "{") m.text (codes "}") one two new.text.items is_one m.line_is is_new;
+      line_is = bracketed old.text.items (codes "{") m.text (codes "}") begun.text.items put.text.items new.text.items is_one m.line_is is_new;
       is_kind = is_kind ∙ ap parts_kind seen;
       members = seen;
+      fifth = fifth_stays (tuple m.ts) put.text.items new.text.items (codes "}") put.place new.place parts.fifth is_new at;
     }
 
 pub tuple_fails : (read : List ℕ → Read AnyTerm) (n count : ℕ) (bytes : List ℕ) (d : DecodeFault) → count ≡ n → Fails d (any_members_at read count bytes) → Fails d (any_tuple_of read n bytes)
@@ -579,7 +592,7 @@ pub whole_put : (bytes behind rest : List ℕ) (v n : ℕ) (kind : Option Kind) 
 unfolding any_whole_at
 whole_put bytes behind rest v n kind old new e is sized p =
     let as_read : ℕ → Result (AnyTerm × ℕ) DecodeFault = λ k. Ok (p.t, k) in
-    record { t = p.t; is = rw (e, is, p.is) (ap as_read (sym sized)); text = p.text; pretty = p.pretty; line_is = p.line_is; is_kind = p.is_kind; members = p.members }
+    record { t = p.t; is = rw (e, is, p.is) (ap as_read (sym sized)); text = p.text; pretty = p.pretty; line_is = p.line_is; is_kind = p.is_kind; members = p.members; fifth = p.fifth }
 
 -- ---- what opens a tuple
 

@@ -79,6 +79,20 @@ tells_function (Some (kinds.Seen events.Return)) = true
 tells_function (Some (kinds.Seen events.Exception)) = true
 tells_function kind = false
 
+-- the kind that tells to whom a message is sent
+abbrev pub tells_receiver : Option Kind → Bool
+tells_receiver (Some (kinds.Seen events.Send)) = true
+tells_receiver kind = false
+
+-- {trace,Who,send,Message,To,..}, where To is a process
+abbrev pub receiver_in : AnyTerm → Option Leaf
+receiver_in (tuple (member tag (member who (member word (member message (member to ts)))))) = leaf_if is_pid to
+receiver_in t = None
+
+-- the process that a message tells another to be sent to
+abbrev pub sent_to : AnyTerm → Option Leaf
+sent_to t = if tells_receiver (sight t).kind then receiver_in t else None
+
 -- the function that stands behind who is traced
 abbrev pub function_of : AnyTerm → Option Function
 function_of t = option_and_then (λ _. function_behind (behind_tag t)) (traced t)

@@ -7,17 +7,18 @@ use Rattle.trace_text.specs.declared.message.Arity.{Arity}
 use Rattle.trace_text.specs.declared.message.Arity.TheVariants.{Counted, Told, Untold}
 use Rattle.trace_text.specs.declared.message.Called.{Called}
 use Rattle.trace_text.specs.declared.message.Opening.{Opening}
+use Rattle.trace_text.specs.declared.separator.Separator.TheVariants.{First}
 use Rattle.trace_text.specs.declared.sight.Kind.{Kind}
 use Rattle.trace_text.specs.declared.sight.Sight.{Sight}
 use Rattle.trace_text.specs.declared.sight.Sort.TheVariants as sorts
 use Rattle.trace_text.specs.declared.told.Told.{Told as Written}
 use Rattle.trace_text.specs.BigText.{whole_signed}
-use Rattle.trace_text.specs.AnyTerm.{Leaf, int, AnyTerm, leaf, tuple}
+use Rattle.trace_text.specs.AnyTerm.{Leaf, int, AnyTerm, leaf, tuple, AnyMembers, member}
 use Rattle.trace_text.specs.AnyReading.{any_term_at}
 use Rattle.trace_text.specs.Facts.{Function, arity_told}
 use Rattle.trace_text.specs.Pretty.{leaf_text, IsPretty}
 use Rattle.trace_text.specs.PrettyLines.{longest_message}
-use Rattle.trace_text.specs.Printed.{any_tuple_of}
+use Rattle.trace_text.specs.Printed.{PutMembers, any_tuple_of}
 use Rattle.trace_text.specs.Sights.{shape_of_function, sight, sights}
 use Rattle.trace_text.specs.SpellsAny.{SpellsAny}
 
@@ -30,6 +31,11 @@ members_seen t = []
 pub record IsSeenSo (t : AnyTerm) (seen : List Sight) (text : List ℕ) : Type 0 where
   pub members : seen ≡ members_seen t
   pub pretty : IsPretty t text
+
+-- the text of a tuple's fifth member begins behind a byte at this place
+abbrev pub IsFifthAt : AnyTerm → List ℕ → ℕ → Type 0
+IsFifthAt (tuple (member a (member b (member c (member d (member e ts)))))) text place = (front own rest : List ℕ) × IsPretty e own × (place ≡ length front) × (text ≡ front ++ 44 ∷ (own ++ rest))
+IsFifthAt t text place = Unit {0}
 
 -- a message is read: it is one spelling of a term that isn't too long, and of this kind
 pub record IsReadSo (kind : Option Kind) (bytes : List ℕ) (seen : List Sight) (text : List ℕ) : Type 0 where
@@ -94,3 +100,9 @@ pub record PutMessage {R : Type 0} (kind : Option Kind) (old new : Written Sight
   pub line_is : new.text.items ≡ old.text.items ++ text
   pub is_kind : kind ≡ (sight t).kind
   pub members : new.seen.items ≡ members_seen t
+  pub fifth : IsFifthAt t new.text.items new.place
+
+-- the members of a message were read
+pub record PutParts (old new : Written Sight) (read : Read AnyMembers) (rest : List ℕ) : Type 0 where
+  pub put : PutMembers First old.text.items old.seen.items read new.text.items new.seen.items rest
+  pub fifth : IsFifthAt (tuple put.ts) new.text.items new.place

@@ -1,4 +1,5 @@
-//! What a message of any terms tells: its kind, who is traced, and the function that is called or returned from.
+//! What a message of any terms tells: its kind, who is traced, the function that is called or returned from, and the process that
+//! a message is sent to.
 
 ghost use Rattle.std.specs.Prelude.{◌≡◌, ◌≤◌, ◌++◌, Some, length, IfOk, OnOk, OnErr};
 ghost use Rattle.std.specs.Bool.{then_some};
@@ -12,7 +13,7 @@ ghost use Rattle.trace_text.specs.Parts.{IsArity, IsCalledBy, IsSeenSo};
 
 use crate::any_term::Sighted;
 use crate::facts::tells_function;
-use crate::message::{Arity, Called, function, tracee};
+use crate::message::{Arity, Called, function, receiver, tracee};
 use crate::pretty::{read_message, word_of};
 use crate::sight::{Kind, Sight};
 use crate::term_text::put_byte;
@@ -28,6 +29,8 @@ pub struct MessageFacts<'t> {
     pub tracee: Option<&'t [u8]>,
     /// The function that is called or returned from, as `lists:seq/2`.
     pub function: Option<&'t [u8]>,
+    /// The process that a message is sent to.
+    pub receiver: Option<&'t [u8]>,
     /// The message's term.
     pub text: &'t [u8],
 }
@@ -71,6 +74,7 @@ impl FactReader {
             kind: word_of(kind),
             tracee: tracee(&self.told.seen, &self.told.text),
             function: tells.then_some(self.function.as_slice()),
+            receiver: receiver(&self.told, kind),
             text: &self.told.text,
         }
     }

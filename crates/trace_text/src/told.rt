@@ -10,6 +10,8 @@ pub struct Told<S> {
     pub text: Vec<u8>,
     pub seen: Vec<S>,
     pub pid: LastPid,
+    /// Where the text of a message ends that is before the fifth member.
+    pub place: usize,
 }
 
 impl<S> Told<S> {
@@ -19,6 +21,7 @@ impl<S> Told<S> {
             text: Vec::new(alloc),
             seen: Vec::new(alloc),
             pid: LastPid::new(alloc),
+            place: 0,
         }
     }
 }

@@ -1,5 +1,6 @@
-use Rattle.std.proofs.Common.{arith}
+use Rattle.std.proofs.Common.{refl, arith}
 use Rattle.trace_text.proofs.FactTelling.{facts_read, text_read, facts_unread, seen_as}
+use Rattle.trace_text.proofs.Suiting.{term_spelled}
 use Rattle.trace_text.proofs.fact_reader.FactReader.read.Goals as goal
 
 pub returns-in_default : goal.returns-in_default
@@ -12,7 +13,7 @@ returns c =
     let r = rw c.in-Some.is at c.in_ok-kind.ensures.read in
     let tells = c.in_ok-tells.ensures r.t r.is_kind (seen_as r.t _ _ _ _ c.deref.ensures.value c.deref-2.ensures.value r.is_seen) in
     record {
-      facts = facts_read c.args.bytes.now _ c.in-Some.kind _ _ r (c.facts.ensures.facts r.t (record { is_kind = r.is_kind; is_seen = r.is_seen; function = tells }));
+      facts = facts_read c.args.bytes.now _ c.in-Some.kind _ _ r (c.facts.ensures.facts r.t (record { is_kind = r.is_kind; is_seen = r.is_seen; function = tells; fifth = (rw c.in-Some.is at c.in_ok-kind.ensures.fifth) refl r.t (term_spelled c.args.bytes.now r.t r.short r.spells) }));
       text = text_read c.args.bytes.now _ _ c.in-Some.kind _ r c.facts.ensures.text;
       memory = tt;
     }
