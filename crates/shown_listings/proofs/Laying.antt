@@ -5,9 +5,8 @@ use Rattle.command_line.specs.declared.layout.Layout.{Layout}
 use Rattle.shown_listings.specs.declared.look.Rule.{Rule}
 use Rattle.shown_listings.specs.Ends.{counted, end_contents}
 use Rattle.shown_listings.specs.Listings.{HasRows, LaysOut, rule_in}
-use Rattle.shown_listings.specs.Rows.{AreLines, ShowsRows, given_lines, bit, told_last, laid_contents}
+use Rattle.shown_listings.specs.Rows.{AreLines, ShowsRows, given_lines, bit, told_last, with_rule, laid_contents}
 use Rattle.shown_listings.proofs.EndHanded.{same_end}
-use Rattle.shown_listings.proofs.RowLemmas.{with_rule}
 
 bit-same : (a b : Bool) → bit a ≡ bit b → a ≡ b
 bit-same true true e = refl

@@ -2,7 +2,7 @@
 use Rattle.std.proofs.Common.{◌≡◌, ◌≢◌, ℕ, ◌+◌, ◌-◌, ◌<◌, ◌≤◌, Bool, true, false, ◌||◌, ◌==◌, cond, Option, List, [], ◌∷◌, ◌++◌, map, length, take, drop, refl, sym, ◌∙◌, ap, subst, append_assoc, append-nil, arith}
 use Rattle.std.proofs.lemmas.Bool.{or_parts, ltb-false, eqb-false}
 use Rattle.std.proofs.lemmas.List.{drop-drop, take-append-drop, drop_all, length-drop}
-use Rattle.std.proofs.Math.Seq.{take-append_seam, take-length}
+use Rattle.std.proofs.Math.Seq.{take-length}
 use Rattle.std.proofs.lemmas.List.Elements.{All-append, All-map, All-cons, All-nil, All-push}
 use Rattle.std.specs.Prelude.{nat_lt, slice_index_or, is_some, Some, None, option_and_then, option_to_list, codes, IsUtf8, IfSome, MatchOption}
 use Rattle.std.specs.declared.vec.Vec.{Vec}
@@ -11,12 +11,12 @@ use Rattle.serde_json.specs.Data.{Data}
 use Rattle.serde_json.specs.Read.{read}
 use Rattle.serde_json.specs.Find.{get, as_str}
 use Rattle.std.specs.List.{All}
-use Rattle.std.specs.Io.KnownBytes.{Appends, Keeps}
+use Rattle.std.specs.Io.KnownBytes.{Appends}
 use Rattle.std.proofs.KnownBytes.{Appends-trans, Appends-nil}
 use Rattle.shown_listings.specs.declared.given.Given.{Given}
 use Rattle.shown_listings.specs.declared.look.Rule.{Rule}
 use Rattle.shown_listings.specs.Ends.{text_of_lines, counted}
-use Rattle.shown_listings.specs.Rows.{shown_byte, unfed_byte, cut_sign, ShowsText, whole, front, HasNoFeed, ShowsInRow, IsRow, HaveRows, none, with_row, left_out, text_of_rows, Sends, AreLines, given_lines, text_in, rows_in, bit, told_last, laid_contents}
+use Rattle.shown_listings.specs.Rows.{shown_byte, unfed_byte, cut_sign, ShowsText, whole, front, HasNoFeed, ShowsInRow, IsRow, HaveRows, none, with_row, left_out, text_of_rows, Sends, AreLines, given_lines, text_in, rows_in, with_rule, laid_contents}
 
 abbrev other : ℕ → Type 0
 other byte = byte ≢ 10
@@ -136,10 +136,6 @@ lines-new lines line none_whole none_left =
     let Q : List ℕ → Type 0 = λ l. HasNoFeed l in
     record { each = subst P (sym none_whole) (All-nil HasNoFeed); last = subst Q (sym none_left) (All-nil other) }
 
-pub rows-new : (each cut : Bool) (lines rows : List (List ℕ)) → lines ≡ [] → rows ≡ [] → HaveRows each cut lines rows
-rows-new each cut lines rows no_lines no_rows =
-    subst (λ l. HaveRows each cut l rows) (sym no_lines) (subst (λ r. HaveRows each cut [] r) (sym no_rows) none)
-
 pub sends-new : (written : Given) (start now : Option (List ℕ)) (left : List ℕ) (rows : List (List ℕ)) → (written.start ≡ start) × (written.bytes ≡ []) → start ≡ now → left ≡ [] → rows ≡ [] → Sends now written left (text_of_rows rows)
 sends-new written start now left rows made same none_left no_rows = record {
   held = subst (Appends written.start now) (sym made.1) (subst (λ later. Appends written.start later []) (made.0 ∙ same) (Appends-nil written.start));
@@ -177,12 +173,6 @@ lines-laid lines later line are came =
     let P : List (List ℕ) → Type 0 = λ l. All HasNoFeed l in
     record { each = subst P (sym came) (All-push HasNoFeed lines line are.each are.last); last = are.last }
 
--- More of a line came.
-pub line-grown : (lines : List (List ℕ)) (line more after : List ℕ) → AreLines lines line → HasNoFeed more → after ≡ line ++ more → AreLines lines after
-line-grown lines line more after are other_more came =
-    let Q : List ℕ → Type 0 = λ l. HasNoFeed l in
-    record { each = are.each; last = subst Q (sym came) (All-append other line more are.last other_more) }
-
 -- It is what was given, with what came of it before.
 pub given-grown : (lines later : List (List ℕ)) (line rest left : List ℕ) → later ≡ lines ++ (line ++ rest) ∷ [] → left ≡ [] → given_lines later left ≡ given_lines lines line ++ (rest ++ 10 ∷ [])
 given-grown lines later line rest left came cleared =
@@ -200,14 +190,6 @@ sends-next now written taken sent row rows later all was came =
       is = ap (λ l. l ++ row) is ∙ sym (text_of_rows-grown rows row) ∙ sym (ap text_of_rows came);
     }
 
--- What is given up again leaves the line as it was.
-pub line-back : (line rest after : List ℕ) (held : ℕ) → held ≡ length line → after ≡ take held (line ++ rest) → after ≡ line
-line-back line rest after held size back = back ∙ ap (λ n. take n (line ++ rest)) size ∙ take-append_seam line rest
-
--- the numbers that tell which rows a writer of rows has come before the others
-abbrev pub with_rule : Rule → List ℕ → List ℕ
-with_rule rule told = bit rule.shows_each ∷ bit rule.may_cut ∷ told_last rule.last ∷ bit rule.follows ∷ told
-
 -- What a writer holds grows by what is given.
 pub contents-grown : (rule rule_then : Rule) (start later : Option (List ℕ)) (given after part : List ℕ) → rule_then ≡ rule → later ≡ start → after ≡ given ++ part
     → Appends (laid_contents rule start given) (laid_contents rule_then later after) part
@@ -215,9 +197,3 @@ unfolding laid_contents
 contents-grown rule rule_then start later given after part same_rule same grown =
     let whole_text : counted later ++ after ≡ (counted start ++ given) ++ part = ap (λ s. counted s ++ after) same ∙ ap (λ l. counted start ++ l) grown ∙ sym (append_assoc (counted start) given part) in
     ap (λ (r : Rule). with_rule r (counted later ++ after)) same_rule ∙ ap (λ l. with_rule rule l) whole_text
-
-pub contents-kept : (rule rule_then : Rule) (start later : Option (List ℕ)) (given after : List ℕ) → rule_then ≡ rule → later ≡ start → after ≡ given
-    → Keeps (laid_contents rule start given) (laid_contents rule_then later after)
-unfolding laid_contents
-contents-kept rule rule_then start later given after same_rule same kept =
-    ap (λ (r : Rule). with_rule r (counted later ++ after)) same_rule ∙ ap (λ s. with_rule rule (counted s ++ after)) same ∙ ap (λ l. with_rule rule (counted start ++ l)) kept

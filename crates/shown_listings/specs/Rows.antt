@@ -146,9 +146,13 @@ abbrev pub told_last : Option ℕ → ℕ
 told_last None = 0
 told_last (Some n) = suc n
 
+-- numbers that tell a rule, and others behind them
+abbrev pub with_rule : Rule → List ℕ → List ℕ
+with_rule rule others = bit rule.shows_each ∷ bit rule.may_cut ∷ told_last rule.last ∷ bit rule.follows ∷ others
+
 -- A writer of rows holds, as a writer, which rows it has, what the one below held when it was made, and what it was given since.
 unfoldable pub laid_contents : Rule → Option (List ℕ) → List ℕ → Option (List ℕ)
-laid_contents rule start given = Some (bit rule.shows_each ∷ bit rule.may_cut ∷ told_last rule.last ∷ bit rule.follows ∷ (counted start ++ given))
+laid_contents rule start given = Some (with_rule rule (counted start ++ given))
 
 -- The rows of lines went to a writer: the first bytes of them, or all.
 pub record ShowsRows (rule : Rule) (whole : Type 0) (lines : List (List ℕ)) (was now : Option (List ℕ)) : Type 0 where
