@@ -1,5 +1,4 @@
 use Rattle.std.proofs.Common.{ℕ, List, [], ◌∷◌, ◌++◌, drop, length, ap, sym, ◌∙◌, append_assoc, length-append, arith}
-use Rattle.trace_text.specs.Pretty.{leaf_text}
 use Rattle.trace_text.specs.declared.sight.Sight.{Sight}
 use Rattle.trace_text.specs.declared.sight.Sort.TheVariants as sorts
 use Rattle.trace_text.proofs.PartLemmas.{dropped, names_there, has_names}
