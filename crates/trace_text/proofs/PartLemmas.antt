@@ -13,7 +13,7 @@ use Rattle.std.proofs.lemmas.Slice.Eq.{bytes_eq-Decides}
 use Rattle.ext_format.specs.declared.fault.DecodeFault.{DecodeFault}
 use Rattle.ext_format.specs.declared.fault.DecodeFault.TheVariants.{TooBig}
 use Rattle.ext_format.specs.Reading.{◌>>=◌, Fails, Read, number_at, sized_at}
-use Rattle.trace_text.specs.declared.separator.Separator.TheVariants.{First, Behind}
+use Rattle.trace_text.specs.declared.separator.Separator.TheVariants.{Behind}
 use Rattle.trace_text.specs.declared.message.Opening.{Opening}
 use Rattle.trace_text.specs.declared.told.Told.{Told as Written}
 use Rattle.trace_text.specs.declared.sight.Sight.{Sight}
@@ -29,7 +29,7 @@ use Rattle.trace_text.specs.Facts.{tells_function, is_tag, is_tracee, leaf_if, F
 use Rattle.trace_text.specs.Objects.{unsigned_told}
 use Rattle.trace_text.specs.Parts.{members_seen, IsFifthAt, IsSeenSo, is_tuple, Opens, PutMessage, PutParts}
 use Rattle.trace_text.specs.Pretty.{is_printable, leaf_text, IsPretty, a_leaf, a_tuple, ArePretty, with_member}
-use Rattle.trace_text.specs.Printed.{Puts, PutTerm, PutMembers, any_tuple_of}
+use Rattle.trace_text.specs.Printed.{Puts, PutTerm, any_tuple_of}
 use Rattle.trace_text.specs.declared.sight.Shape.{Shape}
 use Rattle.trace_text.specs.declared.sight.Shape.TheVariants as shapes
 use Rattle.trace_text.specs.declared.sight.Sizes.{Sizes}

@@ -1,19 +1,18 @@
 -- The receiver of a message that is sent, as it is put.
-use Rattle.std.proofs.Common.{◌≡◌, ℕ, zero, suc, ◌+◌, ◌-◌, ◌<◌, ◌≤◌, Bool, true, false, cond, List, [], ◌∷◌, ◌++◌, length, drop, codes, Option, Some, None, Result, Ok, Err, refl, sym, ap, subst, ◌∙◌, append_assoc, length-append, append-nil, get_or, arith}
-use Rattle.std.specs.Prelude.{MatchOption}
+use Rattle.std.proofs.Common.{◌≡◌, ℕ, ◌+◌, ◌-◌, ◌<◌, ◌≤◌, Bool, true, false, cond, List, [], ◌∷◌, ◌++◌, length, drop, Option, Some, None, Result, Ok, Err, refl, sym, ap, subst, ◌∙◌, append_assoc, length-append, append-nil, get_or, arith}
 use Rattle.ext_format.specs.declared.fault.DecodeFault.{DecodeFault}
 use Rattle.ext_format.specs.Reading.{Fails, Read}
 use Rattle.trace_text.specs.declared.separator.Separator.TheVariants.{First, Behind}
 use Rattle.trace_text.specs.declared.told.Told.{Told as Written}
 use Rattle.trace_text.specs.declared.sight.Sight.{Sight}
 use Rattle.trace_text.specs.declared.sight.Kind.{Kind}
-use Rattle.trace_text.specs.AnyTerm.{Leaf, AnyTerm, leaf, float, tuple, nil, cons, map, any_count, AnyMembers, no_members, member}
+use Rattle.trace_text.specs.AnyTerm.{AnyTerm, leaf, float, tuple, nil, cons, map, any_count, AnyMembers, no_members, member}
 use Rattle.trace_text.specs.AnyReading.{any_members_at, any_whole_at}
 use Rattle.trace_text.specs.Facts.{leaf_if, receiver_in, sent_to, tells_receiver}
-use Rattle.trace_text.specs.Parts.{members_seen, is_tuple, IsFifthAt, IsSeenSo, IsTheTracee, PutMessage, PutParts}
-use Rattle.trace_text.specs.Pretty.{leaf_text, IsPretty, ArePretty}
+use Rattle.trace_text.specs.Parts.{members_seen, IsFifthAt, IsTheTracee, PutMessage, PutParts}
+use Rattle.trace_text.specs.Pretty.{IsPretty, ArePretty}
 use Rattle.trace_text.specs.Printed.{Puts, PutMembers, TellsMembers}
-use Rattle.trace_text.specs.Sights.{is_pid, sight, sights}
+use Rattle.trace_text.specs.Sights.{is_pid, sight}
 use Rattle.ext_format.proofs.FieldLaws.{IsBytes}
 use Rattle.trace_text.specs.Choosing.{term_in}
 use Rattle.trace_text.specs.PrettyLines.{longest_message}
@@ -21,7 +20,7 @@ use Rattle.trace_text.proofs.Suiting.{term_spelled}
 use Rattle.trace_text.proofs.PrettyTelling.{spells_read}
 use Rattle.trace_text.proofs.AnyLemmas.{members_count}
 use Rattle.trace_text.proofs.MembersInRow.{join, separator_after, put_behind, fails_before, fails_behind}
-use Rattle.trace_text.proofs.PartLemmas.{OfLeaf, OfLeaves, dropped, goes_on_with, leaf_by}
+use Rattle.trace_text.proofs.PartLemmas.{OfLeaves, dropped, goes_on_with, leaf_by}
 
 -- ---- where it stands
 

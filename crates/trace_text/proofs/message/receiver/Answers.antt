@@ -1,6 +1,6 @@
 use Rattle.std.proofs.Common.{◌+◌, ◌%◌, ◌^◌, drop, ap, sym, ◌∙◌, length, length-append, ◌∷◌, ◌++◌, arith}
 use Rattle.trace_text.specs.Facts.{tells_receiver}
-use Rattle.trace_text.proofs.ReceiverLemmas.{five_there, no_process, the_process}
+use Rattle.trace_text.proofs.ReceiverLemmas.{five_there, the_process}
 use Rattle.trace_text.proofs.message.receiver.Goals as goal
 
 pub returns : goal.returns
