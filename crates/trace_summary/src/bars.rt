@@ -7,7 +7,7 @@ const MOST_KEPT: usize = 120;
 const MOST_SHOWN: u64 = 60;
 
 /// One share.
-#[derive(Clone, Copy, Debug, PartialEq, Eq)]
+#[derive(Clone, Copy)]
 pub struct Bar {
     pub messages: u64,
     /// Messages that drop records say were lost.

@@ -5,7 +5,7 @@ use crate::row::{FunctionRow, ProcessRow};
 use std::fmt;
 
 /// Which number of a row a column shows.
-#[derive(Clone, Copy, Debug, PartialEq, Eq)]
+#[derive(Clone, Copy)]
 pub enum Figure {
     Calls,
     Exceptions,
@@ -38,7 +38,7 @@ impl Figure {
 }
 
 /// A number in a table, or a dash in its place.
-#[derive(Clone, Copy, Debug, PartialEq, Eq)]
+#[derive(Clone, Copy)]
 pub enum Cell {
     Count(u64),
     /// Whole seconds and thousandths.

@@ -16,7 +16,7 @@ const MOST_OF_PROCESS: usize = 1_000;
 const MOST_OF_ALL: usize = 1_000_000;
 
 /// A call that has not returned yet.
-#[derive(Clone, Copy, Debug, PartialEq, Eq)]
+#[derive(Clone, Copy)]
 pub struct OpenCall<F = u32> {
     /// Which function it is.
     pub function: F,

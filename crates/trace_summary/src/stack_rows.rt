@@ -18,7 +18,7 @@ const MOST_ROWS: usize = 1_000_000;
 const MOST_BYTES: usize = 268_435_456;
 
 /// What is counted of one stack.
-#[derive(Clone, Copy, Debug, PartialEq, Eq)]
+#[derive(Clone, Copy)]
 pub struct StackRow {
     /// How often its innermost function is called.
     pub calls: u64,

@@ -16,7 +16,7 @@ use std::cmp;
 use std::io::{self, ErrorKind, Write};
 
 /// Why bytes aren't taken.
-#[derive(Clone, Copy, Debug, PartialEq, Eq)]
+#[derive(Clone, Copy)]
 enum Refusal {
     /// The view takes no more, or there is no room for the bytes of an entry that hasn't come whole.
     View(ViewFault),

@@ -43,7 +43,7 @@ pub struct Tallies {
 }
 
 /// From one time to another, in nanoseconds.
-#[derive(Clone, Copy, Debug, PartialEq, Eq)]
+#[derive(Clone, Copy)]
 pub struct Span {
     pub from: i64,
     pub to: i64,

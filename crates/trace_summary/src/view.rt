@@ -8,7 +8,7 @@ use entry_codec::EntryRef;
 use std::alloc::AllocError;
 
 /// Why a view takes no more.
-#[derive(Clone, Copy, Debug, PartialEq, Eq)]
+#[derive(Clone, Copy)]
 pub enum ViewFault {
     NoMemory,
     /// It has more rows than it may.
