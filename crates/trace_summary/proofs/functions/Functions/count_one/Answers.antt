@@ -6,8 +6,7 @@ use Rattle.trace_summary.proofs.functions.Functions.count_one.Goals as goal
 pub returns-in-Some : goal.returns-in-Some
 returns-in-Some c =
     let had = c.in-Some.ensures.value in
-    let row = c.in_ok-row.field-0 in
-    (
+    let row = c.in_ok-row.field-0 in (
       row,
       updated c.args.function.now c.args.self.now.rows (c.get_mut.follows.lender row) (Some row) ((c.get_mut.follows.holds row).3 (subst IsSome had refl)),
       c.in_ok-row.ensures ∙ ap (λ o. function_counts_with c.args.facts.now.kind.now (unwrap_or (option_map counts_of_function o) no_function_counts)) had,
