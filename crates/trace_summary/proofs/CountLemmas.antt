@@ -228,25 +228,22 @@ pub processes_counted : {S : Type 0} (old middle new : HashMap (Vec ℕ Global) 
     → PutsIfTold (who_does facts) (process_counts_with facts.kind) old middle → PutsIfTold facts.receiver process_counts_sent_to middle new
     → AreProcessesCounted old told → AreProcessesCounted new (told ++ (Read facts ∷ []))
 processes_counted old middle new told facts does comes before process =
-    put_if (own_if process facts counts) own_bounded process middle new (first (is_of_processes facts.kind) refl does) process_counts_sent_to facts.receiver (λ counts. omega arith) comes
+    put_if (own_if process facts (counted_of_process process told)) own_bounded process middle new (first (is_of_processes facts.kind) refl does) process_counts_sent_to facts.receiver (λ counts. omega arith) comes
     ∙ ap (λ (counts : ProcessCounts). row_of (all_of_process counts) counts) (sym (counted_more process told facts))
   where
-    abbrev counts : ProcessCounts
-    counts = counted_of_process process told
-
-    bounded : Bounded counts
+    bounded : Bounded (counted_of_process process told)
     bounded = bounded_from process none_waits told (omega arith)
 
     first : (b : Bool) → is_of_processes facts.kind ≡ b → PutsIfTold (if b then facts.tracee else None) (process_counts_with facts.kind) old middle
-        → HasChange counts bounded process old middle (before process) (process_counts_with facts.kind) (is_told process (if b then facts.tracee else None))
-    first true e puts = put_if counts bounded process old middle (before process) (process_counts_with facts.kind) facts.tracee (λ counts. own_some _ _ _ counts e) puts
-    first false e puts = put_none counts bounded process old middle (before process) (process_counts_with facts.kind) puts
+        → HasChange (counted_of_process process told) bounded process old middle (before process) (process_counts_with facts.kind) (is_told process (if b then facts.tracee else None))
+    first true e puts = put_if (counted_of_process process told) bounded process old middle (before process) (process_counts_with facts.kind) facts.tracee (λ counts. own_some _ _ _ counts e) puts
+    first false e puts = put_none (counted_of_process process told) bounded process old middle (before process) (process_counts_with facts.kind) puts
 
-    own_bounded : Bounded (own_if process facts counts)
+    own_bounded : Bounded (own_if process facts (counted_of_process process told))
     own_bounded = go (is_told process (who_does facts))
       where
-        go : (b : Bool) → Bounded (if b then process_counts_with facts.kind counts else counts)
-        go true = goes_bounded (bytes_eq facts.kind (codes "receive")) counts.waiting bounded
+        go : (b : Bool) → Bounded (if b then process_counts_with facts.kind (counted_of_process process told) else counted_of_process process told)
+        go true = goes_bounded (bytes_eq facts.kind (codes "receive")) (waiting_for process told) bounded
         go false = bounded
 
 -- those of kinds
