@@ -3,10 +3,11 @@ ghost use Rattle.std.specs.Prelude.{◌≡◌, ◌⊎◌, ℕ, Option, List, Res
 ghost use Rattle.std.specs.Io.KnownBytes.{Appends};
 ghost use Rattle.trace_store.specs.Moments.{LeavesOnly};
 ghost use Rattle.stores.specs.FolderStore.{honest_of, reads_of, images_of, moments_of, clock_of};
+ghost use Rattle.trace_text.specs.Chooses.{asks_where};
 ghost use Rattle.trace_client.specs.{Output.AppendsPrefix, Streams.IsListed};
 ghost use Rattle.foreign_files.specs.Clearing.{IsClearing, HasNoForeign};
 ghost use Rattle.trace_reader.specs.{WritesOut.form_of, Wiping.IsNotToWipe};
-ghost use Rattle.commands.specs.Commands.{clearing_of, wording_of, notation_of, IsStyleOf, EndsStream, IsRead, IsOfMark, Clears, Records, Feeds, Serves};
+ghost use Rattle.commands.specs.Commands.{clearing_of, wording_of, notation_of, asks_shown, IsStyleOf, EndsStream, IsRead, IsOfMark, Clears, Records, Feeds, Serves};
 ghost use Rattle.commands.specs.{Live.most_to_read, Files.most_with, Files.OnlyLooks, Files.LooksWell, Files.LooksOver, Telling.IsOfWriter, Naming.IsToldAt};
 ghost use Rattle.stores.specs.declared.folder_store.FolderStore.{FolderStore};
 ghost use Rattle.import.specs.{Incoming.Outside, Incoming.outside, Beginning.Begins};
@@ -31,7 +32,7 @@ use std::io::{self, BufReader, Read, Write};
 use trace_client::StreamStyle;
 use trace_lookup::RunEnd;
 use trace_reader::{Clearing, Host, OutputForm, Watched, run_stream};
-use trace_text::{Notation, Style, Wording};
+use trace_text::{Choice, Notation, Style, Wording};
 
 /// What is read at a time, in bytes.
 const BUFFER: usize = 65_536;
@@ -80,18 +81,16 @@ pub fn serve_trace<R: Read + Drop, W: Write, H: Host>(
             asked: _,
             is_pretty,
         } => read_trace(files, OutputForm::Lines(style(is_pretty, shown)), watched),
-        TraceRequest::Export(_) => {
-            read_trace(files, OutputForm::Stream(shown.choice.as_ref()), watched)
-        }
-        TraceRequest::Fold(_) => fold(files, shown.choice.as_ref(), watched),
-        TraceRequest::Draw(_) => draw(files, shown.choice.as_ref(), watched),
+        TraceRequest::Export(_) => read_trace(files, OutputForm::Stream(chosen(shown)), watched),
+        TraceRequest::Fold(_) => fold(files, chosen(shown), watched),
+        TraceRequest::Draw(_) => draw(files, chosen(shown), watched),
         TraceRequest::Salvage { asked: _, form } => salvage(files, form, shown, watched),
         TraceRequest::Info { asked: _, is_json } => info(files, is_json, watched),
         TraceRequest::Top {
             asked: _,
             ranking,
             is_json,
-        } => top(files, shown.choice.as_ref(), ranking, is_json, watched),
+        } => top(files, chosen(shown), ranking, is_json, watched),
         TraceRequest::Wipe {
             asked: _,
             is_forced,
@@ -119,6 +118,13 @@ fn notation(is_json: bool) -> Notation
     }
 }
 
+/// The choice of the entries that are asked for, where there is one.
+pub fn chosen(shown: &Shown) -> Option<&Choice>
+    ensures { asks_where result ≡ asks_shown shown.now }
+{
+    shown.choice.as_ref()
+}
+
 /// The style in which messages are told so, and the entries are listed that are asked for, by lines or by objects.
 pub fn style(is_pretty: bool, shown: &Shown) -> Style<'_>
     ensures { IsStyleOf is_pretty shown.now result }
@@ -126,7 +132,7 @@ pub fn style(is_pretty: bool, shown: &Shown) -> Style<'_>
     Style {
         wording: wording(is_pretty),
         notation: notation(shown.is_json),
-        choice: shown.choice.as_ref(),
+        choice: chosen(shown),
     }
 }
 

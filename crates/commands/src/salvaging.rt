@@ -7,7 +7,7 @@ ghost use Rattle.trace_client.specs.Forms.{Form as Written};
 ghost use Rattle.trace_reader.specs.WritesOut.{form_of};
 ghost use Rattle.commands.specs.{Files.LooksOver, Commands.IsWrittenAs, Naming.IsToldAt, Salvaging.most_to_salvage, Salvaging.TellsSum, Salvaging.IsSalvage, Telling.IsOfMemory};
 
-use crate::commands::{style, written_out};
+use crate::commands::{chosen, style, written_out};
 use crate::files::Files;
 use crate::informing::told;
 use crate::stage::Stage;
@@ -23,7 +23,7 @@ fn output_form(form: Form, shown: &Shown) -> OutputForm<'_>
 {
     match form {
         Form::Lines { is_pretty } => OutputForm::Lines(style(is_pretty, shown)),
-        Form::Stream => OutputForm::Stream(shown.choice.as_ref()),
+        Form::Stream => OutputForm::Stream(chosen(shown)),
     }
 }
 
