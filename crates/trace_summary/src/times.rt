@@ -47,19 +47,24 @@ fn last_number(text: &[u8]) -> Option<(i64, &[u8])> {
 
 /// The number that the digits at the end of a text are, with the sign `-`, and what stands before them.
 fn last_digits(text: &[u8]) -> Option<(i64, &[u8])> {
-    let mut negative: i64 = 0;
-    let mut power: u64 = 1;
     let mut before = text;
-    while let [front @ .., digit @ b'0'..=b'9'] = before {
-        let part = power.checked_mul(u64::from(*digit - b'0'))?;
-        negative = negative.checked_sub(i64::try_from(part).ok()?)?;
-        power = power.checked_mul(10)?;
+    while let [front @ .., b'0'..=b'9'] = before {
         before = front;
     }
-    if before.len() == text.len() {
-        return None;
+    match text.get(before.len()..)? {
+        [] => None,
+        digits => Some((negative_of(digits)?, before)),
     }
-    Some((negative, before))
+}
+
+/// The number that digits are, with the sign `-`.
+fn negative_of(digits: &[u8]) -> Option<i64> {
+    let mut negative: i64 = 0;
+    for digit in digits {
+        let unit = i64::from(digit.saturating_sub(b'0'));
+        negative = negative.checked_mul(10)?.checked_sub(unit)?;
+    }
+    Some(negative)
 }
 
 /// The nanoseconds from one time to another, where both are told; 0 where that is before.
