@@ -191,7 +191,8 @@ pub fn fold<W: Write, H: Host>(
     ensures ended { LooksOver files.old.store files.new.store
         (most_with result (most_to_read (reads_of files.old.store)) (reads_of files.old.store))
         (IsFold (IsToldAt files.old.place files.new.store) files.old.place.base.now
-        (reads_of files.old.store) result) }
+        (reads_of files.old.store) (W.contents watched.old.writer.now)
+        (W.contents watched.new.writer.now) result) }
     ensures status { IfErr result (λ complaint. status_told complaint ≡ 1) }
 {
     let folded = match count_stacks(files, &mut *watched.host) {
