@@ -1,6 +1,7 @@
 pub mod NotBlank
 pub mod Bounds
 pub mod Telling
+pub mod Exported
 pub mod Viewed
 pub mod Naming
 pub mod Failing

@@ -1,19 +1,21 @@
 -- A trace that is counted.
 use Rattle.std.proofs.Common.{◌≡◌, ◌⊎◌, ◌∙◌, ℕ, Option, List, [], Some, ap, refl, subst, sym, inl, inr}
 use Rattle.std.specs.Prelude.{Result, Ok, Err, OnOk, IfErr, IsErr}
-use Rattle.std.specs.Io.KnownBytes.{Appends}
+use Rattle.std.specs.Io.KnownBytes.{Appends, Keeps}
+use Rattle.std.proofs.KnownBytes.{Appends-kept}
 use Rattle.entry_codec.specs.Entries.{Entry, bytes_of}
-use Rattle.trace_store.specs.Disk.{Image}
+use Rattle.trace_store.specs.Disk.{Image, AreBytes}
 use Rattle.segment.proofs.Taking.{reads_both}
-use Rattle.stores.specs.FolderStore.{honest_of, reads_of, images_of, moments_of, clock_of}
+use Rattle.stores.specs.CallLaws.{images_are_bytes, reads_may_stay}
+use Rattle.stores.specs.EventLaws.{sound_events}
+use Rattle.stores.specs.Events.{files_after}
+use Rattle.stores.specs.FolderStore.{honest_of, reads_of, images_of, moments_of, clock_of, past_of}
 use Rattle.stores.specs.declared.folder_store.FolderStore.{FolderStore}
 use Rattle.trace_text.specs.Choosing.{Asks}
 use Rattle.trace_client.specs.Forms.{as_bytes}
 use Rattle.foreign_files.specs.Standing.{IsStanding}
 use Rattle.foreign_files.specs.declared.standing.Standing.TheVariants as standings
-use Rattle.trace_summary.specs.Acts.{acts_in}
 use Rattle.trace_summary.specs.Counting.{tellings}
-use Rattle.trace_summary.specs.Stacks.{calls_at, calls_of}
 use Rattle.trace_summary.specs.Streams.{FitHeads, stream_contents}
 use Rattle.trace_summary.specs.Tallies.{IsCounted}
 use Rattle.trace_summary.specs.declared.folded.Folded.{Folded}
@@ -27,7 +29,8 @@ use Rattle.script_runner.specs.declared.fault.SimFault.{SimFault}
 use Rattle.commands.specs.Naming.{IsToldAt}
 use Rattle.commands.specs.Files.{OnlyLooks}
 use Rattle.commands.specs.Telling.{IsOfWriter}
-use Rattle.commands.specs.Viewing.{AreExported, IsDrawn, IsFold, IsReadInto, IsViewed, IsTop, TellsWhy, counted, drawn, folded, folded_by, not_drawn, not_folded, refused, taken_by, too_many, not_told}
+use Rattle.commands.proofs.Exported.{entries_of_export}
+use Rattle.commands.specs.Viewing.{AreExported, AreFolded, IsDrawn, IsFold, IsReadInto, IsViewed, IsTop, TellsWhy, counted, drawn, folded, folded_by, not_drawn, not_folded, refused, taken_by, too_many, not_told}
 use Rattle.commands.specs.declared.live.ReadFailure.{ReadFailure}
 use Rattle.commands.specs.declared.viewing.Uncounted.{Uncounted}
 use Rattle.commands.specs.declared.viewing.Uncounted.TheVariants as whys
@@ -37,17 +40,23 @@ pub read_so : (asks : Option Asks) (image : Image) (old now : Option (List ℕ))
 read_so asks image old now (Ok done) wrote there why_not = (there, wrote)
 read_so asks image old now (Err failure) wrote there why_not = why_not
 
+-- what is read of honest files are bytes
+pub bytes_read : (store : FolderStore) → honest_of store → AreBytes (reads_of store)
+bytes_read store h =
+    let past = past_of store in
+    images_are_bytes (files_after past) (reads_of store) (reads_may_stay (files_after past) (sound_events past.world past.count past.events h))
+
 -- a view that had seen nothing was given an export
-pub exported : (asks : Option Asks) (image : Image) (first : List Entry) (held : List ℕ) (seen : List Entry) (pending : List ℕ) (taken : List Entry) → first ≡ [] → held ≡ [] → IsStanding standings.Ours image
+pub exported : (asks : Option Asks) (image : Image) (first : List Entry) (held : List ℕ) (seen : List Entry) (pending : List ℕ) (taken : List Entry) → AreBytes image → first ≡ [] → held ≡ [] → IsStanding standings.Ours image
     → ((text : List ℕ) × WritesStore (as_bytes asks) image text × Appends (stream_contents first held) (stream_contents seen pending) text)
     → ((entries : List Entry) → FitHeads entries → stream_contents seen pending ≡ Some (bytes_of entries) → taken ≡ entries) → AreExported asks image taken
-exported asks image first held seen pending taken none empty there wrote are =
+exported asks image first held seen pending taken bytes none empty there wrote are =
     let behind = subst (λ (l : List ℕ). Appends (stream_contents [] l) (stream_contents seen pending) wrote.0) empty (subst (λ (l : List Entry). Appends (stream_contents l held) (stream_contents seen pending) wrote.0) none wrote.2) in
+    let export = entries_of_export asks image wrote.0 bytes wrote.1 in
+    let same : taken ≡ export.entries = are export.entries export.fit (ap Some (behind ∙ export.is)) in
     record {
       there = there;
-      text = wrote.0;
-      writes = wrote.1;
-      are = λ entries fit is. are entries fit (ap Some (behind ∙ is));
+      writes = subst (λ (l : List ℕ). WritesStore (as_bytes asks) image l) (export.is ∙ ap bytes_of (sym same)) wrote.1;
     }
 
 -- what is told where it isn't counted
@@ -84,9 +93,11 @@ is_top asks Told base image top (Ok done) are counts unwritten = counted top are
 is_top asks Told base image top (Err complaint) are counts unwritten = not_told complaint (inl unwritten)
 
 -- stacks were
-pub is_fold : (asks : Option Asks) (Told : SimFault → Complaint → Type 0) (base : List ℕ) (image : Image) (stacks : Folded) (result : Result Unit Complaint) → AreExported asks image (folded_by stacks) → ((text : List ℕ) → calls_at stacks.stacks.rows.rows text ≡ calls_of text (acts_in (folded_by stacks))) → IfErr result IsOfWriter → IsFold asks Told base image result
-is_fold asks Told base image stacks (Ok done) are calls unwritten = folded stacks are calls
-is_fold asks Told base image stacks (Err complaint) are calls unwritten = not_folded complaint (not_told complaint (inl unwritten))
+pub is_fold : (asks : Option Asks) (Told : SimFault → Complaint → Type 0) (base : List ℕ) (image : Image) (was mid now : Option (List ℕ)) (stacks : Folded) (result : Result Unit Complaint) → AreExported asks image (folded_by stacks) → AreFolded stacks was mid → Keeps mid now
+    → IfErr result IsOfWriter → IsFold asks Told base image was now result
+is_fold asks Told base image was mid now stacks (Ok done) are lines kept unwritten =
+    folded stacks are (record { calls = lines.calls; ordered = lines.ordered; lines = Appends-kept was mid now _ lines.lines kept })
+is_fold asks Told base image was mid now stacks (Err complaint) are lines kept unwritten = not_folded complaint (not_told complaint (inl unwritten))
 
 -- events were
 pub is_drawn : (asks : Option Asks) (Told : SimFault → Complaint → Type 0) (base : List ℕ) (image : Image) (entries : List Entry) (result : Result Unit Complaint) → AreExported asks image entries → IfErr result IsOfWriter → IsDrawn asks Told base image result
@@ -94,6 +105,6 @@ is_drawn asks Told base image entries (Ok done) are unwritten = drawn entries ar
 is_drawn asks Told base image entries (Err complaint) are unwritten = not_drawn complaint (not_told complaint (inl unwritten))
 
 -- stacks couldn't be
-pub no_fold : (asks : Option Asks) (Told : SimFault → Complaint → Type 0) (base : List ℕ) (image : Image) (result : Result Unit Complaint) → IsErr result → IfErr result IsOfWriter → IsFold asks Told base image result
-no_fold asks Told base image (Ok done) err unwritten = absurd (cc)
-no_fold asks Told base image (Err complaint) err unwritten = not_folded complaint (not_told complaint (inl unwritten))
+pub no_fold : (asks : Option Asks) (Told : SimFault → Complaint → Type 0) (base : List ℕ) (image : Image) (was now : Option (List ℕ)) (result : Result Unit Complaint) → IsErr result → IfErr result IsOfWriter → IsFold asks Told base image was now result
+no_fold asks Told base image was now (Ok done) err unwritten = absurd (cc)
+no_fold asks Told base image was now (Err complaint) err unwritten = not_folded complaint (not_told complaint (inl unwritten))

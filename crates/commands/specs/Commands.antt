@@ -210,7 +210,7 @@ Serves (requests.Salvage asked form) shown old new saw observed was now result =
     × LooksOver old.store new.store (most_to_salvage (reads_of old.store)) (IfErr result (IsSalvage out (IsToldAt old.place new.store) (Rose (failures_of old.store) (failures_of new.store)) (reads_of old.store) was now)) × IsErr result × IfErr result (λ complaint. status_told complaint ≡ 1)
 Serves (requests.Info asked is_json) shown old new saw observed was now result = LooksOver old.store new.store (most_to_inform result (reads_of old.store)) (IsInfo (IsToldAt old.place new.store) (reads_of old.store) result) × IfErr result (λ complaint. status_told complaint ≡ 1)
 Serves (requests.Fold asked) shown old new saw observed was now result =
-    LooksOver old.store new.store (most_with result (most_to_read (reads_of old.store)) (reads_of old.store)) (IsFold (asks_shown shown) (IsToldAt old.place new.store) old.place.base.now (reads_of old.store) result)
+    LooksOver old.store new.store (most_with result (most_to_read (reads_of old.store)) (reads_of old.store)) (IsFold (asks_shown shown) (IsToldAt old.place new.store) old.place.base.now (reads_of old.store) was now result)
     × IfErr result (λ complaint. status_told complaint ≡ 1)
 Serves (requests.Draw asked) shown old new saw observed was now result =
     LooksOver old.store new.store (most_with result (most_to_read (reads_of old.store)) (reads_of old.store)) (IsDrawn (asks_shown shown) (IsToldAt old.place new.store) old.place.base.now (reads_of old.store) result)

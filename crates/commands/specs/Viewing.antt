@@ -9,10 +9,9 @@ use Rattle.trace_client.specs.Forms.{as_bytes}
 use Rattle.foreign_files.specs.Standing.{IsStanding}
 use Rattle.foreign_files.specs.declared.standing.Standing.TheVariants as standings
 use Rattle.trace_summary.specs.Counting.{tellings}
-use Rattle.trace_summary.specs.Streams.{FitHeads}
 use Rattle.trace_summary.specs.Tallies.{IsCounted}
 use Rattle.trace_summary.specs.Acts.{acts_in}
-use Rattle.trace_summary.specs.Stacks.{calls_at, calls_of}
+use Rattle.trace_summary.specs.Stacks.{AreOrdered, calls_at, calls_of, lines_of}
 use Rattle.trace_summary.specs.declared.folded.Folded.{Folded}
 use Rattle.trace_summary.specs.contracts.folded.FoldedView.TheImpl as folded_view
 use Rattle.trace_summary.specs.declared.perfetto.Perfetto.{Perfetto}
@@ -43,12 +42,10 @@ folded_by folded = folded_view.ghosts.seen folded
 abbrev pub drawn_by : (W : Type 0) → Perfetto W → List Entry
 drawn_by W perfetto = perfetto.taken.entries
 
--- the entries that an export of a trace has, of those that are asked for: whichever have its text, they are these
+-- the entries that an export of a trace writes, of those that are asked for
 pub record AreExported (asks : Option Asks) (image : Image) (taken : List Entry) : Type 0 where
   pub there : IsStanding standings.Ours image
-  pub text : List ℕ
-  pub writes : WritesStore (as_bytes asks) image text
-  pub are : (entries : List Entry) → FitHeads entries → text ≡ bytes_of entries → taken ≡ entries
+  pub writes : WritesStore (as_bytes asks) image (bytes_of taken)
 
 -- the bytes of a writer grew by those that an export writes; or why the trace isn't read
 abbrev pub IsReadInto : Option Asks → Image → Option (List ℕ) → Option (List ℕ) → Result Unit ReadFailure → Type 0
@@ -80,10 +77,16 @@ pub data IsTop (asks : Option Asks) (Told : SimFault → Complaint → Type 0) (
   too_many : (complaint : Complaint) → IsOfRows base complaint → IsTop asks Told base image (Err complaint)
   not_told : (complaint : Complaint) → IsOfWriter complaint ⊎ IsOfMemory complaint → IsTop asks Told base image (Err complaint)
 
--- the same of stacks of calls: each was counted as often as the entries say that it was called
-pub data IsFold (asks : Option Asks) (Told : SimFault → Complaint → Type 0) (base : List ℕ) (image : Image) : Result Unit Complaint → Type 0 where
-  folded : (folded : Folded) → AreExported asks image (folded_by folded) → ((text : List ℕ) → calls_at folded.stacks.rows.rows text ≡ calls_of text (acts_in (folded_by folded))) → IsFold asks Told base image (Ok tt)
-  not_folded : (complaint : Complaint) → IsTop asks Told base image (Err complaint) → IsFold asks Told base image (Err complaint)
+-- the lines of stacks of calls were written, in the order of their texts: each was counted as often as its entries say that it was called
+pub record AreFolded (folded : Folded) (was now : Option (List ℕ)) : Type 0 where
+  pub calls : (text : List ℕ) → calls_at folded.stacks.rows.rows text ≡ calls_of text (acts_in (folded_by folded))
+  pub ordered : AreOrdered folded.stacks.rows.rows
+  pub lines : Appends was now (lines_of folded.stacks.is_timed folded.stacks.rows.rows.entries)
+
+-- the same of stacks of calls, whose lines were written
+pub data IsFold (asks : Option Asks) (Told : SimFault → Complaint → Type 0) (base : List ℕ) (image : Image) (was now : Option (List ℕ)) : Result Unit Complaint → Type 0 where
+  folded : (folded : Folded) → AreExported asks image (folded_by folded) → AreFolded folded was now → IsFold asks Told base image was now (Ok tt)
+  not_folded : (complaint : Complaint) → IsTop asks Told base image (Err complaint) → IsFold asks Told base image was now (Err complaint)
 
 -- the same of events: what they are written for has taken all entries that an export of the trace has
 pub data IsDrawn (asks : Option Asks) (Told : SimFault → Complaint → Type 0) (base : List ℕ) (image : Image) : Result Unit Complaint → Type 0 where

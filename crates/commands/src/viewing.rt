@@ -206,7 +206,9 @@ pub fn fold<W: Write, H: Host>(
     ensures ended { LooksOver files.old.store files.new.store
         (most_with result (most_to_read (reads_of files.old.store)) (reads_of files.old.store))
         (IsFold (asks_where choice.entry) (IsToldAt files.old.place files.new.store)
-        files.old.place.base.now (reads_of files.old.store) result) }
+        files.old.place.base.now (reads_of files.old.store)
+        (W.contents watched.old.writer.now)
+        (W.contents watched.new.writer.now) result) }
     ensures status { IfErr result (λ complaint. status_told complaint ≡ 1) }
 {
     let folded = match count_stacks(files, choice, &mut *watched.host) {

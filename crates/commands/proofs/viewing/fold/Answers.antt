@@ -29,7 +29,8 @@ returns-in-Ok-write-clause-ended g c =
     record {
       only_reads = e.only_reads;
       at_most = λ h. most_so c.written_out.result image (clock_of c.args.files.now.store) (clock_of c.count_stacks.new.files.store) (most_to_read image) (e.at_most h);
-      told = λ h. is_fold (asks_where c.args.choice) (IsToldAt c.args.files.now.place c.count_stacks.new.files.store) c.args.files.now.place.base.now (reads_of c.args.files.now.store) c.in-Ok.folded c.written_out.result (e.told h) c.in-Ok-write.ensures.calls c.written_out.ensures.err;
+      told = λ h. is_fold (asks_where c.args.choice) (IsToldAt c.args.files.now.place c.count_stacks.new.files.store) c.args.files.now.place.base.now (reads_of c.args.files.now.store) (g.W.Write.contents c.args.watched.now.writer.now) _ _ c.in-Ok.folded c.written_out.result (e.told h)
+          (record { calls = c.in-Ok-write.ensures.calls; ordered = c.in-Ok-write.ensures.ordered; lines = c.in-Ok-write.ensures.lines }) c.flush.ensures.bytes c.written_out.ensures.err;
     }
 
 pub returns-clause-ended : goal.returns-clause-ended
@@ -41,5 +42,5 @@ returns-clause-ended g c =
     record {
       only_reads = e.only_reads;
       at_most = λ h. most_so result image (clock_of c.args.files.now.store) (clock_of c.count_stacks.new.files.store) (most_to_read image) (e.at_most h);
-      told = λ h. no_fold (asks_where c.args.choice) (IsToldAt c.args.files.now.place c.count_stacks.new.files.store) c.args.files.now.place.base.now image result err c.written_out-in-Err-write.ensures.err;
+      told = λ h. no_fold (asks_where c.args.choice) (IsToldAt c.args.files.now.place c.count_stacks.new.files.store) c.args.files.now.place.base.now image _ _ result err c.written_out-in-Err-write.ensures.err;
     }
