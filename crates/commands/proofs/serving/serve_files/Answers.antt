@@ -12,7 +12,7 @@ returns g c =
     let contents = g.W.Write.contents in
     let had = g.I.Read.remaining c.args.input in
     let files = c.in-Ok.files in
-    let call = c.do_over in
+    let call = c.do_over-done in
     let left = record { files = call.new.files; observed = call.result.1 } in
     served files left c.in-Ok.ensures.made
     (subst (λ s. ServesTrace c.args.request c.args.shown files (outside had 0 s) call.new.files call.result.1.notes call.result.0 (contents c.args.output.now) (contents call.new.output)) c.console_for-console.ensures call.ensures)
