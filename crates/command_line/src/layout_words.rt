@@ -67,15 +67,13 @@ fn with_filters<'a>(alloc: Global, command: Command<'a>) -> Result<Command<'a>, 
             "TEXT",
             "Shows rows whose text has this in it",
         ))?
-        .arg(
-            option(
-                alloc,
-                "last",
-                "N",
-                "Shows the last N rows alone; with -f these of what is there, and then what is added",
-            )
-            .value_parser(value_parser!(u32).range(1..)),
+        .arg(option(
+            alloc,
+            "last",
+            "N",
+            "Shows the last N rows alone; with -f these of what is there, and then what is added",
         )
+        .value_parser(value_parser!(u32).range(1..)))
 }
 
 /// A listing for a person, and the options that say how it is laid out.

@@ -76,12 +76,7 @@ fn rows_or_none(alloc: Global, rows: Result<Rows, AllocError>) -> (Rows, bool) {
 
 impl<W: Write> LaidOut<W> {
     /// A writer that nothing came to. Where there was no memory for its rows, it takes nothing.
-    pub fn new(
-        alloc: Global,
-        out: W,
-        look: Look,
-        rows: Result<Rows, AllocError>,
-    ) -> LaidOut<W>
+    pub fn new(alloc: Global, out: W, look: Look, rows: Result<Rows, AllocError>) -> LaidOut<W>
         ghost start: { Option (List ℕ) }
         requires { start ≡ W.contents out }
         ensures start { result.written.start ≡ W.contents out }

@@ -29,4 +29,4 @@ returns-in_err-send-2-clause-sends g c =
     let row = c.in-Some.row in
     let laid : c.note.new.self.items ≡ was.laid.items ++ row.items ∷ [] = ap items_of c.note.ensures ∙ ap (λ l. was.laid.items ++ l ∷ []) c.deref.ensures.value in
     λ begun. c.send-in-Some.ensures.sends (text_of_rows c.note.new.self.items)
-        (sends-next (g.W.Write.contents was.out) was.written was.unsent.taken was.unsent.bytes.items row.items was.laid.items c.note.new.self.items was.invariant.sent (was.invariant.sends begun) laid)
+    (sends-next (g.W.Write.contents was.out) was.written was.unsent.taken was.unsent.bytes.items row.items was.laid.items c.note.new.self.items was.invariant.sent (was.invariant.sends begun) laid)
