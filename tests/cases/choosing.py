@@ -125,10 +125,10 @@ def exported(listing, entries, asked):
         if not number.isdigit():
             continue
         shown = rest.split(" ")[0]
-        entry = entries[int(number)]
+        entry = drop(1) if shown == "part" else entries[int(number)]
         told = Told() if shown in ("drop", "opaque", "part") else told_by(entry)
         if asked.lets(int(number), shown, told):
-            found.append(drop(1) if shown == "part" else entry)
+            found.append(entry)
     return found
 
 

@@ -29,7 +29,7 @@ VALUES = {
     "--as": ["folded", "perfetto", "stream"],
     "--color": ["always", "auto", "never"],
     "--by": ["function", "kind", "process"],
-    "--sort": ["count", "exceptions", "longest", "mean", "total"],
+    "--sort": ["count", "exceptions", "longest", "mean", "total", "waiting"],
 }
 
 # what a completion of these words would put in the place of the last one

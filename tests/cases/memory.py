@@ -135,6 +135,7 @@ def a_listing_that_is_refused_memory_is_a_beginning(program):
         kept.reads("list", "--not", "send", "--not-pid", "a@b.1.0.0", "--not-mfa", "m:f/1", "--not-mfa", "m:g", "t")
         kept.reads("list", "--json", "t")
         kept.reads("list", "--json", "--from", "1", "t")
+        kept.reads("export", "--from", "1", "--only", "call,receive", "--pid", "a@b.1.0.0", "--not-mfa", "m:f/1", "t")
         kept.reads("list", "--follow", "t")
         kept.reads("show", "t")
         kept.reads("show", "--color", "always", "--width", "40", "--longest-text", "9", "--grep", "e", "--last", "1", "t")
@@ -156,7 +157,7 @@ def a_table_that_is_refused_memory_is_a_beginning(program):
         kept = Kept(program, kind[-1])
         entries = [call(1, "f", 1), call(1, "g", 2), sends(2), returns(1, "g", 3), message(LONGER), drop(2), fails(1, "f", 4)]
         kept.program.good("import", "t", *kind, stdin=b"".join(entries))
-        for words in ((), ("--json",), ("--by", "process"), ("--by", "kind", "--json")):
+        for words in ((), ("--json",), ("--by", "process"), ("--by", "kind", "--json"), ("--only", "call", "--not-mfa", "m:g")):
             kept.reads("top", "t", *words)
 
 

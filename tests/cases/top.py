@@ -384,7 +384,7 @@ def the_most_messages_that_wait_for_a_process_are_told(program):
     lost = sends(1, word="send_to_non_existing_process", **to)
     same(waiting_in(program, sends(1, to=named), sends(1, to=far), sends(1, to=b"\x68\x01" + pid(2)), lost), {one: 0})
     # the message may be any term, and more may stand behind the receiver
-    bytes_of = b"\x6d\x00\x00\x00\x09,{[<'\">}#,"
+    bytes_of = b"\x6d\x00\x00\x00\x0a,{[<'\">}#,"
     what = b"\x68\x03" + short_atom("a,'b{") + b"\x74\x00\x00\x00\x01" + bytes_of + pid(3) + b"\x6b\x00\x05a,\"b{"
     added = told_at(1, "send", what, pid(2), bytes_of, b"\x61\x01", at=7)
     same(waiting_in(program, added, told_at(1, "send", what, pid(2), pid(3)), sends(1, 9, what=what, **to)), {one: 0, two: 3})
@@ -636,7 +636,7 @@ def what_is_no_trace_is_refused_by_top_as_by_list(program):
 @case
 def a_word_that_top_does_not_know_is_refused(program):
     stored_as(program, MIXED)
-    for words in (("--by", "module"), ("--by", ""), ("--sort", "size"), ("--limit", "x"), ("--limit", "4294967296"), ("--limit=-1",), ("--count", "0"), ("--mfa", "m"), ("x",)):
+    for words in (("--by", "module"), ("--by", ""), ("--sort", "size"), ("--limit", "x"), ("--limit", "4294967296"), ("--limit=-1",), ("--count", "0"), ("--follow",), ("x",)):
         outcome = program.run("top", "t", *words)
         same((words, outcome.status, outcome.output), (words, 2, b""))
         assert outcome.errors.startswith(b"error: "), outcome
