@@ -138,7 +138,9 @@ def a_listing_that_is_refused_memory_is_a_beginning(program):
         kept.reads("export", "--from", "1", "--only", "call,receive", "--pid", "a@b.1.0.0", "--not-mfa", "m:f/1", "t")
         kept.reads("list", "--follow", "t")
         kept.reads("show", "t")
-        kept.reads("show", "--color", "always", "--width", "40", "--longest-text", "9", "--grep", "e", "--last", "1", "t")
+        kept.reads("show", "--color", "always", "--width", "40", "--longest-text", "9", "--grep", "e", "t")
+        # with fewer rows, those that were the last when memory ran out are shown
+        kept.reads("show", "--last", "99", "t")
         kept.reads("show", "--follow", "--from", "1", "t")
 
 
