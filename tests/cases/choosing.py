@@ -494,7 +494,7 @@ def misused(program, *words, says):
 
 @case
 def what_no_listing_can_show_is_refused(program):
-    for command in (("stream",), ("list", "t")):
+    for command in (("stream",), ("list", "t"), ("export", "t"), ("top", "t")):
         for option in ("--only", "--not"):
             misused(program, *command, option, "calls", says="'calls' for '--only or --not <KIND[,KIND..]>'")
             misused(program, *command, option, "call,", says="call, return, exception, send")
@@ -508,4 +508,4 @@ def what_no_listing_can_show_is_refused(program):
             for process in ("", "<>", "0.80.0", "<0.80.0>", "shell", ".1.0.0", "0.1.0.0", "a@b.1.0.x", "a@my-host.1.0.0", "a@b.1.0.0,a@b.2.0.0"):
                 misused(program, *command, option, process, says=f"'{process}' for '--pid or --not-pid <PID>': a process as a listing shows it")
             misused(program, *command, option, "a@b.1.0.0", option, "<0.80.0>", says="'<0.80.0>'")
-    misused(program, "export", "t", "--from", "1", says="--from")
+    misused(program, "info", "t", "--from", "1", says="--from")

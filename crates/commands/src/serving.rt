@@ -91,7 +91,8 @@ fn do_over<R: Wait, I: Read + Drop, W: Output>(
     let mut writer = taken(files.alloc(), output);
     let mut watched = Watched::new(&mut writer, &mut console);
     let done = do_with(waiter, task, shown, files, input, &mut watched);
-    let observed = mem::replace(&mut watched.host.observed, Observed::new());
+    let host = &mut *watched.host;
+    let observed = mem::replace(&mut host.observed, Observed::new());
     *output = taken(files.alloc(), &mut *watched.writer);
     drop(watched);
     drop(writer);

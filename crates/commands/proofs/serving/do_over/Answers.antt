@@ -13,6 +13,9 @@ returns g c =
     let seen : begun.host.now.observed.notes ≡ c.args.console.observed.notes = search rules in
     let begins : contents begun.writer.now ≡ contents c.args.output.now = search rules in
     let ends : contents end.writer.now ≡ contents c.taken.result = search rules in
-    subst (λ now. Does c.args.task c.args.shown.now c.args.files.now (saw c.args.console.observed.notes) call.new.files c.replace-observed.result.notes call.result (contents c.args.output.now) now) ends
-    (subst (λ was. Does c.args.task c.args.shown.now c.args.files.now (saw c.args.console.observed.notes) call.new.files call.result was (contents end.writer.now)) begins
-    (subst (λ notes. Does c.args.task c.args.shown.now c.args.files.now (saw notes) call.new.files c.replace-observed.result.notes call.result (contents begun.writer.now) (contents end.writer.now)) seen call.ensures))
+    let observed = c.replace-observed.result.notes in
+    let told : end.host.now.observed.notes ≡ observed = search rules in
+    subst (λ now. Does c.args.task c.args.shown.now c.args.files.now (saw c.args.console.observed.notes) call.new.files observed call.result (contents c.args.output.now) now) ends
+    (subst (λ was. Does c.args.task c.args.shown.now c.args.files.now (saw c.args.console.observed.notes) call.new.files observed call.result was (contents end.writer.now)) begins
+    (subst (λ notes. Does c.args.task c.args.shown.now c.args.files.now (saw notes) call.new.files observed call.result (contents begun.writer.now) (contents end.writer.now)) seen
+    (subst (λ notes. Does c.args.task c.args.shown.now c.args.files.now (saw begun.host.now.observed.notes) call.new.files notes call.result (contents begun.writer.now) (contents end.writer.now)) told call.ensures)))
