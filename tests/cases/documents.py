@@ -33,12 +33,13 @@ def lines_of(text):
 
 
 def wrong_paths(text):
-    """The paths, links and headings of a document that aren't there, with their lines."""
+    """The paths, links and headings of a document that aren't there, with their lines. A path that begins with `/` is of the
+    machine."""
     found = []
     for number, line in enumerate(text.splitlines(), 1):
         said = [line] if line.startswith(("    ", ".")) else quoted(line)
         paths = {path.rstrip(".") for text in said for path in PART.findall(text)} | {path for path in said if PATH.fullmatch(path)}
-        found += [(number, path) for path in sorted(paths - NOT_KEPT) if not found_at(path, line)]
+        found += [(number, path) for path in sorted(paths - NOT_KEPT) if not path.startswith("/") and not found_at(path, line)]
         for path, heading in re.findall(r"\]\((?!\w+:)([^)#]*)#?([^)]*)\)", line):
             if not has_heading(path, heading):
                 found.append((number, f"{path}#{heading}"))

@@ -1,5 +1,5 @@
 -- What a command does, step by step.
-use Rattle.std.proofs.Common.{◌≡◌, ◌⊎◌, ℕ, Option, List, Ok, Err, OnOk, OnErr, IfErr}
+use Rattle.std.proofs.Common.{◌⊎◌, ℕ, Option, List, Ok, Err, OnOk, OnErr, IfErr}
 use Rattle.std.specs.Prelude.{Result}
 use Rattle.std.specs.Io.KnownBytes.{Appends, Keeps}
 use Rattle.trace_store.specs.Disk.{Image}

@@ -8,16 +8,16 @@ use Rattle.long_messages.specs.Joining.{Whole, Single, Long, Part, Begins, Joine
 use Rattle.long_messages.specs.Fragments.{split}
 use Rattle.trace_store.specs.Disk.{Image, AreBytes, IsBytes, file_of}
 use Rattle.segment.specs.Readings.{IsReading}
-use Rattle.segment.specs.Segments.{Segment, Reading, Closed, Open, IsBatch, reading_of}
+use Rattle.segment.specs.Segments.{Segment, Reading, Closed, Open, IsBatch}
 use Rattle.segment.specs.Specification.{Spec}
 use Rattle.segment.proofs.ReadingLemmas.{reading_is}
-use Rattle.recovery.specs.Outlined.{gone_of, kept_of}
-use Rattle.recovery.specs.Stores.{Chain, IsInPlace, IsStore, Reads, Holds, entry_lists, file_for, holds, readings, segments, view_of}
+use Rattle.recovery.specs.Outlined.{gone_of}
+use Rattle.recovery.specs.Stores.{IsInPlace, Reads, Holds, entry_lists, file_for, holds, readings, segments}
 use Rattle.recovery.specs.Views.{View}
 use Rattle.recovery.proofs.KeptViews.{kept_runs}
 use Rattle.recovery.proofs.Steps.{reading-at}
 use Rattle.trace_text.specs.Choosing.{Asks}
-use Rattle.trace_client.specs.Forms.{AreTexts, AreWritten, IsWindow, as_bytes, is_whole_chosen, longest_message, no_text, one_text, streamed}
+use Rattle.trace_client.specs.Forms.{AreTexts, IsWindow, as_bytes, is_whole_chosen, longest_message, no_text, one_text, streamed}
 use Rattle.trace_summary.specs.Streams.{FitsHead, FitHeads}
 use Rattle.trace_reader.specs.Listings.{WritesStore, blank, holds as held}
 

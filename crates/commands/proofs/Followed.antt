@@ -5,7 +5,6 @@ use Rattle.stores.specs.FolderStore.{past_of, honest_of, reads_of}
 use Rattle.stores.specs.declared.folder_store.FolderStore.{FolderStore}
 use Rattle.trace_reader.specs.declared.fault.ReadFault.{ReadFault}
 use Rattle.trace_reader.specs.declared.fault.ReadFault.TheVariants as faults
-use Rattle.trace_text.specs.declared.style.Style.{Style}
 use Rattle.trace_reader.specs.Looks.{HasLooked, IsWhyGone, IsWhyStopped}
 use Rattle.trace_reader.specs.Sections.{HasTold, IsLookStopped, HasEnded, HasPartlyEnded}
 use Rattle.trace_reader.specs.declared.follower.Follower.{Follower}
@@ -14,7 +13,6 @@ use Rattle.trace_reader.specs.declared.place.Look.TheVariants as looks
 use Rattle.faults.specs.declared.complaint.Complaint.{Complaint}
 use Rattle.trace_lookup.specs.declared.place.Place.{Place}
 use Rattle.commands.specs.Files.{OnlyLooks}
-use Rattle.commands.specs.Live.{MayHaveChanged}
 use Rattle.commands.specs.Telling.{IsOfWriter}
 use Rattle.stores.specs.CallRecords.{bytes_of}
 use Rattle.stores.specs.Events.{files_after, made_anew}

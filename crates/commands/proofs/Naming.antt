@@ -1,5 +1,5 @@
 -- What is named of a fault.
-use Rattle.std.proofs.Common.{◌≡◌, ◌⊎◌, ℕ, Option, Some, None, refl, subst, ap, inl, inr}
+use Rattle.std.proofs.Common.{◌≡◌, ◌⊎◌, ℕ, Option, Some, None, subst, ap, inl, inr}
 use Rattle.stores.specs.FolderStore.{fault_of}
 use Rattle.stores.specs.declared.fault.FileFault.{FileFault}
 use Rattle.stores.specs.declared.folder_store.FolderStore.{FolderStore}

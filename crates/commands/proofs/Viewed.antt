@@ -1,5 +1,5 @@
 -- A trace that is counted.
-use Rattle.std.proofs.Common.{◌≡◌, ◌⊎◌, ◌∙◌, ℕ, Option, List, [], Some, ap, refl, subst, sym, inl, inr}
+use Rattle.std.proofs.Common.{◌≡◌, ◌⊎◌, ◌∙◌, ℕ, Option, List, [], Some, ap, subst, sym, inl, inr}
 use Rattle.std.specs.Prelude.{Result, Ok, Err, OnOk, IfErr, IsErr}
 use Rattle.std.specs.Io.KnownBytes.{Appends, Keeps}
 use Rattle.std.proofs.KnownBytes.{Appends-kept}

@@ -93,7 +93,8 @@ impl Look {
         }
     }
 
-    /// Whether a time, as it is told, is one that is shown. Where nothing is asked of times, each is, and else none that isn't told.
+    /// Whether a time, as it is told, is one that is shown. Where nothing is asked of times, each is, and else none that isn't
+    /// told.
     pub fn is_between(&self, time: Option<Stamp>) -> bool {
         let Some(stamp) = time else {
             return self.since.is_none() && self.until.is_none();

@@ -108,8 +108,8 @@ impl Choice {
         !self.is_whole && self.to.is_some_and(|last| last <= number)
     }
 
-    /// Whether a message that can't be read suits the choice: the kinds that it names, if it does, have `opaque`, it names no process
-    /// and no function, and it doesn't exclude `opaque`.
+    /// Whether a message that can't be read suits the choice: the kinds that it names, if it does, have `opaque`, it names no
+    /// process and no function, and it doesn't exclude `opaque`.
     pub fn suits_opaque(&self) -> bool
         ensures { result ≡ suits_opaque (asks_of self.now) }
     {

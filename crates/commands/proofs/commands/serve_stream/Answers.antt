@@ -1,4 +1,4 @@
-use Rattle.std.proofs.Common.{None, ap, ◌∙◌}
+use Rattle.std.proofs.Common.{ap, ◌∙◌}
 use Rattle.std.proofs.KnownBytes.{Keeps-refl, prepend_known-nil}
 use Rattle.commands.specs.Commands.{stopped, no_room}
 use Rattle.faults.specs.declared.complaint.Complaint.TheVariants as complaints

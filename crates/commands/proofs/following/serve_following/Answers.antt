@@ -1,4 +1,4 @@
-use Rattle.std.proofs.Common.{Ok, Err, ◌∙◌, inl, inr, refl}
+use Rattle.std.proofs.Common.{Ok, Err, inl, inr, refl}
 use Rattle.faults.specs.Faults.{read_fault}
 use Rattle.commands.proofs.Followed.{told_well}
 use Rattle.commands.proofs.Naming.{told_moved}
