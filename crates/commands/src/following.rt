@@ -81,10 +81,13 @@ fn refusals(seen: Seen, before: u32) -> u32
     }
 }
 
-/// Writes out what was told.
-fn write_out<W: Write>(out: &mut W) -> Result<(), WriteFault>
+/// Writes out what was told. A look that was refused told nothing: what comes after it may have been there before.
+fn write_out<W: Write>(seen: Seen, out: &mut W) -> Result<(), WriteFault>
     ensures { Keeps (W.contents out.old) (W.contents out.new) }
 {
+    if let Seen::Changed = seen {
+        return Ok(());
+    }
     match out.flush() {
         Ok(()) => Ok(()),
         Err(_) => Err(WriteFault),
@@ -114,7 +117,7 @@ fn follow<R: Wait, W: Write, H: Host>(
             return follower.end(&mut *watched.writer);
         }
         refused = refusals(seen, refused);
-        write_out(&mut *watched.writer)?;
+        write_out(seen, &mut *watched.writer)?;
         idle = if follower.number() == number {
             idle.saturating_add(1)
         } else {

@@ -10,7 +10,7 @@ use Rattle.std.proofs.lemmas.List.Elements.{All-push, All-nil}
 use Rattle.std.proofs.Math.Bridge.{le_prop}
 use Rattle.std.proofs.Math.Logic.{∥∥₁_elim, ∥∥₁_map}
 use Rattle.shown_listings.specs.declared.look.Rule.{Rule}
-use Rattle.shown_listings.specs.Rows.{IsRow, HaveRows, none, is_end, last_rows, HaveLast, ComesBehind, added, ended, HaveLastFirst, HavePassed, AreLaid, held_behind, rows_in, kept_rows, SendsNone}
+use Rattle.shown_listings.specs.Rows.{IsRow, MayLack, HaveRows, none, is_end, last_rows, HaveLast, ComesBehind, added, ended, HaveLastFirst, HavePassed, AreLaid, held_behind, rows_in, kept_rows, SendsNone}
 use Rattle.shown_listings.proofs.RowLemmas.{line-laid}
 
 -- Of the last rows, with more behind them, the last are those of all.
@@ -27,7 +27,7 @@ few-last : (n : ℕ) (all : List (List ℕ)) → length (last_rows n all) ≤ n
 few-last n all = omega (arith, length-drop (length all - n) all)
 
 abbrev HasRow : Rule → List ℕ → Option (Vec ℕ Global) → Type 0
-HasRow rule line row = MatchOption row (rule.shows_each ≡ false) (λ r. IsRow rule.may_cut line r.items)
+HasRow rule line row = MatchOption row (MayLack rule.shows_each line) (λ r. IsRow rule.may_cut line r.items)
 
 abbrev Last : ℕ → Rule → List (List ℕ) → List (List ℕ) → Type 0
 Last n rule lines rows = HaveLast n rule.shows_each rule.may_cut lines rows

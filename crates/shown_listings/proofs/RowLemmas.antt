@@ -16,7 +16,7 @@ use Rattle.std.proofs.KnownBytes.{Appends-trans, Appends-nil}
 use Rattle.shown_listings.specs.declared.given.Given.{Given}
 use Rattle.shown_listings.specs.declared.look.Rule.{Rule}
 use Rattle.shown_listings.specs.Ends.{text_of_lines, counted}
-use Rattle.shown_listings.specs.Rows.{shown_byte, unfed_byte, cut_sign, ShowsText, whole, front, HasNoFeed, ShowsInRow, IsRow, HaveRows, none, with_row, left_out, text_of_rows, Sends, AreLines, given_lines, text_in, rows_in, with_rule, laid_contents}
+use Rattle.shown_listings.specs.Rows.{shown_byte, unfed_byte, cut_sign, ShowsText, whole, front, HasNoFeed, ShowsInRow, IsRow, MayLack, HaveRows, none, with_row, left_out, text_of_rows, Sends, AreLines, given_lines, text_in, rows_in, with_rule, laid_contents}
 
 abbrev other : ℕ → Type 0
 other byte = byte ≢ 10
@@ -91,13 +91,13 @@ rows-grown each cut _ _ l r is (with_row line first {lines} {rows} was more) = w
 rows-grown each cut _ _ l r is (left_out line {lines} {rows} so more) = left_out line so (rows-grown each cut lines rows l r is more)
 
 -- One line more has none.
-rows-left : (each cut : Bool) (lines rows : List (List ℕ)) (l : List ℕ) → each ≡ false → HaveRows each cut lines rows → HaveRows each cut (lines ++ l ∷ []) rows
+rows-left : (each cut : Bool) (lines rows : List (List ℕ)) (l : List ℕ) → MayLack each l → HaveRows each cut lines rows → HaveRows each cut (lines ++ l ∷ []) rows
 rows-left each cut _ _ l lacks none = left_out l lacks none
 rows-left each cut _ _ l lacks (with_row line first {lines} {rows} was more) = with_row line first was (rows-left each cut lines rows l lacks more)
 rows-left each cut _ _ l lacks (left_out line {lines} {rows} so more) = left_out line so (rows-left each cut lines rows l lacks more)
 
 -- One line more has its row, or none.
-pub line-laid : (each cut : Bool) (lines rows : List (List ℕ)) (line : List ℕ) (row : Option (Vec ℕ Global)) → MatchOption row (each ≡ false) (λ r. IsRow cut line r.items)
+pub line-laid : (each cut : Bool) (lines rows : List (List ℕ)) (line : List ℕ) (row : Option (Vec ℕ Global)) → MatchOption row (MayLack each line) (λ r. IsRow cut line r.items)
     → HaveRows each cut lines rows → HaveRows each cut (lines ++ line ∷ []) (rows ++ rows_in (option_to_list row))
 line-laid each cut lines rows line None lacks have = subst (λ rs. HaveRows each cut (lines ++ line ∷ []) rs) (sym (append-nil rows)) (rows-left each cut lines rows line lacks have)
 line-laid each cut lines rows line (Some row) is have = rows-grown each cut lines rows line row.items is have

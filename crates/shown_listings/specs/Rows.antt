@@ -53,15 +53,19 @@ pub record IsRow (cut : Bool) (line row : List ℕ) : Type 0 where
   pub shows : ShowsInRow cut text row
   pub same : IsUtf8 line → IfSome (text_in line) (λ told. told ≡ text)
 
--- each line has its row, in their order; only where not each need have one, some have none
-pub data HaveRows (each cut : Bool) : List (List ℕ) → List (List ℕ) → Type 0 where
-  none : HaveRows each cut [] []
-  with_row : (line row : List ℕ) {lines rows : List (List ℕ)} → IsRow cut line row → HaveRows each cut lines rows → HaveRows each cut (line ∷ lines) (row ∷ rows)
-  left_out : (line : List ℕ) {lines rows : List (List ℕ)} → each ≡ false → HaveRows each cut lines rows → HaveRows each cut (line ∷ lines) rows
-
 -- the line is the last of the listing of a trace
 abbrev pub is_end : List ℕ → Bool
 is_end line = bytes_eq line (object_text end_members)
+
+-- a line may have no row: where not each need have one, any but the last of a listing
+abbrev pub MayLack : Bool → List ℕ → Type 0
+MayLack each line = (each ≡ false) × (is_end line ≡ false)
+
+-- each line has its row, in their order; only where not each need have one, some have none, but never the last of a listing
+pub data HaveRows (each cut : Bool) : List (List ℕ) → List (List ℕ) → Type 0 where
+  none : HaveRows each cut [] []
+  with_row : (line row : List ℕ) {lines rows : List (List ℕ)} → IsRow cut line row → HaveRows each cut lines rows → HaveRows each cut (line ∷ lines) (row ∷ rows)
+  left_out : (line : List ℕ) {lines rows : List (List ℕ)} → MayLack each line → HaveRows each cut lines rows → HaveRows each cut (line ∷ lines) rows
 
 -- the last n rows
 abbrev pub last_rows : ℕ → List (List ℕ) → List (List ℕ)

@@ -1,5 +1,5 @@
 //! A writer that lays out a listing for a person.
-ghost use Rattle.std.specs.Prelude.{◌≡◌, ◌≤◌, ◌<◌, ◌+◌, ◌++◌, ◌∷◌, ℕ, Option, List, [], length, take, drop, OnOk, OnErr, MatchOption, IsOk};
+ghost use Rattle.std.specs.Prelude.{◌≡◌, ◌≤◌, ◌<◌, ◌+◌, ◌++◌, ◌∷◌, ℕ, true, false, Option, List, [], length, take, drop, OnOk, OnErr, MatchOption, IsOk};
 ghost use Rattle.std.specs.Io.{WritesAtMost, KnownBytes.Keeps, KnownBytes.WriteAppends};
 ghost use Rattle.shown_listings.specs.{Rows.AreLaid, Rows.AreLines, Rows.AreLines-prop, Rows.Sends, Rows.Sends-prop, Rows.SendsNone, Rows.SendsNone-prop, Rows.ShowsRows, Rows.HasNoFeed, Rows.text_of_rows, Rows.rows_in, Rows.given_lines, Rows.laid_contents};
 
@@ -30,7 +30,9 @@ pub enum RowsEnd {
 
 /// How rows ended, by whether there was memory for each and by how the last were sent.
 fn end_of(is_out_of_memory: bool, sent: io::Result<()>) -> RowsEnd
-    ensures { result ≡ RowsEnd.Written → IsOk sent }
+    ensures written { result ≡ RowsEnd.Written → IsOk sent }
+    ensures memory { is_out_of_memory ≡ true → result ≡ RowsEnd.NoMemory }
+    ensures sent { is_out_of_memory ≡ false → IsOk sent → result ≡ RowsEnd.Written }
 {
     if is_out_of_memory {
         RowsEnd::NoMemory

@@ -1,6 +1,6 @@
 //! The rows of a listing, made of its objects one by one.
 ghost use Rattle.std.specs.Prelude.{◌≡◌, ◌||◌, ℕ, List, true, false, is_some, IfOk, MatchOption};
-ghost use Rattle.shown_listings.specs.Rows.{IsRow, ShowsInRow, is_end};
+ghost use Rattle.shown_listings.specs.Rows.{IsRow, MayLack, ShowsInRow, is_end};
 
 use crate::clock_text::{Clock, Fineness, Seconds, Stamp, fineness_of, stamp_in};
 use crate::look::Look;
@@ -204,14 +204,15 @@ impl Rows {
         })
     }
 
-    /// The row of an entry that shows this text; None where none is asked for.
+    /// The row of an entry that shows this text, by its line; None where none is asked for.
     fn entry_row(
         &mut self,
         look: &Look,
         object: &Option<Value>,
         text: &str,
+        line: &[u8],
     ) -> Result<Option<Vec<u8>>, AllocError>
-        ensures { IfOk result (λ row. MatchOption row (look.now.rule.shows_each ≡ false)
+        ensures { IfOk result (λ row. MatchOption row (MayLack look.now.rule.shows_each line.now)
             (λ row. ShowsInRow look.now.rule.may_cut text.now row.items)) }
     {
         let stamp = stamp_in(text.as_bytes());
@@ -223,7 +224,7 @@ impl Rows {
         })?;
         let told = stamp.map(|stamp| stamp.told_in(&self.zone));
         self.time = told.or(self.time);
-        if !self.is_wanted(look, text) {
+        if !self.is_wanted(look, text) && !is_end(line) {
             return Ok(None);
         }
         let frame = self.frame(look, object, stamp, nested)?;
@@ -239,7 +240,7 @@ impl Rows {
         object: &Option<Value>,
         line: &[u8],
     ) -> Result<Option<Vec<u8>>, AllocError>
-        ensures { IfOk result (λ row. MatchOption row (look.now.rule.shows_each ≡ false)
+        ensures { IfOk result (λ row. MatchOption row (MayLack look.now.rule.shows_each line.now)
             (λ row. (text : List ℕ) × ShowsInRow look.now.rule.may_cut text row.items)) }
     {
         let words = match notice_of(self.alloc, object)? {
@@ -271,12 +272,12 @@ impl Rows {
 
     /// The row of a line of a listing; None where none is asked for.
     pub fn row_of(&mut self, look: &Look, line: &[u8]) -> Result<Option<Vec<u8>>, AllocError>
-        ensures { IfOk result (λ row. MatchOption row (look.now.rule.shows_each ≡ false)
+        ensures { IfOk result (λ row. MatchOption row (MayLack look.now.rule.shows_each line.now)
             (λ row. IsRow look.now.rule.may_cut line.now row.items)) }
     {
         let object = read_object(self.alloc, line)?;
         match text_of(&object) {
-            Some(text) => self.entry_row(look, &object, text),
+            Some(text) => self.entry_row(look, &object, text, line),
             None => self.notice_row(look, &object, line),
         }
     }

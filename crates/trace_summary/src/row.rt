@@ -1,6 +1,6 @@
 //! What is counted of one function, and of one process.
 
-ghost use Rattle.std.specs.Prelude.{◌≡◌, IfSome};
+ghost use Rattle.std.specs.Prelude.{◌≡◌, ◌^◌, ◌-◌, IfSome, MatchOption};
 
 /// How long calls took, in nanoseconds. Of a function that calls itself the inner calls count too.
 #[derive(Clone, Copy)]
@@ -106,7 +106,8 @@ impl Waiting {
 
     /// One is sent to it; None where their number has no value in u64.
     fn with_one(self) -> Option<Waiting>
-        ensures { IfSome result (λ waiting. waiting_in waiting ≡ one_comes (waiting_in self)) }
+        ensures { MatchOption result (self.now ≡ 2 ^ 64 - 1)
+            (λ waiting. waiting_in waiting ≡ one_comes (waiting_in self)) }
     {
         let now = self.now.checked_add(1)?;
         Some(Waiting {

@@ -1,6 +1,6 @@
 //! Rows under the texts that they are for.
-ghost use Rattle.std.specs.Prelude.{OnOk, OnErr};
-ghost use Rattle.std.specs.HashMap.{IsUnchanged};
+ghost use Rattle.std.specs.Prelude.{◌≤◌, OnOk, OnErr, IsErrOf};
+ghost use Rattle.std.specs.HashMap.{IsUnchanged, hash_map_len};
 ghost use Rattle.trace_summary.specs.Rows.{Puts};
 
 use crate::view::ViewFault;
@@ -17,6 +17,7 @@ pub fn put_new<R: Copy + Drop>(
 ) -> Result<(), ViewFault>
     ensures put { OnOk result (Puts rows.old rows.new text.now row) }
     ensures stays { OnErr result (IsUnchanged rows.old rows.new) }
+    ensures full { IsErrOf result ViewFault.TooMany → most ≤ hash_map_len rows.old }
 {
     if rows.len() >= most {
         return Err(ViewFault::TooMany);

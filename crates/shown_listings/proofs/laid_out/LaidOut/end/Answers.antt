@@ -29,7 +29,7 @@ returns g c =
       left = last ++ more;
       front = sym (append_assoc now.written.bytes last more) ∙ ap (λ l. l ++ more) sends.is ∙ sym (text_of_rows-append now.laid.items (rows_in now.held.items));
       all = λ whole.
-          let all : Sent = at_ok c.send_held-sent.result Sent (c.end_of-end.ensures whole) sent.all in
+          let all : Sent = at_ok c.send_held-sent.result Sent (c.end_of-end.ensures.written whole) sent.all in
           ap (λ l. l ++ more) (drop_all now.unsent.taken now.unsent.bytes.items all.0) ∙ ap (λ rows. text_of_rows rows) all.1;
       shown = subst Q sent.start sends.held;
     }

@@ -2,7 +2,7 @@ use Rattle.std.proofs.Common.{◌≡◌, ◌++◌, ◌∷◌, [], ◌≤◌, ℕ
 use Rattle.std.specs.Prelude.{IfSome, MatchOption, option_to_list}
 use Rattle.std.proofs.Math.Logic.{∥∥₁_map}
 use Rattle.shown_listings.specs.declared.noted.Noted.{Noted}
-use Rattle.shown_listings.specs.Rows.{IsRow, AreLaid, SendsNone, held_behind, kept_rows, rows_in}
+use Rattle.shown_listings.specs.Rows.{IsRow, MayLack, AreLaid, SendsNone, held_behind, kept_rows, rows_in}
 use Rattle.shown_listings.proofs.HeldRows.{laid-on, sends_none-on, few-held}
 use Rattle.shown_listings.proofs.RowLemmas.{lines-laid}
 use Rattle.shown_listings.proofs.laid_out.LaidOut.lay.Goals as goal
@@ -33,7 +33,7 @@ invariant_of-self-2-clause-rows_each g c =
     let most : c.held_behind-most.result ≡ held_behind line was.most = c.held_behind-most.ensures ∙ ap (λ l. held_behind l was.most) c.deref-2.ensures.value in
     let kept : after ≡ kept_rows (held_behind line was.most) (held ++ rows_in (option_to_list row)) = c.in_ok-hold.ensures.ok ∙ ap (λ o. kept_rows o (held ++ rows_in (option_to_list row))) most in
     let came : lines ≡ was.lines.items ++ line ∷ [] = ap items_of c.note.ensures ∙ ap (λ l. was.lines.items ++ l ∷ []) c.deref-3.ensures.value in
-    let P : List ℕ → Type 0 = λ l. MatchOption row (rule.shows_each ≡ false) (λ r. IsRow rule.may_cut l r.items) in
+    let P : List ℕ → Type 0 = λ l. MatchOption row (MayLack rule.shows_each l) (λ r. IsRow rule.may_cut l r.items) in
     let Q : Option ℕ → Type 0 = λ o. AreLaid o rule lines (was.laid.items ++ after) in
     let is : P line = subst P c.deref.ensures.value c.in_ok-row.ensures in
     ∥∥₁_map was.rows_each (λ (laid : AreLaid was.most rule was.lines.items (was.laid.items ++ held)). subst Q (sym most) (laid-on was.most rule was.lines.items lines was.laid.items held after line row is was.sends_none kept came laid))
