@@ -1,13 +1,15 @@
-//! Standard input, output and error of the commands; and `show`, which writes a listing out. With `--to`, a listing marks its end
-//! by an empty line; `show` writes only what stands before that.
+//! Standard input, output and error of the commands; and `show`, which writes a listing out. With `--to`, a listing marks its
+//! end by an empty line; `show` writes only what stands before that.
 //!
-//! `show` shows what can be listed (`Listable`), by the entries that are chosen (`Shows`): as it is; or, where it may end behind
-//! one of them (`may_end`), what stands before its first empty line, which a listing has there (`UpToEnd`). It is then told as
-//! done, unless it can't be written out (`IsToldBy`). Of whole lines, none empty, all is shown (law
-//! `ends_at_the_first_empty_line`). `Outlet` is standard output, `Inlet` standard input; each keeps why the system refused a
-//! call. A terminal gets each line when it is written. `Console` is the clock, and standard error, where it shows how far a long
-//! run is. Of their bytes nothing is known, so a clause on what is shown says something for other readers and writers alone; none
-//! says what stands on standard error. Which lines a listing has is said where it is made.
+//! `show` shows what can be listed (`Listable`), by the entries that are chosen (`Shows`): as it is; or, where it may end
+//! behind one of them (`may_end`), what stands before its first empty line, which a listing has there (`UpToEnd`). It is then
+//! told as done, unless it can't be written out (`IsToldBy`). Of whole lines, none empty, all is shown (law
+//! `ends_at_the_first_empty_line`). For a person it is laid out (`IsLaidOut`): each line has a row, in order, that shows its
+//! text or the beginning of it (`HaveRows`); where the last alone are asked for, they are the last of these (`HaveLast`).
+//! `Outlet` is standard output, `Inlet` standard input; each keeps why the system refused a call. A terminal gets each line
+//! when it is written. `Console` is the clock, and standard error, where it shows how far a long run is. Of their bytes nothing
+//! is known, so a clause on what is shown says something for other readers and writers alone; none says what stands on standard
+//! error. Which lines a listing has is said where it is made.
 #![tactic(auto)]
 
 mod clock_text;

@@ -4,9 +4,9 @@
 //! `trace_reader` answers them. `fault` answers why the files aren't one whole trace, exactly where they aren't.
 //!
 //! A `View` takes entries one by one; `StreamView` hands it those of an entry stream that is written to it (`into_view`). `Top`
-//! counts functions, processes and kinds exactly (`IsCounted`), `Folded` how often each stack of calls was called (`IsFolded`).
-//! `Perfetto` writes events for each entry as it takes it. No contract says how long calls took, how numbers are laid out, or
-//! what events tell: tests of the program show it. No file is read here.
+//! counts functions, processes and kinds exactly, and how many messages waited for a process at most (`IsCounted`), `Folded` how
+//! often each stack of calls was called (`IsFolded`). `Perfetto` writes events for each entry as it takes it. No contract says
+//! how long calls took, how numbers are laid out, or what events tell: tests of the program show it. No file is read here.
 #![tactic(auto)]
 
 mod acts;
