@@ -207,6 +207,24 @@ def a_file_of_a_wrap_that_is_made_between_two_readings_is_there(program):
 
 
 @case
+def the_last_rows_are_shown_of_a_wrap_that_changes_at_the_first_look(program):
+    header = {"size": 150, "count": 2}
+    last = program.folder / "last"
+    sealed = segment(wrap_header(2, before=6, **header), message(EXAMPLE))[:-1] + b"\1\0\0\0\0"
+    for options, numbers in ((("--last", "1"), ["6", "--"]), (("--last", "3"), ["4", "5", "6", "--"]), ((), ["--"])):
+        (program.folder / "w0").write_bytes(b"\0")
+        (program.folder / "w1").write_bytes(segment(wrap_header(1, before=3, **header), message(EXAMPLE) * 3))
+        (program.folder / "w2").unlink(missing_ok=True)
+        last.write_bytes(sealed)
+        with open(program.folder / "w0", "rb") as held:
+            fcntl.flock(held, fcntl.LOCK_EX)
+            moved = with_library(program, MOVE_FROM=last, MOVE_TO=program.folder / "w2", MOVE_LOCK=1)
+            ran = program.run("show", "-f", *options, "w", *WRAP[:2], before=moved)
+        same((ran.status, [line.split()[0] for line in ran.output.decode().splitlines()], ran.errors), (0, numbers, b""))
+        assert not last.exists(), "it wasn't read again"
+
+
+@case
 def a_wrap_that_stays_refused_while_it_is_locked_says_so(program):
     kept = ("--kind", "wrap", "--count", "3")
     program.good("import", "w", *kept, "--size", "0", "--keep-open", stdin=drop(1) * 9)
