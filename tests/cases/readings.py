@@ -14,6 +14,9 @@ RESUME_FILE = f"resume file {GREATEST_LIMIT}"
 
 GATE = b"\0"
 
+# how many bytes of a file are read at once
+PIECE = 16_384
+
 # entries of one batch: two messages without bytes, and one with seven lost messages
 TWO = [message(b"")] * 2
 
@@ -320,25 +323,25 @@ def reads(program, data, calls, *told):
 # first of the next, and its length, the head of its message and the gate after it lie across. What comes after isn't read.
 @case
 def a_batch_lies_across_two_pieces(program):
-    for place in range(4070, 4100):
+    for place in range(PIECE - 26, PIECE + 4):
         entries = [message(counted_up(place - 46)), message(counted_up(3))]
-        behind = batch(entries[1]) + GATE + counted_up(9_000)
+        behind = batch(entries[1]) + GATE + counted_up(36_000)
         data = up_to(place) + behind
         # the last byte that is looked at is the closed gate
-        reads(program, data, 3 if place + 13 < 4096 else 4, *lines_of(entries))
+        reads(program, data, 3 if place + 13 < PIECE else 4, *lines_of(entries))
         goes_on = [("lose 1", "entry 2"), ("flush", "covered 3"), ("abandon", "ok")]
         tells(program, [data], (RESUME_FILE, "resumed 2"), *goes_on, ("list", *lines_of([*entries, drop(1)])))
         (program.folder / "t").write_bytes(data)
         same(program.good("export", "t"), b"".join(entries))
-        (program.folder / "w0").write_bytes(up_to(place, (2, 1, 1, 9_000, 0, 0, 0)) + behind)
+        (program.folder / "w0").write_bytes(up_to(place, (2, 1, 1, 36_000, 0, 0, 0)) + behind)
         same(program.good("export", "w", "--kind", "wrap"), b"".join(entries))
 
 
 @case
 def entries_of_two_batches_lie_across_two_pieces(program):
-    for place in range(4066, 4100):
+    for place in range(PIECE - 30, PIECE + 4):
         first = message(bytes([7]) * (place - 46))
-        data = text(*FILE, entries=[first], end=b"") + TWO_BATCHES + bytes([9]) * 9_000
+        data = text(*FILE, entries=[first], end=b"") + TWO_BATCHES + bytes([9]) * 36_000
         (program.folder / "t").write_bytes(data)
         same(program.good("export", "t"), first + b"".join(THREE))
         same(program.good("list", "t"), listing_of([first, *THREE]))
@@ -347,16 +350,16 @@ def entries_of_two_batches_lie_across_two_pieces(program):
 
 @case
 def a_seal_lies_across_two_pieces(program):
-    for place in range(4086, 4100):
-        data = up_to(place) + SEAL + counted_up(9_000)
+    for place in range(PIECE - 10, PIECE + 4):
+        data = up_to(place) + SEAL + counted_up(36_000)
         entries = [message(counted_up(place - 46))]
-        reads(program, data, 3 if place <= 4091 else 4, *lines_of(entries))
+        reads(program, data, 3 if place <= PIECE - 5 else 4, *lines_of(entries))
         tells(program, [data], (RESUME_FILE, "refused 1 Sealed"))
 
 
 @case
 def a_batch_cut_short_is_damaged_at_its_gate(program):
-    for place in range(4080, 4100):
+    for place in range(PIECE - 16, PIECE + 4):
         whole = up_to(place) + batch(message(counted_up(3)))
         script, wanted = [], []
         for cut in range(13):
@@ -370,7 +373,7 @@ def a_batch_cut_short_is_damaged_at_its_gate(program):
 # batch, than any and than the file.
 @case
 def an_unlawful_entry_across_two_pieces_is_damage(program):
-    for place in range(4086, 4097):
+    for place in range(PIECE - 10, PIECE + 1):
         for entry in ("0200000000", "0100000000", "0000000001", "000000fffc", "00ffffffff"):
             data = up_to(place) + batch(bytes.fromhex(entry)) + counted_up(70_000)
             tells(program, [data], ("fuse 4", "ok"), ("list", f"refused 1 Damaged file 0 at {place}"))
@@ -378,17 +381,17 @@ def an_unlawful_entry_across_two_pieces_is_damage(program):
 
 @case
 def the_longest_message_is_read(program):
-    # the text has 16 pieces and 42 bytes
-    reads(program, up_to(65_577) + GATE, 19, "0 opaque 65531", "end_of_trace")
+    # the text has four pieces and 42 bytes
+    reads(program, up_to(65_577) + GATE, 7, "0 opaque 65531", "end_of_trace")
     reads(program, up_to(65_578) + GATE, 3, "refused 1 Damaged file 0 at 36")
 
 
 @case
 def a_fault_at_any_piece_ends_the_read(program):
-    data = up_to(20_000) + GATE
+    data = up_to(65_577) + GATE
     for calls in range(7):
         tells(program, [data], (f"failonce {calls}", "ok"), ("list", "refused 4 Device"))
-    tells(program, [data], ("failonce 7", "ok"), ("list", "0 opaque 19954", "end_of_trace"))
+    tells(program, [data], ("failonce 7", "ok"), ("list", "0 opaque 65531", "end_of_trace"))
 
 
 @case
