@@ -7,9 +7,8 @@ use Rattle.std.proofs.lemmas.List.Elements.{All-append, All-map, All-cons, All-n
 use Rattle.std.specs.Prelude.{nat_lt, slice_index_or, is_some, Some, None, option_and_then, option_to_list, codes, IsUtf8, IfSome, MatchOption}
 use Rattle.std.specs.declared.vec.Vec.{Vec}
 use Rattle.std.specs.declared.alloc.Global.{Global}
-use Rattle.serde_json.specs.Data.{Data}
-use Rattle.serde_json.specs.Read.{read}
-use Rattle.serde_json.specs.Find.{get, as_str}
+use Rattle.json.specs.Json.{Json, document}
+use Rattle.json.specs.Find.{get, as_str}
 use Rattle.std.specs.List.{All}
 use Rattle.std.specs.Io.KnownBytes.{Appends}
 use Rattle.std.proofs.KnownBytes.{Appends-trans, Appends-nil}
@@ -74,15 +73,19 @@ in_row-weaker cut may text row more is = record {
 }
 
 -- The parts make a row.
-pub row-made : (cut : Bool) (text before part after row : List ℕ) → ShowsText cut text part → row ≡ ((map unfed_byte before ++ part) ++ map unfed_byte after) ++ 10 ∷ [] → ShowsInRow cut text row
-row-made cut text before part after row shows is = record {
-  before = map unfed_byte before;
-  part = part;
-  after = map unfed_byte after;
-  shows = shows;
-  is = is;
-  one_line = All-append other (map unfed_byte before ++ part) (map unfed_byte after) (All-append other (map unfed_byte before) part (no_feed-unfed before) (no_feed-text cut text part shows)) (no_feed-unfed after);
-}
+pub row-made : (cut : Bool) (text number colour rest part after row : List ℕ) → ShowsText cut text part
+    → row ≡ ((((map unfed_byte number ++ map unfed_byte colour) ++ map unfed_byte rest) ++ part) ++ map unfed_byte after) ++ 10 ∷ [] → ShowsInRow cut text row
+row-made cut text number colour rest part after row shows is =
+    let before = (map unfed_byte number ++ map unfed_byte colour) ++ map unfed_byte rest in
+    let before-one_line : HasNoFeed before = All-append other _ _ (All-append other _ _ (no_feed-unfed number) (no_feed-unfed colour)) (no_feed-unfed rest) in
+    record {
+      before = before;
+      part = part;
+      after = map unfed_byte after;
+      shows = shows;
+      is = is;
+      one_line = All-append other (before ++ part) (map unfed_byte after) (All-append other before part before-one_line (no_feed-text cut text part shows)) (no_feed-unfed after);
+    }
 
 -- One line more has its row.
 rows-grown : (each cut : Bool) (lines rows : List (List ℕ)) (l r : List ℕ) → IsRow cut l r → HaveRows each cut lines rows → HaveRows each cut (lines ++ l ∷ []) (rows ++ r ∷ [])
@@ -144,14 +147,14 @@ sends-new written start now left rows made same none_left no_rows = record {
 
 -- ---- what a row tells
 
-pub told-text : (line : List ℕ) (object : Option Data) (text : List ℕ) → Some text ≡ option_and_then as_str (option_and_then (get (codes "text")) object) → (IsUtf8 line → object ≡ read line) → IsUtf8 line
+pub told-text : (line : List ℕ) (object : Option Json) (text : List ℕ) → Some text ≡ option_and_then as_str (option_and_then (get (codes "text")) object) → (IsUtf8 line → object ≡ document line) → IsUtf8 line
     → IfSome (text_in line) (λ told. told ≡ text)
 unfolding text_in
 told-text line object text is reads utf8 =
     let e : Some text ≡ text_in line = is ∙ ap (λ o. option_and_then as_str (option_and_then (get (codes "text")) o)) (reads utf8) in
     subst (λ o. IfSome o (λ told. told ≡ text)) e refl
 
-pub told-none : (line : List ℕ) (object : Option Data) (text : List ℕ) → None ≡ option_and_then as_str (option_and_then (get (codes "text")) object) → (IsUtf8 line → object ≡ read line) → IsUtf8 line
+pub told-none : (line : List ℕ) (object : Option Json) (text : List ℕ) → None ≡ option_and_then as_str (option_and_then (get (codes "text")) object) → (IsUtf8 line → object ≡ document line) → IsUtf8 line
     → IfSome (text_in line) (λ told. told ≡ text)
 unfolding text_in
 told-none line object text is reads utf8 =

@@ -10,8 +10,8 @@ use Rattle.shown_listings.specs.Ends.{text_of_lines, counted}
 use Rattle.shown_listings.specs.declared.given.Given.{Given}
 use Rattle.shown_listings.specs.declared.look.Rule.{Rule}
 use Rattle.trace_text.specs.Objects.{object_text, end_members}
-use Rattle.serde_json.specs.Read.{read}
-use Rattle.serde_json.specs.Find.{get, as_str}
+use Rattle.json.specs.Json.{document}
+use Rattle.json.specs.Find.{get, as_str}
 
 -- what a byte of a text is shown as: one that governs a terminal as a blank
 abbrev pub shown_byte : ℕ → ℕ
@@ -25,9 +25,9 @@ unfed_byte byte = if byte == 10 then 32 else byte
 abbrev pub cut_sign : List ℕ
 cut_sign = 226 ∷ 128 ∷ 166 ∷ []
 
--- the text of the entry of an object, as the kit reads JSON
+-- the text of the entry of an object, by the grammar of JSON that the kit has
 unfoldable pub text_in : List ℕ → Option (List ℕ)
-text_in line = option_and_then as_str (option_and_then (get (codes "text")) (read line))
+text_in line = option_and_then as_str (option_and_then (get (codes "text")) (document line))
 
 -- a text is shown whole; or, where it may be cut, its first bytes with the sign behind them
 pub data ShowsText (cut : Bool) (text : List ℕ) : List ℕ → Type 0 where

@@ -10,10 +10,12 @@ const FEED: u8 = b'\n';
 /// Stands behind a text that is cut: `…`.
 const CUT_SIGN: [u8; 3] = [0xe2, 0x80, 0xa6];
 
-/// How much of a text is shown; None stands for all of it.
+/// How much is shown; None stands for all of it.
 #[derive(Clone, Copy)]
 pub struct Room {
+    /// The most bytes of a text.
     pub bytes: Option<usize>,
+    /// The most columns: of a row, or of its text.
     pub columns: Option<usize>,
 }
 
@@ -21,6 +23,10 @@ pub struct Room {
 #[derive(Clone, Copy)]
 pub struct Parts<'a> {
     pub before: &'a [u8],
+    /// What stands in the midst of that, and takes no column.
+    pub colour: &'a [u8],
+    /// The place of the colour.
+    pub colour_at: usize,
     pub text: &'a [u8],
     pub after: &'a [u8],
 }
@@ -60,25 +66,34 @@ fn start_of(text: &[u8], place: usize) -> usize
     }
 }
 
-/// How many bytes of a text are shown in so many columns, of which the last one has the sign where they aren't all.
-fn bytes_in_columns(text: &[u8], columns: usize) -> usize
-    ensures { result ≤ length text.now }
+/// How many bytes the first columns of a text have, of so many at most; and how many columns these are.
+fn first_columns(text: &[u8], most: usize) -> (usize, usize)
+    ensures { result.0 ≤ length text.now }
 {
-    let mut met = 0usize;
-    let mut last = 0;
+    let mut columns = 0usize;
     for (index, byte) in text.iter().enumerate() {
         if goes_on(*byte) {
             continue;
         }
-        if met >= columns {
-            return last;
+        if columns >= most {
+            return (index, columns);
         }
-        met = met.saturating_add(1);
-        if met == columns {
-            last = index;
-        }
+        columns = columns.saturating_add(1);
     }
-    text.len()
+    (text.len(), columns)
+}
+
+/// How many bytes of a text are shown in so many columns, of which the last one has the sign where they aren't all.
+fn bytes_in_columns(text: &[u8], columns: usize) -> usize
+    ensures { result ≤ length text.now }
+{
+    let (front, _) = first_columns(text, columns.saturating_sub(1));
+    let rest = &text[front..];
+    if first_columns(rest, columns.min(1)).0 == rest.len() {
+        text.len()
+    } else {
+        front
+    }
 }
 
 /// How many bytes of a text are shown.
@@ -116,6 +131,26 @@ fn put_beside(row: &mut Vec<u8>, bytes: &[u8]) -> Result<(), AllocError>
     Ok(())
 }
 
+/// What is shown of what stands before a text, up to the colour and behind it, and how much room is left for the text: only
+/// for the sign, where what stands before isn't shown whole.
+fn before_in<'a>(parts: Parts<'a>, room: Room) -> (&'a [u8], &'a [u8], Room)
+    ensures bytes { result.2.bytes ≡ room.bytes }
+    ensures columns { is_some result.2.columns ≡ is_some room.columns }
+{
+    let before = parts.before;
+    let (shown, columns) = match room.columns {
+        Some(width) => {
+            let (count, columns) = first_columns(before, width.saturating_sub(1));
+            let is_whole = count == before.len();
+            let left = if is_whole { width.saturating_sub(columns) } else { 0 };
+            (&before[..count], Some(left))
+        }
+        None => (before, None),
+    };
+    let (number, rest) = shown.split_at(parts.colour_at.min(shown.len()));
+    (number, rest, Room { columns, ..room })
+}
+
 /// Appends what is shown of a text.
 fn put_text(row: &mut Vec<u8>, text: &[u8], room: Room) -> Result<(), AllocError>
     ensures { OnOk result ((part : List ℕ)
@@ -130,14 +165,17 @@ fn put_text(row: &mut Vec<u8>, text: &[u8], room: Room) -> Result<(), AllocError
     Ok(())
 }
 
-/// The row of these parts.
+/// The row of these parts. Where it would have more columns than there is room for, as many have the sign at their end.
 pub fn row_of(alloc: Global, parts: Parts<'_>, room: Room) -> Result<Vec<u8>, AllocError>
     ensures { IfOk result (λ row.
         ShowsInRow (is_some room.bytes || is_some room.columns) parts.entry.text.now row.items) }
 {
+    let (number, rest, left) = before_in(parts, room);
     let mut row = Vec::new(alloc);
-    put_beside(&mut row, parts.before)?;
-    put_text(&mut row, parts.text, room)?;
+    put_beside(&mut row, number)?;
+    put_beside(&mut row, parts.colour)?;
+    put_beside(&mut row, rest)?;
+    put_text(&mut row, parts.text, left)?;
     put_beside(&mut row, parts.after)?;
     row.push(FEED)?;
     Ok(row)

@@ -9,7 +9,7 @@ use crate::notices::notice_of;
 use crate::row::{Parts, Room, row_of};
 use crate::shown_object::{member, number, read_object, text_of};
 use crate::zone::Zone;
-use serde_json::Value;
+use json::{Scratch, Value};
 use std::alloc::{AllocError, Global};
 
 /// The columns by which a row goes in for each open call.
@@ -48,14 +48,22 @@ pub fn is_end(line: &[u8]) -> bool
 #[derive(Drop)]
 struct Frame {
     before: String,
-    after: &'static str,
-    /// The columns that `before` has.
-    columns: usize,
+    colour: &'static str,
+    /// Where that stands in `before`.
+    colour_at: usize,
 }
 
 /// The rows of a listing.
 #[derive(Drop)]
 pub struct Rows {
+    maker: RowMaker,
+    /// What reading takes.
+    scratch: Scratch,
+}
+
+/// Makes rows, of which each depends on those before.
+#[derive(Drop)]
+struct RowMaker {
     alloc: Global,
     nesting: Nesting,
     clock: Clock,
@@ -87,7 +95,7 @@ fn put_took(text: &mut String, nested: Nested, stamp: Option<Stamp>) -> Result<(
 }
 
 /// Appends the function that an entry tells of, where it tells of one: where a row is cut, its text may not come to that.
-fn put_function(text: &mut String, object: &Option<Value>) -> Result<(), AllocError> {
+fn put_function(text: &mut String, object: &Option<Value<'_>>) -> Result<(), AllocError> {
     if let Some(function) = member(object, "mfa") {
         write!(text, "{function}  ")?;
     }
@@ -100,15 +108,15 @@ fn inset(look: &Look, depth: usize) -> usize {
     depth.saturating_mul(STEP).min(most)
 }
 
-/// How much of a text is shown behind so many columns.
-fn room_behind(look: &Look, columns: usize) -> Room
+/// How much of a row is shown.
+fn room(look: &Look) -> Room
     ensures { (is_some result.bytes || is_some result.columns) ≡ true
         → look.now.rule.may_cut ≡ true }
 {
     if look.rule.may_cut {
         Room {
             bytes: look.longest_text,
-            columns: look.width.map(|width| width.saturating_sub(columns)),
+            columns: look.width,
         }
     } else {
         Room {
@@ -122,40 +130,24 @@ fn room_behind(look: &Look, columns: usize) -> Room
 fn framed(alloc: Global, look: &Look, frame: &Frame, text: &[u8]) -> Result<Vec<u8>, AllocError>
     ensures { IfOk result (λ row. ShowsInRow look.now.rule.may_cut text.now row.items) }
 {
+    let after = if frame.colour.is_empty() { "" } else { PLAIN };
     let parts = Parts {
         before: frame.before.as_bytes(),
+        colour: frame.colour.as_bytes(),
+        colour_at: frame.colour_at,
         text,
-        after: frame.after.as_bytes(),
+        after: after.as_bytes(),
     };
-    row_of(alloc, parts, room_behind(look, frame.columns))
+    row_of(alloc, parts, room(look))
 }
 
-impl Rows {
-    /// No object came. Times of wall clocks are told in the zone. Where a text is handed in, only rows whose text has it are
-    /// asked for.
-    pub fn new(alloc: Global, zone: Zone, grep: Option<String>) -> Rows {
-        Rows {
-            alloc,
-            nesting: Nesting::new(alloc),
-            clock: Clock::new(),
-            zone,
-            time: None,
-            is_new: false,
-            grep,
-        }
-    }
-
+impl RowMaker {
     /// Whether a text has what is asked of each.
     fn has(&self, text: &str) -> bool {
         match &self.grep {
             Some(part) => text.contains(part.as_str()),
             None => true,
         }
-    }
-
-    /// What comes from now on is new.
-    pub fn begin(&mut self) {
-        self.is_new = true;
     }
 
     /// Whether a text has a row.
@@ -170,7 +162,7 @@ impl Rows {
     fn frame(
         &mut self,
         look: &Look,
-        object: &Option<Value>,
+        object: &Option<Value<'_>>,
         stamp: Option<Stamp>,
         nested: Nested,
     ) -> Result<Frame, AllocError> {
@@ -188,19 +180,17 @@ impl Rows {
         } else {
             ""
         };
-        before.push_str(colour)?;
+        let colour_at = before.len();
         write!(before, "{kind:<9} ")?;
         put_blanks(&mut before, inset(look, nested.depth))?;
         put_took(&mut before, nested, stamp)?;
         if look.width.is_some() {
             put_function(&mut before, object)?;
         }
-        let columns = before.len().saturating_sub(colour.len());
-        let after = if colour.is_empty() { "" } else { PLAIN };
         Ok(Frame {
             before,
-            after,
-            columns,
+            colour,
+            colour_at,
         })
     }
 
@@ -208,7 +198,7 @@ impl Rows {
     fn entry_row(
         &mut self,
         look: &Look,
-        object: &Option<Value>,
+        object: &Option<Value<'_>>,
         text: &str,
         line: &[u8],
     ) -> Result<Option<Vec<u8>>, AllocError>
@@ -230,14 +220,12 @@ impl Rows {
         let frame = self.frame(look, object, stamp, nested)?;
         Ok(Some(framed(self.alloc, look, &frame, text.as_bytes())?))
     }
-}
 
-impl Rows {
     /// The row of an object that shows no term, or of a line that is no object; None where none is asked for.
     fn notice_row(
         &mut self,
         look: &Look,
-        object: &Option<Value>,
+        object: &Option<Value<'_>>,
         line: &[u8],
     ) -> Result<Option<Vec<u8>>, AllocError>
         ensures { IfOk result (λ row. MatchOption row (MayLack look.now.rule.shows_each line.now)
@@ -259,8 +247,8 @@ impl Rows {
         } else {
             Frame {
                 before: String::from_str(self.alloc, "-- ")?,
-                after: "",
-                columns: 3,
+                colour: "",
+                colour_at: 0,
             }
         };
         let uncut = Look {
@@ -269,16 +257,39 @@ impl Rows {
         };
         Ok(Some(framed(self.alloc, &uncut, &frame, words.as_bytes())?))
     }
+}
+
+impl Rows {
+    /// No object came. Times of wall clocks are told in the zone. Where a text is handed in, only rows whose text has it are
+    /// asked for.
+    pub fn new(alloc: Global, zone: Zone, grep: Option<String>) -> Rows {
+        let maker = RowMaker {
+            alloc,
+            nesting: Nesting::new(alloc),
+            clock: Clock::new(),
+            zone,
+            time: None,
+            is_new: false,
+            grep,
+        };
+        let scratch = Scratch::new(alloc);
+        Rows { maker, scratch }
+    }
+
+    /// What comes from now on is new.
+    pub fn begin(&mut self) {
+        self.maker.is_new = true;
+    }
 
     /// The row of a line of a listing; None where none is asked for.
     pub fn row_of(&mut self, look: &Look, line: &[u8]) -> Result<Option<Vec<u8>>, AllocError>
         ensures { IfOk result (λ row. MatchOption row (MayLack look.now.rule.shows_each line.now)
             (λ row. IsRow look.now.rule.may_cut line.now row.items)) }
     {
-        let object = read_object(self.alloc, line)?;
+        let object = read_object(self.maker.alloc, line, &mut self.scratch)?;
         match text_of(&object) {
-            Some(text) => self.entry_row(look, &object, text, line),
-            None => self.notice_row(look, &object, line),
+            Some(text) => self.maker.entry_row(look, &object, text, line),
+            None => self.maker.notice_row(look, &object, line),
         }
     }
 }
