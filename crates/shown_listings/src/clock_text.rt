@@ -162,14 +162,14 @@ impl Clock {
         self.wall.first.is_some() || self.monotonic.first.is_some()
     }
 
-    /// What the column has for a row with this time, in a zone.
-    pub fn tell(
+    /// Appends what the column has for a row with this time, in a zone, and two blanks.
+    pub fn put(
         &mut self,
-        alloc: Global,
+        text: &mut String,
         column: TimeColumn,
         stamp: Stamp,
         zone: &Zone,
-    ) -> Result<String, AllocError> {
+    ) -> Result<(), AllocError> {
         let nanos = stamp.nanos();
         let had = match stamp {
             Stamp::Wall(_) => &mut self.wall,
@@ -181,9 +181,12 @@ impl Clock {
             (Stamp::Wall(nanos), TimeColumn::Clock) => {
                 let nanos = zone.told_at(nanos).rem_euclid(DAY);
                 let time = TimeOfDay(u64::try_from(nanos).unwrap_or(0));
-                format!(in alloc; "{time}")
+                write!(text, "{time}  ")
             }
-            _ => signed(alloc, passed, fineness_of(stamp)),
+            _ => {
+                let time = signed(*text.allocator(), passed, fineness_of(stamp))?;
+                write!(text, "{time:>15}  ")
+            }
         }
     }
 }

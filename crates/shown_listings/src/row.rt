@@ -1,5 +1,5 @@
 //! A row: one line, in which a text is shown.
-ghost use Rattle.std.specs.Prelude.{◌≡◌, ◌≤◌, ◌++◌, ◌∷◌, [], ℕ, List, None, map, length, IfOk, OnOk, ◌||◌, is_some};
+ghost use Rattle.std.specs.Prelude.{◌<◌, Bool, true, ◌≡◌, ◌≤◌, ◌++◌, ◌∷◌, [], ℕ, List, None, map, length, IfOk, OnOk, ◌||◌, is_some};
 ghost use Rattle.shown_listings.specs.Rows.{shown_byte, unfed_byte, cut_sign, ShowsText, ShowsInRow};
 
 use std::alloc::{AllocError, Global};
@@ -9,6 +9,9 @@ const FEED: u8 = b'\n';
 
 /// Stands behind a text that is cut: `…`.
 const CUT_SIGN: [u8; 3] = [0xe2, 0x80, 0xa6];
+
+/// The bytes that suffice for a colour, the sign and the end of a line.
+const BESIDES: usize = 16;
 
 /// How much is shown; None stands for all of it.
 #[derive(Clone, Copy)]
@@ -151,13 +154,13 @@ fn before_in<'a>(parts: Parts<'a>, room: Room) -> (&'a [u8], &'a [u8], Room)
     (number, rest, Room { columns, ..room })
 }
 
-/// Appends what is shown of a text.
-fn put_text(row: &mut Vec<u8>, text: &[u8], room: Room) -> Result<(), AllocError>
+/// Appends the first bytes of a text as they are shown, and the sign where they aren't all.
+fn put_text(row: &mut Vec<u8>, text: &[u8], count: usize) -> Result<(), AllocError>
+    requires { count ≤ length text.now }
     ensures { OnOk result ((part : List ℕ)
-        × ShowsText (is_some room.bytes || is_some room.columns) text.now part
+        × ((cut : Bool) → (count < length text.now → cut ≡ true) → ShowsText cut text.now part)
         × (row.new.items ≡ row.old.items ++ part)) }
 {
-    let count = front_of(text, room);
     put_shown(row, &text[..count])?;
     if count < text.len() {
         row.extend_from_slice(&CUT_SIGN)?;
@@ -171,11 +174,13 @@ pub fn row_of(alloc: Global, parts: Parts<'_>, room: Room) -> Result<Vec<u8>, Al
         ShowsInRow (is_some room.bytes || is_some room.columns) parts.entry.text.now row.items) }
 {
     let (number, rest, left) = before_in(parts, room);
-    let mut row = Vec::new(alloc);
+    let count = front_of(parts.text, left);
+    let size = parts.before.len().saturating_add(count);
+    let mut row = Vec::with_capacity(alloc, size.saturating_add(BESIDES))?;
     put_beside(&mut row, number)?;
     put_beside(&mut row, parts.colour)?;
     put_beside(&mut row, rest)?;
-    put_text(&mut row, parts.text, left)?;
+    put_text(&mut row, parts.text, count)?;
     put_beside(&mut row, parts.after)?;
     row.push(FEED)?;
     Ok(row)

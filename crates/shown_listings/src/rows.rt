@@ -18,6 +18,9 @@ const STEP: usize = 2;
 /// The most columns for that, where rows aren't cut at a width.
 const MOST_STEPS: usize = 40;
 
+/// The bytes that mostly suffice for what stands before a text.
+const BEFORE: usize = 96;
+
 /// The line that tells the end of a trace.
 const END: [u8; 23] = *b"{\"kind\":\"end_of_trace\"}";
 
@@ -97,7 +100,8 @@ fn put_took(text: &mut String, nested: Nested, stamp: Option<Stamp>) -> Result<(
 /// Appends the function that an entry tells of, where it tells of one: where a row is cut, its text may not come to that.
 fn put_function(text: &mut String, object: &Option<Value<'_>>) -> Result<(), AllocError> {
     if let Some(function) = member(object, "mfa") {
-        write!(text, "{function}  ")?;
+        text.push_str(function)?;
+        text.push_str("  ")?;
     }
     Ok(())
 }
@@ -168,10 +172,10 @@ impl RowMaker {
     ) -> Result<Frame, AllocError> {
         let kind = member(object, "kind").unwrap_or("");
         let number = number(object, "n").unwrap_or(0);
-        let mut before = format!(in self.alloc; "{number:>6}  ")?;
+        let mut before = String::with_capacity(self.alloc, BEFORE)?;
+        write!(before, "{number:>6}  ")?;
         if let Some(stamp) = stamp {
-            let time = self.clock.tell(self.alloc, look.times, stamp, &self.zone)?;
-            write!(before, "{time:>15}  ")?;
+            self.clock.put(&mut before, look.times, stamp, &self.zone)?;
         } else if self.clock.is_on() {
             put_blanks(&mut before, 17)?;
         }
