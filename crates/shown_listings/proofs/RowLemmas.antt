@@ -4,7 +4,7 @@ use Rattle.std.proofs.lemmas.Bool.{or_parts, ltb-false, eqb-false}
 use Rattle.std.proofs.lemmas.List.{drop-drop, take-append-drop, drop_all, length-drop}
 use Rattle.std.proofs.Math.Seq.{take-length}
 use Rattle.std.proofs.lemmas.List.Elements.{All-append, All-map, All-cons, All-nil, All-push}
-use Rattle.std.specs.Prelude.{nat_lt, slice_index_or, is_some, Some, None, option_and_then, option_to_list, codes, IsUtf8, IfSome, MatchOption}
+use Rattle.std.specs.Prelude.{nat_lt, zero, suc, slice_set, slice_index_or, is_some, Some, None, option_and_then, option_to_list, codes, IsUtf8, IfSome, MatchOption}
 use Rattle.std.specs.declared.vec.Vec.{Vec}
 use Rattle.std.specs.declared.alloc.Global.{Global}
 use Rattle.json.specs.Json.{Json, document}
@@ -50,6 +50,19 @@ no_feed-sign = All-cons other 226 (128 ∷ 166 ∷ []) (λ e. omega arith) (All-
 no_feed-text : (cut : Bool) (text part : List ℕ) → ShowsText cut text part → HasNoFeed part
 no_feed-text cut text _ whole = no_feed-shown text
 no_feed-text cut text _ (front n may) = All-append other (map shown_byte (take n text)) cut_sign (no_feed-shown (take n text)) no_feed-sign
+
+-- One byte more is changed in its place.
+changed-more : (f : ℕ → ℕ) (bytes : List ℕ) (i d : ℕ) → i < length bytes
+    → slice_set (map f (take i bytes) ++ drop i bytes) i (f (slice_index_or (map f (take i bytes) ++ drop i bytes) i d)) ≡ map f (take (suc i) bytes) ++ drop (suc i) bytes
+changed-more f [] i d less = absurd (omega arith)
+changed-more f (b ∷ bytes) zero d less = refl
+changed-more f (b ∷ bytes) (suc i) d less = ap (λ l. f b ∷ l) (changed-more f bytes i d (omega arith))
+
+pub changed-on : (f : ℕ → ℕ) (was now : List ℕ) (i d byte : ℕ) → i < length was → now ≡ map f (take i was) ++ drop i was → byte ≡ f (slice_index_or now i d)
+    → slice_set now i byte ≡ map f (take (i + 1) was) ++ drop (i + 1) was
+changed-on f was now i d byte less is same =
+    let next : suc i ≡ i + 1 = omega arith in
+    ap (λ b. slice_set now i b) same ∙ ap (λ l. slice_set l i (f (slice_index_or l i d))) is ∙ changed-more f was i d less ∙ ap (λ n. map f (take n was) ++ drop n was) next
 
 -- Where less than all is shown, there is no room for more.
 pub cut-may : (bytes columns : Option ℕ) (count n : ℕ) → (bytes ≡ None → columns ≡ None → count ≡ n) → count < n → (is_some bytes || is_some columns) ≡ true

@@ -114,13 +114,31 @@ fn front_of(text: &[u8], room: Room) -> usize
     }
 }
 
+/// Makes each byte what it is shown as in a text.
+fn show_each(bytes: &mut [u8])
+    ensures { bytes.new ≡ map shown_byte bytes.old }
+{
+    for byte in bytes.iter_mut() {
+        *byte = shown_byte(*byte);
+    }
+}
+
+/// Makes each byte what it is shown as beside a text.
+fn unfeed_each(bytes: &mut [u8])
+    ensures { bytes.new ≡ map unfed_byte bytes.old }
+{
+    for byte in bytes.iter_mut() {
+        *byte = unfed_byte(*byte);
+    }
+}
+
 /// Appends bytes as they are shown in a text.
 fn put_shown(row: &mut Vec<u8>, text: &[u8]) -> Result<(), AllocError>
     ensures { OnOk result (row.new.items ≡ row.old.items ++ map shown_byte text.now) }
 {
-    for byte in text {
-        row.push(shown_byte(*byte))?;
-    }
+    let start = row.len();
+    row.extend_from_slice(text)?;
+    show_each(&mut row[start..]);
     Ok(())
 }
 
@@ -128,9 +146,9 @@ fn put_shown(row: &mut Vec<u8>, text: &[u8]) -> Result<(), AllocError>
 fn put_beside(row: &mut Vec<u8>, bytes: &[u8]) -> Result<(), AllocError>
     ensures { OnOk result (row.new.items ≡ row.old.items ++ map unfed_byte bytes.now) }
 {
-    for byte in bytes {
-        row.push(unfed_byte(*byte))?;
-    }
+    let start = row.len();
+    row.extend_from_slice(bytes)?;
+    unfeed_each(&mut row[start..]);
     Ok(())
 }
 
