@@ -10,6 +10,7 @@ from cases import group
 from entries import drop, message
 from following import LONG
 from program import PATIENCE, read_to_end, same
+from terms import short_atom
 from top import call, fails, pid_text, returns, sends, told_at, whole
 
 CASES, case = group()
@@ -221,6 +222,38 @@ def rows_are_cut_at_a_width_and_texts_at_a_size(program):
 
 
 @case
+def no_row_is_wider_than_the_width(program):
+    program.good("import", "t", stdin=b"".join(NESTED))
+    for width, expected, end in (
+        (58, "     3  12:04:31.123461  return      (0.000004 s) m:g/2  …", "-- end of trace"),
+        (57, "     3  12:04:31.123461  return      (0.000004 s) m:g/2 …", "-- end of trace"),
+        (45, "     3  12:04:31.123461  return      (0.0000…", "-- end of trace"),
+        (26, "     3  12:04:31.123461  …", "-- end of trace"),
+        (10, "     3  1…", "-- end of…"),
+        (3, "  …", "--…"),
+        (1, "…", "…"),
+    ):
+        found = program.good("show", "t", "--width", str(width)).decode().splitlines()
+        same((found[3], found[5]), (expected, end))
+        assert all(len(line) <= width for line in found), found
+    # a colour has no column
+    for width, expected in (
+        (45, "     3  12:04:31.123461  \x1b[32mreturn      (0.0000…\x1b[0m"),
+        (26, "     3  12:04:31.123461  \x1b[32m…\x1b[0m"),
+        (10, "     3  1\x1b[32m…\x1b[0m"),
+    ):
+        found = program.good("show", "t", "--width", str(width), "--color", "always").decode().splitlines()
+        same(found[3], expected)
+    # a character of two bytes has one column, and is never cut
+    called = b"\x68\x03" + short_atom("m") + b"\x77\x08" + "éééé".encode() + b"\x6b\x00\x02\x07\x08"
+    program.good("import", "u", stdin=told_at(1, "call", called, at=NOON))
+    same(program.good("show", "u", "--width", "41").decode(), "     0  12:04:31.123456  call      m:'éé…\n" + END)
+    same(program.good("show", "u", "--width", "46").decode(), "     0  12:04:31.123456  call      m:'éééé'/2…\n" + END)
+    same(program.good("show", "u", "--width", "48").decode(), "     0  12:04:31.123456  call      m:'éééé'/2  …\n" + END)
+    same(program.good("show", "u", "--width", "49").decode(), "     0  12:04:31.123456  call      m:'éééé'/2  {…\n" + END)
+
+
+@case
 def rows_have_colours_where_they_are_asked_for(program):
     program.good("import", "t", stdin=b"".join(NESTED) + drop(1))
     coloured = {"call": 36, "return": 32, "drop": 35}
@@ -250,6 +283,7 @@ def rows_on_a_terminal_have_colours_and_its_width(program):
     plain = row(0, TIMES[0], "call", FUNCTIONS[0] + TEXTS[0])
     same(on_terminal(program, "show", "t", NO_COLOR="1"), plain[:79] + "…\n" + END)
     same(on_terminal(program, "show", "t", NO_COLOR="1", COLUMNS="50"), plain[:49] + "…\n" + END)
+    same(on_terminal(program, "show", "t", NO_COLOR="1", COLUMNS="30"), plain[:29] + "…\n" + END)
     same(on_terminal(program, "show", "t", "--full", NO_COLOR="1"), row(0, TIMES[0], "call", TEXTS[0]) + END)
     same(on_terminal(program, "show", "t", NO_COLOR=""), f"{plain[:25]}\x1b[36m{plain[25:79]}…\x1b[0m\n{END}")
     same(on_terminal(program, "list", "-p", "t", NO_COLOR="1").splitlines()[0], f"0 call {TEXTS[0]}")
