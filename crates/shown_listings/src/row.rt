@@ -10,7 +10,7 @@ const FEED: u8 = b'\n';
 /// Stands behind a text that is cut: `…`.
 const CUT_SIGN: [u8; 3] = [0xe2, 0x80, 0xa6];
 
-/// The bytes that suffice for a colour, the sign and the end of a line.
+/// The bytes that suffice for a colour and its end, the sign and the end of a line.
 const BESIDES: usize = 16;
 
 /// How much is shown; None stands for all of it.
@@ -26,9 +26,9 @@ pub struct Room {
 #[derive(Clone, Copy)]
 pub struct Parts<'a> {
     pub before: &'a [u8],
-    /// What stands in the midst of that, and takes no column.
+    /// What takes no column.
     pub colour: &'a [u8],
-    /// The place of the colour.
+    /// The place in `before` where the colour stands.
     pub colour_at: usize,
     pub text: &'a [u8],
     pub after: &'a [u8],
