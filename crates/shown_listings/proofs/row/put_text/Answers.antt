@@ -1,4 +1,4 @@
-use Rattle.std.proofs.Common.{◌≡◌, ◌<◌, ◌≤◌, ◌++◌, rules, arith, map, length, take, ◌∙◌, ap, append_assoc}
+use Rattle.std.proofs.Common.{◌≡◌, ◌<◌, ◌++◌, rules, arith, map, length, take, ◌∙◌, ap, append_assoc}
 use Rattle.std.proofs.Math.Seq.{take-length}
 use Rattle.shown_listings.specs.Rows.{shown_byte, cut_sign, whole, front}
 use Rattle.shown_listings.proofs.row.put_text.Goals as goal
