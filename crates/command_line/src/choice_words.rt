@@ -10,39 +10,39 @@ use clap::{ArgAction, ArgMatches, Command, value_parser};
 use std::alloc::{AllocError, Global};
 use trace_text::{Choice, Filter, FunctionAsked, is_kind};
 
-/// Which numbers of entries are shown.
+/// Adds the options for the numbers of entries.
 fn with_numbers<'a>(alloc: Global, command: Command<'a>) -> Result<Command<'a>, AllocError> {
-    let from = option(
+    let from = option(alloc, "from", "N", "Only entries from this number on");
+    let to = option(
         alloc,
-        "from",
+        "to",
         "N",
-        "Shows no entry before the one of this number",
+        "Only entries up to this number; a listing ends there",
     );
-    let to = option(alloc, "to", "N", "Ends behind the entry of this number");
     command
         .arg(from.value_parser(value_parser!(u64)))?
         .arg(to.value_parser(value_parser!(u64)))
 }
 
-/// Which messages are shown.
+/// Adds those for what alone is asked for.
 fn with_only<'a>(alloc: Global, command: Command<'a>) -> Result<Command<'a>, AllocError> {
     let kinds = option(
         alloc,
         "only",
         "KIND[,KIND..]",
-        "Shows the entries of these kinds, as --pretty does",
+        "Only entries of these kinds, and drop records",
     );
     let process = option(
         alloc,
         "pid",
         "PID",
-        "Shows what this process did, of the text that a listing has for it, with or without < and >, as --pretty does; given again, what the others did too",
+        "Only what this process did, of the text that a listing has for it, with or without < and >; given again, what the others did too",
     );
     let function = option(
         alloc,
         "mfa",
         "M[:F[/A]]",
-        "Shows calls of these functions, and what they return or raise, as --pretty does; given again, those of the others too",
+        "Only calls of these functions, and what they return or raise; given again, those of the others too",
     );
     command
         .arg(kinds)?
@@ -50,25 +50,25 @@ fn with_only<'a>(alloc: Global, command: Command<'a>) -> Result<Command<'a>, All
         .arg(function.action(ArgAction::Append))
 }
 
-/// Which messages aren't shown.
+/// Adds those for what isn't.
 fn with_not<'a>(alloc: Global, command: Command<'a>) -> Result<Command<'a>, AllocError> {
     let kinds = option(
         alloc,
         "not",
         "KIND[,KIND..]",
-        "Shows no entry of these kinds; drop records are shown all the same",
+        "No entry of these kinds, but for drop records",
     );
     let process = option(
         alloc,
         "not-pid",
         "PID",
-        "Shows nothing of what this process did; may be given again, for more of them",
+        "Nothing of what this process did; may be given again, for more of them",
     );
     let function = option(
         alloc,
         "not-mfa",
         "M[:F[/A]]",
-        "Shows no call, return or exception of these functions; may be given again, for more of them",
+        "No call, return or exception of these functions; may be given again, for more of them",
     );
     command
         .arg(kinds)?
@@ -76,7 +76,7 @@ fn with_not<'a>(alloc: Global, command: Command<'a>) -> Result<Command<'a>, Allo
         .arg(function.action(ArgAction::Append))
 }
 
-/// A listing, and the options that say which of its entries are shown.
+/// Adds the options that choose entries. Their help is that of each command, whatever it does with entries.
 pub fn with_choice<'a>(alloc: Global, command: Command<'a>) -> Result<Command<'a>, AllocError> {
     let command = with_numbers(alloc, command)?;
     with_not(alloc, with_only(alloc, command)?)

@@ -185,7 +185,7 @@ fn pretty<'a>(alloc: Global) -> Arg<'a> {
     flag(
         alloc,
         "pretty",
-        "Shows any term nearly as a node's shell does; without it text is a list of numbers, and a message with a float, map, reference or the like is opaque",
+        "Shows any term nearly as a node's shell does, as --json and a choice by kind, process or function do too; without it text is a list of numbers, and a message with a float, map, reference or the like is opaque",
     )
     .short('p')
 }
@@ -213,7 +213,7 @@ fn salvage<'a>(alloc: Global) -> Arg<'a> {
     flag(
         alloc,
         "salvage",
-        "Where the trace is refused: shows what each of its files holds by itself, up to its damage, and what is missing between them; the exit status is 1",
+        "Where the trace is refused: what each of its files holds by itself, up to its damage, and what is missing between them; the exit status is 1",
     )
 }
 

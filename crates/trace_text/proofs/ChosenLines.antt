@@ -1,8 +1,8 @@
 -- Chosen lines, and those of the whole listing.
 use Rattle.std.specs.Prelude.{flat_map, not}
-use Rattle.std.proofs.Common.{◌≡◌, ℕ, ◌+◌, ◌<◌, Bool, true, false, ◌&&◌, ◌||◌, cond, Option, Some, None, List, [], ◌∷◌, ◌++◌, length, take, codes, refl, sym, ap, ◌∙◌, subst, arith, append_assoc}
+use Rattle.std.proofs.Common.{◌≡◌, ℕ, ◌+◌, ◌<◌, Bool, true, false, ◌&&◌, ◌||◌, cond, Option, Some, None, List, [], ◌∷◌, ◌++◌, length, codes, refl, sym, ap, ◌∙◌, subst, arith, append_assoc}
 use Rattle.std.proofs.lemmas.Bool.{leb-true, lt-leb}
-use Rattle.std.proofs.lemmas.List.{append-nil, take_at}
+use Rattle.std.proofs.lemmas.List.{append-nil}
 use Rattle.std.specs.Fmt.{decimal}
 use Rattle.std.specs.List.{AllByRecursion}
 use Rattle.entry_codec.specs.Entries.{Entry, Message, Drop}
@@ -189,15 +189,12 @@ pub row_of_object : (notation : Notation) (wording : Wording) (n : ℕ) (entry :
 row_of_object Text wording n entry old new members is o e = absurd cc
 row_of_object Json wording n entry old new members is o e = (object_line members, (members, o, refl), e)
 
--- a line that is put part by part
-pub put_parts : (old a b c new told : List ℕ) (n : ℕ) → a ≡ old ++ decimal n → b ≡ a ++ 32 ∷ [] → c ≡ b ++ told → new ≡ c ++ 10 ∷ [] → new ≡ old ++ (decimal n ++ codes " " ++ told ++ 10 ∷ [])
-put_parts old a b c new told n x y z w = w ∙ ap (λ (l : List ℕ). l ++ 10 ∷ []) (z ∙ ap (λ (l : List ℕ). l ++ told) (y ∙ ap (λ (l : List ℕ). l ++ 32 ∷ []) x)) ∙ grouped old told n
-
--- and taken back
-pub taken_back : (old a b c new : List ℕ) (n start : ℕ) → start ≡ length old → a ≡ old ++ decimal n → b ≡ a ++ 32 ∷ [] → c ≡ b → new ≡ take start c → new ≡ old
-taken_back old a b c new n start s x y z w =
-    let whole : c ≡ old ++ (decimal n ++ 32 ∷ []) = z ∙ y ∙ ap (λ (l : List ℕ). l ++ 32 ∷ []) x ∙ append_assoc old (decimal n) (32 ∷ []) in
-    w ∙ ap (take start) whole ∙ take_at old (decimal n ++ 32 ∷ []) start (sym s)
+-- a number, and what stands after it
+pub numbered : (old a b c told : List ℕ) (n : ℕ) → a ≡ old ++ decimal n → b ≡ a ++ 32 ∷ [] → c ≡ b ++ told → c ≡ old ++ (decimal n ++ codes " " ++ told)
+numbered old a b c told n x y z = z ∙ ap (λ (l : List ℕ). l ++ told) (y ∙ ap (λ (l : List ℕ). l ++ 32 ∷ []) x) ∙ spaced old told n
+  where
+    spaced : (old told : List ℕ) (n : ℕ) → old ++ decimal n ++ codes " " ++ told ≡ old ++ (decimal n ++ codes " " ++ told)
+    spaced old told n = simp append_assoc
 
 -- ---- behind the end
 

@@ -12,7 +12,7 @@ use Rattle.trace_text.specs.declared.style.Notation.{Notation}
 use Rattle.trace_text.specs.declared.style.Notation.TheVariants.{Text, Json}
 use Rattle.trace_text.specs.AnyTerm.{AnyTerm}
 use Rattle.std.specs.Option.{option_map}
-use Rattle.trace_text.specs.Choosing.{Asks, is_from, is_to, suits_opaque, term_in}
+use Rattle.trace_text.specs.Choosing.{Asks, term_in}
 use Rattle.trace_text.specs.Facts.{Function, arity_told, function_of, tells_function}
 use Rattle.trace_text.specs.Lines.{end_mark, opaque_line, asks_opaque, long_line}
 use Rattle.trace_text.specs.Objects.{Member, of_number, of_text, member_text, more_text, members_text, object_text, object_line, IsUnread, IsObject, of_read, of_unread, arity_text, function_text, function_if, is_of_call, facts_of, message_members, opaque_members}
@@ -119,15 +119,9 @@ pub none_some : (notation : Notation) (asks : Option Asks) (n count : ℕ) → a
 none_some notation None n count is = opaque_some notation n count
 none_some notation (Some asks) n count is = absurd cc
 
-all_three : (a b c : Bool) → a && b ≡ true → c ≡ true → a && (b && c) ≡ true
-all_three true true c e f = f
-all_three true false c e f = absurd cc
-all_three false b c e f = absurd cc
-
-pub asked_some : (notation : Notation) (asks : Asks) (n count : ℕ) → is_to asks.to n && is_from asks.from n ≡ true → suits_opaque asks ≡ true → 0 < length (cond (asks_opaque asks n) (opaque_line notation n count) [] ++ end_mark asks n)
-asked_some notation asks n count at suits =
-    let yes : asks_opaque asks n ≡ true = all_three (is_to asks.to n) (is_from asks.from n) (suits_opaque asks) at suits in
-    subst (λ (b : Bool). 0 < length (cond b (opaque_line notation n count) [] ++ end_mark asks n)) (sym yes)
+pub asked_some : (notation : Notation) (asks : Asks) (n count : ℕ) → asks_opaque asks n ≡ true → 0 < length (cond (asks_opaque asks n) (opaque_line notation n count) [] ++ end_mark asks n)
+asked_some notation asks n count asked =
+    subst (λ (b : Bool). 0 < length (cond b (opaque_line notation n count) [] ++ end_mark asks n)) (sym asked)
     (omega (arith, opaque_some notation n count, length-append (opaque_line notation n count) (end_mark asks n)))
 
 pub on_err_of : {A E : Type 0} (r : Result A E) (P : Type 0) → P → OnErr r P

@@ -1,9 +1,10 @@
 //! Which entries are listed.
-ghost use Rattle.std.specs.Prelude.{◌≡◌, ◌&&◌, ◌∷◌, ◌++◌, ℕ, List, [], length};
+ghost use Rattle.std.specs.Prelude.{◌≡◌, ◌∷◌, ◌++◌, ℕ, List, [], length};
 ghost use Rattle.std.specs.Option.{option_map};
 ghost use Rattle.std.specs.Prelude.{string_bytes};
 ghost use Rattle.std.specs.Str.{bytes_eq};
 ghost use Rattle.trace_text.specs.Choosing.{asked_of, asks_of, asks_no_text, asks_nothing, has_word, is_from, is_to, ends, is_text, is_shown, names_kind, names_nothing, suits_opaque};
+ghost use Rattle.trace_text.specs.Lines.{asks_opaque};
 
 use crate::message::front;
 
@@ -93,12 +94,11 @@ impl Choice {
         self.to.is_none_or(|last| number <= last)
     }
 
-    /// Whether messages of this number are asked for.
-    pub fn has_number(&self, number: u64) -> bool
-        ensures { result ≡ (is_to (asks_of self.now).to number
-            && is_from (asks_of self.now).from number) }
+    /// Whether messages of this number that aren't read are asked for.
+    pub fn asks_opaque(&self, number: u64) -> bool
+        ensures { result ≡ asks_opaque (asks_of self.now) number }
     {
-        self.is_not_later(number) && self.is_not_before(number)
+        self.is_not_later(number) && self.is_not_before(number) && self.suits_opaque()
     }
 
     /// Whether no entry that comes after the one of this number is to be listed.
@@ -130,7 +130,7 @@ fn is_among(word: &[u8], words: &[u8]) -> bool
 }
 
 /// Whether `shown` is `asked` between these two signs.
-#[inline(never)]
+#[inline(always)]
 fn is_between(opening: u8, closing: u8, asked: &[u8], shown: &[u8]) -> bool
     ensures { result ≡ bytes_eq shown.now (opening ∷ (asked.now ++ closing ∷ [])) }
 {
@@ -141,6 +141,14 @@ fn is_between(opening: u8, closing: u8, asked: &[u8], shown: &[u8]) -> bool
         return false;
     };
     *first == opening && (middle == asked && *last == closing)
+}
+
+/// Whether `shown` is `asked` between single quotes.
+#[inline(never)]
+fn is_quoted(asked: &[u8], shown: &[u8]) -> bool
+    ensures { result ≡ bytes_eq shown.now (39 ∷ (asked.now ++ 39 ∷ [])) }
+{
+    is_between(b'\'', b'\'', asked, shown)
 }
 
 /// Whether `shown` is `asked`, or `asked` between these two signs.
@@ -163,7 +171,7 @@ pub fn begins_so(asked: &[u8], text: &[u8], size: usize) -> bool
             None => false,
         }
     } else {
-        is_between(b'\'', b'\'', asked, front(text, size))
+        is_quoted(asked, front(text, size))
     }
 }
 

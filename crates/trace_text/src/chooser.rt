@@ -53,7 +53,7 @@ impl<'c> Chooser<'c> {
         ensures { result ≡ is_opaque_chosen (asks_where self.now.choice) number }
     {
         match self.choice {
-            Some(choice) => choice.has_number(number) && choice.suits_opaque(),
+            Some(choice) => choice.asks_opaque(number),
             None => true,
         }
     }

@@ -6,9 +6,10 @@
 //! (`IsObject`), whose text reads back as that object (law `objects_read_back`). A message that spells no such term is opaque:
 //! its size stands there. `IsListing` is a whole listing, with the lines that `put_before` and `put_end` put. A `Choice` asks for
 //! entries by their numbers and terms (`chooses`): its listing has the lines of the whole one whose entries it asks for, in
-//! order, and an empty line where it ends (law `chosen_lines_are_kept`); a `Chooser` says the same of entries that have no line.
-//! Where memory runs out, nothing is said of the text. Nothing is read or written out here, and no message is put together from
-//! several entries.
+//! order, and an empty line where it ends (law `chosen_lines_are_kept`). A `Chooser` tells which entries are asked for where none
+//! has a line, as in an export (`is_chosen`). A `FactReader` tells of a message its kind, who is traced, the function that is
+//! called or returned from and the process to which it is sent, and its text (`facts_in`, `IsTextTold`). Where memory runs out,
+//! nothing is said of the text. Nothing is read or written out here, and no message is put together from several entries.
 #![tactic(auto)]
 
 mod any_laws;

@@ -169,7 +169,7 @@ pub fn put_asked_object(
     let Some(kind) = read_message(told, bytes)? else {
         return put_unread_object(choice, out, number, bytes.len());
     };
-    if !suits(choice, kind, &told.seen, &told.text) {
+    if !suits(choice, kind, told) {
         return Ok(false);
     }
     put_message_object(out, number, kind, &told.seen, &told.text)?;

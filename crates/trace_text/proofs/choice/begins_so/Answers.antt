@@ -15,5 +15,5 @@ returns-in-None c = λ own rest is counted. absurd (omega (arith, c.in-None.ensu
 
 pub returns-else-size-asked : goal.returns-else-size-asked
 returns-else-size-asked c = λ own rest is counted.
-    c.is_between.ensures ∙ ap (λ l. bytes_eq l (39 ∷ (c.args.asked.now ++ 39 ∷ []))) (c.front.ensures own rest is counted)
+    c.is_quoted.ensures ∙ ap (λ l. bytes_eq l (39 ∷ (c.args.asked.now ++ 39 ∷ []))) (c.front.ensures own rest is counted)
     ∙ sym (text_between 39 39 c.args.asked.now own (λ e. omega (arith, counted, e)))

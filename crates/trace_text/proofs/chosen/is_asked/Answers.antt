@@ -1,6 +1,6 @@
 use Rattle.std.proofs.Common.{sym, ◌∙◌, arith}
 use Rattle.trace_text.specs.Choosing.{asks_of}
-use Rattle.trace_text.proofs.Suiting.{read_as, all_suit, asked_read, asked_unread}
+use Rattle.trace_text.proofs.Suiting.{all_suit, asked_read, asked_unread}
 use Rattle.trace_text.proofs.chosen.is_asked.Goals as goal
 
 pub returns-then-has_no_text-clause-asked : goal.returns-then-has_no_text-clause-asked
@@ -8,8 +8,7 @@ returns-then-has_no_text-clause-asked c = sym (all_suit (asks_of c.args.choice.n
 
 pub returns-in-Some-clause-asked : goal.returns-in-Some-clause-asked
 returns-in-Some-clause-asked c =
-    let read = rw c.in-Some.is at c.in_ok-kind.ensures.read in
-    let r = read_as c.in-Some.kind c.args.bytes.now _ _ _ _ c.deref.ensures.value c.deref-in-Some.ensures.value read in
+    let r = rw c.in-Some.is at c.in_ok-kind.ensures.read in
     c.suits.ensures r.t r.is_kind r.is_seen ∙ asked_read (asks_of c.args.choice.now) c.in-Some.kind c.args.bytes.now _ _ r
 
 pub returns-in-None-clause-asked : goal.returns-in-None-clause-asked

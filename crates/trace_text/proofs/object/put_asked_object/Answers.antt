@@ -20,17 +20,15 @@ returns-in_default-clause-told c =
 
 pub returns-then-not-suits-clause-asked : goal.returns-then-not-suits-clause-asked
 returns-then-not-suits-clause-asked c =
-    let read = rw c.in-Some.is at c.in_ok-kind.ensures.read in
-    let r = read_as c.in-Some.kind c.args.bytes.now _ _ _ _ c.deref.ensures.value c.deref-2.ensures.value read in
+    let r = rw c.in-Some.is at c.in_ok-kind.ensures.read in
     sym c.if-not-suits.true ∙ c.suits.ensures r.t r.is_kind r.is_seen ∙ asked_read (asks_of c.args.choice.now) c.in-Some.kind c.args.bytes.now _ _ r
 
 pub returns-clause-asked : goal.returns-clause-asked
 returns-clause-asked c =
-    let read = rw c.in-Some.is at c.in_ok-kind.ensures.read in
-    let r = read_as c.in-Some.kind c.args.bytes.now _ _ _ _ c.deref.ensures.value c.deref-2.ensures.value read in
+    let r = rw c.in-Some.is at c.in_ok-kind.ensures.read in
     sym c.if-not-suits.false ∙ c.suits.ensures r.t r.is_kind r.is_seen ∙ asked_read (asks_of c.args.choice.now) c.in-Some.kind c.args.bytes.now _ _ r
 
 pub returns-clause-told : goal.returns-clause-told
 returns-clause-told c = λ yes.
     let read = rw c.in-Some.is at c.in_ok-kind.ensures.read in
-    c.in_ok-put_message_object.ensures c.args.bytes.now (read_as c.in-Some.kind c.args.bytes.now _ _ _ _ c.deref-3.ensures.value c.deref-4.ensures.value read)
+    c.in_ok-put_message_object.ensures c.args.bytes.now (read_as c.in-Some.kind c.args.bytes.now _ _ _ _ c.deref.ensures.value c.deref-2.ensures.value read)
