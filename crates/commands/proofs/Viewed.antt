@@ -1,6 +1,6 @@
 -- A trace that is counted.
-use Rattle.std.proofs.Common.{◌≡◌, ◌⊎◌, ◌∙◌, ℕ, Option, List, [], Some, ap, subst, sym, inl, inr}
-use Rattle.std.specs.Prelude.{Result, Ok, Err, OnOk, IfErr, IsErr}
+use Rattle.std.proofs.Common.{◌≡◌, ◌⊎◌, ◌∙◌, ℕ, Bool, true, false, Option, List, [], Some, None, ap, refl, subst, sym, inl, inr}
+use Rattle.std.specs.Prelude.{ℤ, Result, Ok, Err, OnOk, IfErr, IsErr, IsOk}
 use Rattle.std.specs.Io.KnownBytes.{Appends, Keeps}
 use Rattle.std.proofs.KnownBytes.{Appends-kept}
 use Rattle.entry_codec.specs.Entries.{Entry, bytes_of}
@@ -16,10 +16,12 @@ use Rattle.trace_client.specs.Forms.{as_bytes}
 use Rattle.foreign_files.specs.Standing.{IsStanding}
 use Rattle.foreign_files.specs.declared.standing.Standing.TheVariants as standings
 use Rattle.trace_summary.specs.Counting.{tellings}
-use Rattle.trace_summary.specs.Streams.{FitHeads, stream_contents}
+use Rattle.trace_summary.specs.Drawings.{ending}
+use Rattle.trace_summary.specs.Streams.{FitHeads, IsWhyStopped, stream_contents, why_stopped}
 use Rattle.trace_summary.specs.Tallies.{IsCounted}
 use Rattle.trace_summary.specs.declared.folded.Folded.{Folded}
 use Rattle.trace_summary.specs.declared.top.Top.{Top}
+use Rattle.trace_summary.specs.declared.view.ViewFault.{ViewFault}
 use Rattle.trace_summary.specs.declared.view.ViewFault.TheVariants as views
 use Rattle.trace_lookup.specs.declared.place.Place.{Place}
 use Rattle.trace_reader.specs.Listings.{WritesStore}
@@ -28,9 +30,9 @@ use Rattle.faults.specs.declared.complaint.Complaint.{Complaint}
 use Rattle.script_runner.specs.declared.fault.SimFault.{SimFault}
 use Rattle.commands.specs.Naming.{IsToldAt}
 use Rattle.commands.specs.Files.{OnlyLooks}
-use Rattle.commands.specs.Telling.{IsOfWriter}
+use Rattle.commands.specs.Telling.{IsOfMemory, IsOfWriter}
 use Rattle.commands.proofs.Exported.{entries_of_export}
-use Rattle.commands.specs.Viewing.{AreExported, AreFolded, IsDrawn, IsFold, IsReadInto, IsViewed, IsTop, TellsWhy, counted, drawn, folded, folded_by, not_drawn, not_folded, refused, taken_by, too_many, not_told}
+use Rattle.commands.specs.Viewing.{AreExported, AreFolded, HasFailed, IsDrawn, IsFold, IsReadInto, IsUncounted, IsViewed, IsTop, TellsWhy, count_failed, counted, drawn, fold_failed, folded, folded_by, lines_not_written, no_memory, not_counted, not_drawn, not_folded, not_written, refused, taken_by, too_many}
 use Rattle.commands.specs.declared.live.ReadFailure.{ReadFailure}
 use Rattle.commands.specs.declared.viewing.Uncounted.{Uncounted}
 use Rattle.commands.specs.declared.viewing.Uncounted.TheVariants as whys
@@ -59,15 +61,42 @@ exported asks image first held seen pending taken bytes none empty there wrote a
       writes = subst (λ (l : List ℕ). WritesStore (as_bytes asks) image l) (export.is ∙ ap bytes_of (sym same)) wrote.1;
     }
 
--- what is told where it isn't counted
-pub not_counted : {V : Type 0} (asks : Option Asks) (seen : V → List Entry) (Told : SimFault → Complaint → Type 0) (base : List ℕ) (image : Image) (why : Uncounted) (complaint : Complaint) → IsViewed asks seen image (Err why) → TellsWhy Told base why complaint → IsTop asks Told base image (Err complaint)
-not_counted asks seen Told base image (whys.ReadFailure failure) complaint why_not told = refused failure.fault complaint why_not told
-not_counted asks seen Told base image (whys.View views.NoMemory) complaint why_not told = not_told complaint (inr told)
-not_counted asks seen Told base image (whys.View views.TooMany) complaint why_not told = elim told [
-  | inl rows ↦ too_many complaint rows
-  | inr memory ↦ not_told complaint (inr memory)
+-- a view that hasn't failed gives no fault but that there was no memory
+failed_by : (failed : Option ViewFault) → IsWhyStopped failed views.TooMany → failed ≡ Some views.TooMany
+failed_by (Some fault) is = ap Some (sym is)
+failed_by None is = absurd (cc)
+
+-- why no more is taken, by what is told of a view and a stream
+pub why_so : (failed : Option ViewFault) (no_room : Bool) (fault : ViewFault) → Some fault ≡ why_stopped failed no_room → IsWhyStopped failed fault
+why_so (Some failed) no_room fault is = cc
+why_so None true fault is = cc
+why_so None false fault is = absurd (cc)
+
+-- where nothing stopped it, the view hasn't failed
+pub not_failed : (failed : Option ViewFault) (no_room : Bool) → None ≡ why_stopped failed no_room → failed ≡ None
+not_failed (Some failed) no_room is = absurd (cc)
+not_failed None no_room is = refl
+
+-- what is told where no more is taken
+pub stopped : {V : Type 0} (failed : V → Option ViewFault) (Told : SimFault → Complaint → Type 0) (base : List ℕ) (image : Image) (view : V) (fault : ViewFault) (complaint : Complaint) → IsWhyStopped (failed view) fault → TellsWhy Told base (whys.View fault) complaint
+    → IsUncounted (HasFailed failed views.TooMany) Told base image complaint ⊎ IsOfWriter complaint
+stopped failed Told base image view views.NoMemory complaint why told = inl (no_memory told)
+stopped failed Told base image view views.TooMany complaint why told = elim told [
+  | inl rows ↦ inl (too_many (view, failed_by (failed view) why) rows)
+  | inr memory ↦ inl (no_memory memory)
 ]
-not_counted asks seen Told base image (whys.View views.Write) complaint why_not told = not_told complaint (inl told)
+stopped failed Told base image view views.Write complaint why told = inr told
+
+-- what is told where it isn't counted
+pub uncounted : {V : Type 0} (asks : Option Asks) (seen : V → List Entry) (failed : V → Option ViewFault) (Told : SimFault → Complaint → Type 0) (base : List ℕ) (image : Image) (view : V) (why : Uncounted) (complaint : Complaint) → IsViewed asks seen failed image view (Some why)
+    → TellsWhy Told base why complaint → IsUncounted (HasFailed failed views.TooMany) Told base image complaint ⊎ IsOfWriter complaint
+uncounted asks seen failed Told base image view (whys.ReadFailure failure) complaint why_not told = inl (refused failure.fault why_not.0 told)
+uncounted asks seen failed Told base image view (whys.View fault) complaint why_not told = stopped failed Told base image view fault complaint why_not told
+
+-- what isn't there
+pub nothing : {A : Type 0} (o : Option A) → ((x : A) → o ≡ Some x → ⊥) → o ≡ None
+nothing None none = refl
+nothing (Some x) none = absurd (none x refl)
 
 -- at the same place
 pub why_moved : (was now : Place) (store : FolderStore) (why : Uncounted) (complaint : Complaint) → now ≡ was → TellsWhy (IsToldAt now store) now.base.now why complaint → TellsWhy (IsToldAt was store) was.base.now why complaint
@@ -88,23 +117,56 @@ honest_then mid new more h = elim more [
 ]
 
 -- a table was written out, or not
-pub is_top : (asks : Option Asks) (Told : SimFault → Complaint → Type 0) (base : List ℕ) (image : Image) (top : Top) (result : Result Unit Complaint) → AreExported asks image (taken_by top) → IsCounted top.tallies (tellings (taken_by top)) → IfErr result IsOfWriter → IsTop asks Told base image result
-is_top asks Told base image top (Ok done) are counts unwritten = counted top are counts
-is_top asks Told base image top (Err complaint) are counts unwritten = not_told complaint (inl unwritten)
+pub is_top : (asks : Option Asks) (Told : SimFault → Complaint → Type 0) (base : List ℕ) (image : Image) (was now : Option (List ℕ)) (top : Top) (result : Result Unit Complaint) → AreExported asks image (taken_by top) → IsCounted top.tallies (tellings (taken_by top)) → IfErr result IsOfWriter → IsTop asks Told base image was now result
+is_top asks Told base image was now top (Ok done) are counts unwritten = counted top are counts
+is_top asks Told base image was now top (Err complaint) are counts unwritten = not_written complaint unwritten
+
+-- there is none, and nothing is written
+pub no_top : (asks : Option Asks) (Told : SimFault → Complaint → Type 0) (base : List ℕ) (image : Image) (was now : Option (List ℕ)) (complaint : Complaint) → IsUncounted (HasFailed count_failed views.TooMany) Told base image complaint ⊎ IsOfWriter complaint → Keeps was now → IsTop asks Told base image was now (Err complaint)
+no_top asks Told base image was now complaint why kept = elim why [
+  | inl uncounted ↦ not_counted complaint uncounted kept
+  | inr writer ↦ not_written complaint writer
+]
 
 -- stacks were
 pub is_fold : (asks : Option Asks) (Told : SimFault → Complaint → Type 0) (base : List ℕ) (image : Image) (was mid now : Option (List ℕ)) (stacks : Folded) (result : Result Unit Complaint) → AreExported asks image (folded_by stacks) → AreFolded stacks was mid → Keeps mid now
     → IfErr result IsOfWriter → IsFold asks Told base image was now result
 is_fold asks Told base image was mid now stacks (Ok done) are lines kept unwritten =
     folded stacks are (record { calls = lines.calls; ordered = lines.ordered; lines = Appends-kept was mid now _ lines.lines kept })
-is_fold asks Told base image was mid now stacks (Err complaint) are lines kept unwritten = not_folded complaint (not_told complaint (inl unwritten))
+is_fold asks Told base image was mid now stacks (Err complaint) are lines kept unwritten = lines_not_written complaint unwritten
 
--- events were
-pub is_drawn : (asks : Option Asks) (Told : SimFault → Complaint → Type 0) (base : List ℕ) (image : Image) (entries : List Entry) (result : Result Unit Complaint) → AreExported asks image entries → IfErr result IsOfWriter → IsDrawn asks Told base image result
-is_drawn asks Told base image entries (Ok done) are unwritten = drawn entries are
-is_drawn asks Told base image entries (Err complaint) are unwritten = not_drawn complaint (not_told complaint (inl unwritten))
+-- they couldn't be counted
+pub no_stacks : (asks : Option Asks) (Told : SimFault → Complaint → Type 0) (base : List ℕ) (image : Image) (was now : Option (List ℕ)) (complaint : Complaint) → IsUncounted (HasFailed fold_failed views.TooMany) Told base image complaint ⊎ IsOfWriter complaint → Keeps was now → IsFold asks Told base image was now (Err complaint)
+no_stacks asks Told base image was now complaint why kept = elim why [
+  | inl uncounted ↦ not_folded complaint uncounted kept
+  | inr writer ↦ lines_not_written complaint writer
+]
 
--- stacks couldn't be
+-- they couldn't be written
 pub no_fold : (asks : Option Asks) (Told : SimFault → Complaint → Type 0) (base : List ℕ) (image : Image) (was now : Option (List ℕ)) (result : Result Unit Complaint) → IsErr result → IfErr result IsOfWriter → IsFold asks Told base image was now result
 no_fold asks Told base image was now (Ok done) err unwritten = absurd (cc)
-no_fold asks Told base image was now (Err complaint) err unwritten = not_folded complaint (not_told complaint (inl unwritten))
+no_fold asks Told base image was now (Err complaint) err unwritten = lines_not_written complaint unwritten
+
+-- what was written behind the events is there where it is written out
+pub ended_so : {E : Type 0} (events mid : Option (List ℕ)) (text bytes : List ℕ) (written : Result Unit E) (result : Result Unit Complaint) → bytes ≡ text → OnOk written (Appends events mid bytes) → OnOk result (IsOk written) → OnOk result (Appends events mid text)
+ended_so events mid text bytes (Ok done) (Ok out) same wrote well = subst (Appends events mid) same wrote
+ended_so events mid text bytes (Err fault) (Ok out) same wrote well = absurd (cc)
+ended_so events mid text bytes written (Err complaint) same wrote well = tt
+
+-- events were
+pub is_drawn : (asks : Option Asks) (Told : SimFault → Complaint → Type 0) (base : List ℕ) (image : Image) (entries : List Entry) (events mid now : Option (List ℕ)) (first : Option ℤ) (result : Result Unit Complaint) → AreExported asks image entries → OnOk result (Appends events mid (ending first)) → Keeps mid now → IfErr result IsOfWriter
+    → IsDrawn asks Told base image now result
+is_drawn asks Told base image entries events mid now first (Ok done) are ended kept unwritten = drawn entries events first are (Appends-kept events mid now _ ended kept)
+is_drawn asks Told base image entries events mid now first (Err complaint) are ended kept unwritten = not_drawn complaint (inr unwritten)
+
+-- they weren't
+pub no_drawing : {TooMany : Type 0} (asks : Option Asks) (Told : SimFault → Complaint → Type 0) (base : List ℕ) (image : Image) (now : Option (List ℕ)) (complaint : Complaint) → IsUncounted TooMany Told base image complaint ⊎ IsOfWriter complaint → IsDrawn asks Told base image now (Err complaint)
+no_drawing {TooMany} asks Told base image now complaint why = elim why [
+  | inl uncounted ↦ not_drawn complaint (inl (simpler uncounted))
+  | inr writer ↦ not_drawn complaint (inr writer)
+]
+  where
+    simpler : IsUncounted TooMany Told base image complaint → IsUncounted Unit Told base image complaint
+    simpler (refused fault why_not told) = refused fault why_not told
+    simpler (too_many many rows) = too_many tt rows
+    simpler (no_memory memory) = no_memory memory

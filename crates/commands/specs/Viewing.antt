@@ -1,6 +1,6 @@
 -- A trace whose entries are looked at, and counted.
-use Rattle.std.specs.Prelude.{◌≡◌, ◌⊎◌, ℕ, Option, List, Result, Ok, Err}
-use Rattle.std.specs.Io.KnownBytes.{Appends}
+use Rattle.std.specs.Prelude.{◌≡◌, ◌⊎◌, ℕ, ℤ, Option, Some, None, List, Result, Ok, Err}
+use Rattle.std.specs.Io.KnownBytes.{Appends, Keeps}
 use Rattle.std.specs.String.{string_bytes}
 use Rattle.entry_codec.specs.Entries.{Entry, bytes_of}
 use Rattle.trace_store.specs.Disk.{Image}
@@ -11,12 +11,15 @@ use Rattle.foreign_files.specs.declared.standing.Standing.TheVariants as standin
 use Rattle.trace_summary.specs.Counting.{tellings}
 use Rattle.trace_summary.specs.Tallies.{IsCounted}
 use Rattle.trace_summary.specs.Acts.{acts_in}
+use Rattle.trace_summary.specs.Drawings.{ending}
 use Rattle.trace_summary.specs.Stacks.{AreOrdered, calls_at, calls_of, lines_of}
+use Rattle.trace_summary.specs.Streams.{IsWhyStopped}
 use Rattle.trace_summary.specs.declared.folded.Folded.{Folded}
 use Rattle.trace_summary.specs.contracts.folded.FoldedView.TheImpl as folded_view
 use Rattle.trace_summary.specs.declared.perfetto.Perfetto.{Perfetto}
 use Rattle.trace_summary.specs.declared.top.Top.{Top}
 use Rattle.trace_summary.specs.contracts.top.TopView.TheImpl as top_view
+use Rattle.trace_summary.specs.declared.view.ViewFault.{ViewFault}
 use Rattle.trace_summary.specs.declared.view.ViewFault.TheVariants as views
 use Rattle.trace_reader.specs.Listings.{WritesStore}
 use Rattle.trace_reader.specs.Reading.{IsWhyNotRead}
@@ -42,6 +45,18 @@ folded_by folded = folded_view.ghosts.seen folded
 abbrev pub drawn_by : (W : Type 0) → Perfetto W → List Entry
 drawn_by W perfetto = perfetto.taken.entries
 
+-- why a count takes no more
+abbrev pub count_failed : Top → Option ViewFault
+count_failed top = top_view.ghosts.failed top
+
+-- why no more stacks are counted
+abbrev pub fold_failed : Folded → Option ViewFault
+fold_failed folded = folded_view.ghosts.failed folded
+
+-- why no more events are written
+abbrev pub draw_failed : (W : Type 0) → Perfetto W → Option ViewFault
+draw_failed W perfetto = perfetto.fault
+
 -- the entries that an export of a trace writes, of those that are asked for
 pub record AreExported (asks : Option Asks) (image : Image) (taken : List Entry) : Type 0 where
   pub there : IsStanding standings.Ours image
@@ -52,11 +67,11 @@ abbrev pub IsReadInto : Option Asks → Image → Option (List ℕ) → Option (
 IsReadInto asks image old new (Ok done) = IsStanding standings.Ours image × ((text : List ℕ) × WritesStore (as_bytes asks) image text × Appends old new text)
 IsReadInto asks image old new (Err failure) = IsWhyNotRead failure.fault image
 
--- what a reading came to: a view has seen these; or why the trace isn't read, or no more is taken
-abbrev pub IsViewed : {V : Type 0} → Option Asks → (V → List Entry) → Image → Result V Uncounted → Type 0
-IsViewed asks seen image (Ok view) = AreExported asks image (seen view)
-IsViewed asks seen image (Err (whys.ReadFailure failure)) = IsWhyNotRead failure.fault image
-IsViewed asks seen image (Err (whys.View fault)) = Unit {0}
+-- what a reading came to: a view has seen these, and hasn't failed; or why the trace isn't read; or what the view failed by, or that memory ran out
+abbrev pub IsViewed : {V : Type 0} → Option Asks → (V → List Entry) → (V → Option ViewFault) → Image → V → Option Uncounted → Type 0
+IsViewed asks seen failed image view None = AreExported asks image (seen view) × (failed view ≡ None)
+IsViewed asks seen failed image view (Some (whys.ReadFailure failure)) = IsWhyNotRead failure.fault image × (failed view ≡ None)
+IsViewed asks seen failed image view (Some (whys.View fault)) = IsWhyStopped (failed view) fault
 
 -- that there are too many rows is told with the name of the trace
 abbrev pub IsOfRows : List ℕ → Complaint → Type 0
@@ -70,12 +85,21 @@ TellsWhy Told base (whys.View views.NoMemory) complaint = IsOfMemory complaint
 TellsWhy Told base (whys.View views.TooMany) complaint = IsOfRows base complaint ⊎ IsOfMemory complaint
 TellsWhy Told base (whys.View views.Write) complaint = IsOfWriter complaint
 
--- how it ended: all entries that an export of the trace has, of those that are asked for, were counted, and that was told; or why it isn't read; or there are too many rows; or it couldn't be told
-pub data IsTop (asks : Option Asks) (Told : SimFault → Complaint → Type 0) (base : List ℕ) (image : Image) : Result Unit Complaint → Type 0 where
-  counted : (top : Top) → AreExported asks image (taken_by top) → IsCounted top.tallies (tellings (taken_by top)) → IsTop asks Told base image (Ok tt)
-  refused : (fault : ReadFault) (complaint : Complaint) → IsWhyNotRead fault image → Told (read_fault fault) complaint → IsTop asks Told base image (Err complaint)
-  too_many : (complaint : Complaint) → IsOfRows base complaint → IsTop asks Told base image (Err complaint)
-  not_told : (complaint : Complaint) → IsOfWriter complaint ⊎ IsOfMemory complaint → IsTop asks Told base image (Err complaint)
+-- some view has failed by this
+abbrev pub HasFailed : {V : Type 0} → (V → Option ViewFault) → ViewFault → Type 0
+HasFailed {V} failed fault = (view : V) × (failed view ≡ Some fault)
+
+-- what is told of a trace that isn't counted: why it isn't read; or that there are too many rows; or that there was no memory
+pub data IsUncounted (TooMany : Type 0) (Told : SimFault → Complaint → Type 0) (base : List ℕ) (image : Image) (complaint : Complaint) : Type 0 where
+  refused : (fault : ReadFault) → IsWhyNotRead fault image → Told (read_fault fault) complaint → IsUncounted TooMany Told base image complaint
+  too_many : TooMany → IsOfRows base complaint → IsUncounted TooMany Told base image complaint
+  no_memory : IsOfMemory complaint → IsUncounted TooMany Told base image complaint
+
+-- how it ended: all entries that an export of the trace has, of those that are asked for, were counted, and that was told; or they weren't, and nothing is written; or it couldn't be written
+pub data IsTop (asks : Option Asks) (Told : SimFault → Complaint → Type 0) (base : List ℕ) (image : Image) (was now : Option (List ℕ)) : Result Unit Complaint → Type 0 where
+  counted : (top : Top) → AreExported asks image (taken_by top) → IsCounted top.tallies (tellings (taken_by top)) → IsTop asks Told base image was now (Ok tt)
+  not_counted : (complaint : Complaint) → IsUncounted (HasFailed count_failed views.TooMany) Told base image complaint → Keeps was now → IsTop asks Told base image was now (Err complaint)
+  not_written : (complaint : Complaint) → IsOfWriter complaint → IsTop asks Told base image was now (Err complaint)
 
 -- the lines of stacks of calls were written, in the order of their texts: each was counted as often as its entries say that it was called
 pub record AreFolded (folded : Folded) (was now : Option (List ℕ)) : Type 0 where
@@ -86,9 +110,10 @@ pub record AreFolded (folded : Folded) (was now : Option (List ℕ)) : Type 0 wh
 -- the same of stacks of calls, whose lines were written
 pub data IsFold (asks : Option Asks) (Told : SimFault → Complaint → Type 0) (base : List ℕ) (image : Image) (was now : Option (List ℕ)) : Result Unit Complaint → Type 0 where
   folded : (folded : Folded) → AreExported asks image (folded_by folded) → AreFolded folded was now → IsFold asks Told base image was now (Ok tt)
-  not_folded : (complaint : Complaint) → IsTop asks Told base image (Err complaint) → IsFold asks Told base image was now (Err complaint)
+  not_folded : (complaint : Complaint) → IsUncounted (HasFailed fold_failed views.TooMany) Told base image complaint → Keeps was now → IsFold asks Told base image was now (Err complaint)
+  lines_not_written : (complaint : Complaint) → IsOfWriter complaint → IsFold asks Told base image was now (Err complaint)
 
--- the same of events: what they are written for has taken all entries that an export of the trace has
-pub data IsDrawn (asks : Option Asks) (Told : SimFault → Complaint → Type 0) (base : List ℕ) (image : Image) : Result Unit Complaint → Type 0 where
-  drawn : (entries : List Entry) → AreExported asks image entries → IsDrawn asks Told base image (Ok tt)
-  not_drawn : (complaint : Complaint) → IsTop asks Told base image (Err complaint) → IsDrawn asks Told base image (Err complaint)
+-- the same of events, of which some may be written whatever comes: what they are written for has taken all entries that an export of the trace has, and what is written last ends the drawing
+pub data IsDrawn (asks : Option Asks) (Told : SimFault → Complaint → Type 0) (base : List ℕ) (image : Image) (now : Option (List ℕ)) : Result Unit Complaint → Type 0 where
+  drawn : (entries : List Entry) (events : Option (List ℕ)) (first : Option ℤ) → AreExported asks image entries → Appends events now (ending first) → IsDrawn asks Told base image now (Ok tt)
+  not_drawn : (complaint : Complaint) → IsUncounted Unit Told base image complaint ⊎ IsOfWriter complaint → IsDrawn asks Told base image now (Err complaint)

@@ -1,9 +1,10 @@
 //! The entries of a trace are looked at, those that are asked for, and what their messages tell is counted.
-ghost use Rattle.std.specs.Prelude.{◌≡◌, ◌⊎◌, [], IfOk, IfErr};
+ghost use Rattle.std.specs.Prelude.{◌≡◌, ◌⊎◌, [], IfOk, IfErr, IsOk, OnOk};
+ghost use Rattle.std.specs.Io.KnownBytes.{Keeps};
 ghost use Rattle.stores.specs.FolderStore.{reads_of};
 ghost use Rattle.trace_text.specs.Chooses.{asks_where};
 ghost use Rattle.faults.specs.Complaints.{status_told};
-ghost use Rattle.commands.specs.{Files.CallsToTell, Files.LooksOver, Files.OnlyLooks, Files.most_with, Live.most_to_read, Naming.IsToldAt, Telling.IsOfMemory, Telling.IsOfWriter, Viewing.drawn_by, Viewing.folded_by, Viewing.taken_by, Viewing.IsDrawn, Viewing.IsFold, Viewing.IsViewed, Viewing.IsOfRows, Viewing.IsReadInto, Viewing.IsTop, Viewing.TellsWhy};
+ghost use Rattle.commands.specs.{Files.CallsToTell, Files.LooksOver, Files.OnlyLooks, Files.most_with, Live.most_to_read, Naming.IsToldAt, Telling.IsOfMemory, Telling.IsOfWriter, Viewing.count_failed, Viewing.draw_failed, Viewing.drawn_by, Viewing.fold_failed, Viewing.folded_by, Viewing.taken_by, Viewing.IsDrawn, Viewing.IsFold, Viewing.IsViewed, Viewing.IsOfRows, Viewing.IsReadInto, Viewing.IsTop, Viewing.TellsWhy};
 
 use crate::commands::written_out;
 use crate::files::Files;
@@ -45,19 +46,21 @@ fn read_into<W: Write, H: Host>(
     done
 }
 
-/// Reads a trace, and hands its entries to a view that has seen none. The other one takes its place meanwhile.
+/// Reads a trace, and hands its entries to a view that has seen none; the other one takes its place meanwhile. The view is
+/// given back, and where it hasn't taken all, why.
 fn look_at<V: View + Drop, H: Host>(
     files: &mut Files<'_>,
     choice: Option<&Choice>,
     view: V,
     other: V,
     host: &mut H,
-) -> Result<V, Uncounted>
+) -> (V, Option<Uncounted>)
     requires none { V.seen view ≡ [] }
     requires other { V.seen other ≡ [] }
     ensures viewed { LooksOver files.old.store files.new.store
         (most_to_read (reads_of files.old.store))
-        (IsViewed (asks_where choice.entry) V.seen (reads_of files.old.store) result) }
+        (IsViewed (asks_where choice.entry) V.seen V.failed (reads_of files.old.store)
+        result.0 result.1) }
     ensures place { files.new.place ≡ files.old.place }
 {
     let alloc = files.alloc();
@@ -69,9 +72,9 @@ fn look_at<V: View + Drop, H: Host>(
     drop(first);
     let (view, fault) = stream.into_view();
     match (done, fault) {
-        (_, Some(fault)) => Err(Uncounted::View(fault)),
-        (Err(failure), None) => Err(Uncounted::ReadFailure(failure)),
-        (Ok(()), None) => Ok(view),
+        (_, Some(fault)) => (view, Some(Uncounted::View(fault))),
+        (Err(failure), None) => (view, Some(Uncounted::ReadFailure(failure))),
+        (Ok(()), None) => (view, None),
     }
 }
 
@@ -80,10 +83,11 @@ fn count<H: Host>(
     files: &mut Files<'_>,
     choice: Option<&Choice>,
     host: &mut H,
-) -> Result<Top, Uncounted>
+) -> (Top, Option<Uncounted>)
     ensures counted { LooksOver files.old.store files.new.store
         (most_to_read (reads_of files.old.store))
-        (IsViewed (asks_where choice.entry) taken_by (reads_of files.old.store) result) }
+        (IsViewed (asks_where choice.entry) taken_by count_failed (reads_of files.old.store)
+        result.0 result.1) }
     ensures place { files.new.place ≡ files.old.place }
 {
     let alloc = files.alloc();
@@ -95,10 +99,11 @@ fn count_stacks<H: Host>(
     files: &mut Files<'_>,
     choice: Option<&Choice>,
     host: &mut H,
-) -> Result<Folded, Uncounted>
+) -> (Folded, Option<Uncounted>)
     ensures counted { LooksOver files.old.store files.new.store
         (most_to_read (reads_of files.old.store))
-        (IsViewed (asks_where choice.entry) folded_by (reads_of files.old.store) result) }
+        (IsViewed (asks_where choice.entry) folded_by fold_failed (reads_of files.old.store)
+        result.0 result.1) }
     ensures place { files.new.place ≡ files.old.place }
 {
     let alloc = files.alloc();
@@ -111,10 +116,11 @@ fn draw_into<'w, W: Write, H: Host>(
     choice: Option<&Choice>,
     out: &'w mut W,
     host: &mut H,
-) -> Result<Perfetto<'w, W>, Uncounted>
+) -> (Perfetto<'w, W>, Option<Uncounted>)
     ensures drawn { LooksOver files.old.store files.new.store
         (most_to_read (reads_of files.old.store))
-        (IsViewed (asks_where choice.entry) (drawn_by W) (reads_of files.old.store) result) }
+        (IsViewed (asks_where choice.entry) (drawn_by W) (draw_failed W)
+        (reads_of files.old.store) result.0 result.1) }
     ensures place { files.new.place ≡ files.old.place }
 {
     let alloc = files.alloc();
@@ -163,9 +169,11 @@ fn told(files: &mut Files<'_>, why: Uncounted, command: &'static str) -> Complai
     }
 }
 
-/// Writes out a table that was written so.
+/// Writes out what was written so.
 fn write_out<W: Write>(written: io::Result<()>, out: &mut W) -> Result<(), Complaint>
-    ensures { IfErr result IsOfWriter }
+    ensures well { OnOk result (IsOk written) }
+    ensures stays { Keeps (W.contents out.old) (W.contents out.new) }
+    ensures failed { IfErr result IsOfWriter }
 {
     match written {
         Ok(()) => written_out(out.flush()),
@@ -184,13 +192,15 @@ pub fn top<W: Write, H: Host>(
     ensures ended { LooksOver files.old.store files.new.store
         (most_with result (most_to_read (reads_of files.old.store)) (reads_of files.old.store))
         (IsTop (asks_where choice.entry) (IsToldAt files.old.place files.new.store)
-        files.old.place.base.now (reads_of files.old.store) result) }
+        files.old.place.base.now (reads_of files.old.store)
+        (W.contents watched.old.writer.now)
+        (W.contents watched.new.writer.now) result) }
     ensures status { IfErr result (λ complaint. status_told complaint ≡ 1) }
 {
-    let top = match count(files, choice, &mut *watched.host) {
-        Ok(top) => top,
-        Err(why) => return Err(told(files, why, "top")),
-    };
+    let (top, why) = count(files, choice, &mut *watched.host);
+    if let Some(why) = why {
+        return Err(told(files, why, "top"));
+    }
     match top.write(files.alloc(), ranking, is_json, &mut *watched.writer) {
         Ok(written) => write_out(written, &mut *watched.writer),
         Err(fault) => Err(told(files, Uncounted::View(fault), "top")),
@@ -211,10 +221,10 @@ pub fn fold<W: Write, H: Host>(
         (W.contents watched.new.writer.now) result) }
     ensures status { IfErr result (λ complaint. status_told complaint ≡ 1) }
 {
-    let folded = match count_stacks(files, choice, &mut *watched.host) {
-        Ok(folded) => folded,
-        Err(why) => return Err(told(files, why, "export")),
-    };
+    let (folded, why) = count_stacks(files, choice, &mut *watched.host);
+    if let Some(why) = why {
+        return Err(told(files, why, "export"));
+    }
     match folded.write(&mut *watched.writer) {
         Ok(()) => written_out(watched.writer.flush()),
         Err(fault) => written_out(Err(fault)),
@@ -230,19 +240,20 @@ pub fn draw<W: Write, H: Host>(
     ensures ended { LooksOver files.old.store files.new.store
         (most_with result (most_to_read (reads_of files.old.store)) (reads_of files.old.store))
         (IsDrawn (asks_where choice.entry) (IsToldAt files.old.place files.new.store)
-        files.old.place.base.now (reads_of files.old.store) result) }
+        files.old.place.base.now (reads_of files.old.store)
+        (W.contents watched.new.writer.now) result) }
     ensures status { IfErr result (λ complaint. status_told complaint ≡ 1) }
 {
-    let mut drawn = match draw_into(files, choice, &mut *watched.writer, &mut *watched.host) {
-        Ok(drawn) => drawn,
-        Err(why) => return Err(told(files, why, "export")),
-    };
+    let (mut drawn, why) = draw_into(files, choice, &mut *watched.writer, &mut *watched.host);
+    if let Some(why) = why {
+        return Err(told(files, why, "export"));
+    }
     let ended = drawn.end();
     drop(drawn);
     match ended {
-        Ok(has_times) => {
-            files.tell_times(has_times);
-            written_out(watched.writer.flush())
+        Ok(ending) => {
+            files.tell_times(ending.has_times);
+            write_out(watched.writer.write_all(&ending.text), &mut *watched.writer)
         }
         Err(fault) => Err(told(files, Uncounted::View(fault), "export")),
     }

@@ -1,5 +1,6 @@
 pub mod Acts
 pub mod Counting
+pub mod Drawings
 pub mod Lines
 pub mod Opens
 pub mod Rows

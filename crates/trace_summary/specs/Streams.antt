@@ -1,9 +1,11 @@
 -- An entry stream that comes part by part.
-use Rattle.std.specs.Prelude.{◌≡◌, ℕ, ◌+◌, ◌<◌, ◌≤◌, ◌^◌, Option, Some, Result, MatchResult, List, [], ◌++◌, length, slice_index, take, drop}
+use Rattle.std.specs.Prelude.{◌≡◌, ℕ, ◌+◌, ◌<◌, ◌≤◌, ◌^◌, Bool, Option, Some, None, Result, MatchResult, List, [], ◌++◌, length, slice_index, take, drop, if◌then◌else◌}
 use Rattle.std.specs.List.{AllByRecursion, AllByRecursion-prop}
 use Rattle.std.specs.Coded.{Π_prop, →_prop, le_prop}
 use Rattle.std.specs.Int.{w32, to_be_bytes}
 use Rattle.entry_codec.specs.Entries.{Entry, Message, Drop, spelling, bytes_of}
+use Rattle.trace_summary.specs.declared.view.ViewFault.{ViewFault}
+use Rattle.trace_summary.specs.declared.view.ViewFault.TheVariants.{NoMemory}
 
 -- the four bytes of its head can say its size, or its count
 abbrev pub FitsHead : Entry → Type 0
@@ -53,6 +55,16 @@ pub record Took (count : ℕ) (was now : List Entry) (held pending bytes : List 
 -- bytes were taken, or nothing changed
 abbrev pub Takes : {E : Type 0} → Result ℕ E → List Entry → List Entry → List ℕ → List ℕ → List ℕ → Type 0
 Takes result was now held pending bytes = MatchResult result (λ count. Took count was now held pending bytes) (λ _. (now ≡ was) × (pending ≡ held))
+
+-- why no more is taken: what the view failed by, or that there was no room for the bytes of an entry that hasn't come whole
+abbrev pub why_stopped : Option ViewFault → Bool → Option ViewFault
+why_stopped (Some fault) no_room = Some fault
+why_stopped None no_room = if no_room then Some NoMemory else None
+
+-- this is why: it is what the view failed by, or there was no memory
+abbrev pub IsWhyStopped : Option ViewFault → ViewFault → Type 0
+IsWhyStopped (Some failed) fault = fault ≡ failed
+IsWhyStopped None fault = fault ≡ NoMemory
 
 pub FitsHead-prop : (entry : Entry) → IsProp (FitsHead entry)
 FitsHead-prop (Message bytes) = le_prop

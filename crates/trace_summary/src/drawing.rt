@@ -1,5 +1,8 @@
 //! What a drawing has of each message.
 
+ghost use Rattle.std.specs.Prelude.{◌≡◌, IfOk};
+ghost use Rattle.trace_summary.specs.Drawings.{ending};
+
 use crate::acts::{Act, act_of};
 use crate::arrows::Arrows;
 use crate::clock::Clock;
@@ -242,12 +245,14 @@ impl<'w, W: Write> Drawing<'w, W> {
             .put(&spot.event(b"message", phase, Told::Nothing))
     }
 
-    /// Ends all slices that are open, at the last time, and writes what stands after all events.
-    pub fn end(&mut self) -> Result<(), ViewFault> {
+    /// Ends all slices that are open, at the last time. The text that stands after all events.
+    pub fn end(&mut self) -> Result<Vec<u8>, ViewFault>
+        ensures { IfOk result (λ text. text.items ≡ ending self.new.clock.first) }
+    {
         for place in 0..self.tracks.len() {
             let spot = self.spot_at(place, self.clock.latest);
             self.end_all(spot)?;
         }
-        self.events.end(&self.clock)
+        self.events.ending(self.clock.first)
     }
 }

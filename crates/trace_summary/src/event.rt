@@ -1,5 +1,8 @@
 //! An event of the Trace Event Format, as one JSON object.
 
+ghost use Rattle.std.specs.Prelude.{◌≡◌, ◌++◌, ◌∷◌, [], OnOk};
+ghost use Rattle.json.specs.Token.{key, string};
+
 use json::{Writer, is_number};
 use std::alloc::{AllocError, Global};
 
@@ -119,7 +122,11 @@ impl Event<'_> {
 }
 
 /// Puts a member whose value is a text.
-pub fn put_member(out: &mut Writer, name: &str, text: &str) -> Result<(), AllocError> {
+pub fn put_member(out: &mut Writer, name: &str, text: &str) -> Result<(), AllocError>
+    ensures before { out.new.before ≡ out.old.before }
+    ensures tokens { OnOk result (out.new.tokens ≡ out.old.tokens
+        ++ (key name.now ∷ string text.now ∷ [])) }
+{
     out.key(name)?;
     out.string(text)
 }

@@ -1,6 +1,9 @@
 //! The events of a drawing, written as the Trace Event Format: one JSON object, with each event on a line of its own.
 
-use crate::clock::Clock;
+ghost use Rattle.std.specs.Prelude.{◌≡◌, ◌++◌, ◌∷◌, [], IfOk, OnOk};
+ghost use Rattle.json.specs.Token.{begin_object, end_object};
+ghost use Rattle.trace_summary.specs.Drawings.{ending, times_told};
+
 use crate::event::{Event, Phase, Told, put_member};
 use crate::view::ViewFault;
 use json::Writer;
@@ -85,18 +88,18 @@ impl<'w, W: Write> Events<'w, W> {
         self.write()
     }
 
-    /// Writes what stands after all events.
-    pub fn end(&mut self, clock: &Clock) -> Result<(), ViewFault> {
+    /// The text that stands after all events, of which this is the first time that is told.
+    pub fn ending(&mut self, first: Option<i64>) -> Result<Vec<u8>, ViewFault>
+        ensures { IfOk result (λ text. text.items ≡ ending first) }
+    {
         if !self.has_begun {
             self.begin()?;
         }
-        let mut line = Vec::from_slice(self.alloc, BEHIND)?;
-        let mut writer = Writer::new(line);
-        put_other(&mut writer, clock)?;
-        line = writer.into_inner();
-        line.extend_from_slice(END)?;
-        self.line = line;
-        self.write()
+        let mut writer = Writer::new(Vec::from_slice(self.alloc, BEHIND)?);
+        put_other(&mut writer, first)?;
+        let mut text = writer.into_inner();
+        text.extend_from_slice(END)?;
+        Ok(text)
     }
 
     /// Writes the line.
@@ -111,16 +114,28 @@ impl<'w, W: Write> Events<'w, W> {
     }
 }
 
-/// Puts what is told of the times.
-fn put_other(out: &mut Writer, clock: &Clock) -> Result<(), AllocError> {
+/// Puts an object that tells of the times.
+fn put_other(out: &mut Writer, first: Option<i64>) -> Result<(), AllocError>
+    ensures before { out.new.before ≡ out.old.before }
+    ensures tokens { OnOk result (out.new.tokens ≡ out.old.tokens
+        ++ (begin_object ∷ (times_told first ++ (end_object ∷ [])))) }
+{
     out.begin_object()?;
-    match clock.first {
+    put_times(out, first)?;
+    out.end_object()
+}
+
+/// Puts what is told of the times.
+fn put_times(out: &mut Writer, first: Option<i64>) -> Result<(), AllocError>
+    ensures before { out.new.before ≡ out.old.before }
+    ensures tokens { OnOk result (out.new.tokens ≡ out.old.tokens ++ times_told first) }
+{
+    match first {
+        None => put_member(out, "times", NO_TIMES),
         Some(first) => {
             put_member(out, "times", TIMES)?;
             out.key("first_time_in_nanoseconds")?;
-            out.quoted_i64(first)?;
+            out.quoted_i64(first)
         }
-        None => put_member(out, "times", NO_TIMES)?,
     }
-    out.end_object()
 }

@@ -61,6 +61,12 @@ impl Folded {
 impl View for Folded {
     ghost seen = { λ folded. folded.taken.entries };
 
+    ghost failed = { λ folded. folded.fault };
+
+    fn fault(&self) -> Option<ViewFault> {
+        self.fault
+    }
+
     fn take(&mut self, entry: EntryRef<'_>) -> Result<(), ViewFault> {
         if let Some(fault) = self.fault {
             return Err(fault);

@@ -5,8 +5,9 @@
 //!
 //! A `View` takes entries one by one; `StreamView` hands it those of an entry stream that is written to it (`into_view`). `Top`
 //! counts functions, processes and kinds exactly, and how many messages waited for a process at most (`IsCounted`), `Folded` how
-//! often each stack of calls was called (`IsFolded`). `Perfetto` writes events for each entry as it takes it. No contract says
-//! how long calls took, how numbers are laid out, or what events tell: tests of the program show it. No file is read here.
+//! often each stack of calls was called (`IsFolded`). `Perfetto` writes events for each entry as it takes it, and answers what
+//! ends the drawing (`ending`). No contract says how long calls took, how numbers are laid out, or what events tell: tests of the
+//! program show it. No file is read here.
 #![tactic(auto)]
 
 mod acts;
@@ -47,7 +48,7 @@ mod view;
 pub use folded::Folded;
 pub use info::{Info, Part, Totals};
 pub use open_calls::{Closed, OpenCall, OpenCalls};
-pub use perfetto::Perfetto;
+pub use perfetto::{Ending, Perfetto};
 pub use stream_laws::lawful_fit;
 pub use stream_view::StreamView;
 pub use taken::Taken;

@@ -1,6 +1,7 @@
 //! A trace as a drawing: the Trace Event Format, which Perfetto, chrome://tracing and speedscope open.
 
-ghost use Rattle.std.specs.Prelude.{◌≡◌, []};
+ghost use Rattle.std.specs.Prelude.{◌≡◌, [], IfErr, IfOk, IsErr, IsSome, Some};
+ghost use Rattle.trace_summary.specs.Drawings.{ending};
 
 use crate::drawing::Drawing;
 use crate::taken::Taken;
@@ -9,6 +10,14 @@ use entry_codec::EntryRef;
 use std::alloc::Global;
 use std::io::Write;
 use trace_text::FactReader;
+
+/// What stands behind the events of a drawing.
+#[derive(Drop)]
+pub struct Ending {
+    pub text: Vec<u8>,
+    /// A time was told.
+    pub has_times: bool,
+}
 
 /// Writes events for the entries that it takes.
 #[derive(Drop)]
@@ -33,18 +42,37 @@ impl<'w, W: Write> Perfetto<'w, W> {
         }
     }
 
-    /// Writes what stands after the events of all entries. Whether a time was told.
-    pub fn end(&mut self) -> Result<bool, ViewFault> {
+    /// Ends the slices that are open. What is to be written behind the events of all entries.
+    pub fn end(&mut self) -> Result<Ending, ViewFault>
+        ensures ending { IfOk result (λ behind. behind.text.items
+            ≡ ending self.new.drawing.clock.first) }
+        ensures fails { IfErr result (λ fault. self.new.fault ≡ Some fault) }
+        ensures ended { IsSome self.old.fault → IsErr result }
+    {
         if let Some(fault) = self.fault {
             return Err(fault);
         }
-        self.drawing.end()?;
-        Ok(self.drawing.clock.first.is_some())
+        match self.drawing.end() {
+            Ok(text) => Ok(Ending {
+                text,
+                has_times: self.drawing.clock.first.is_some(),
+            }),
+            Err(fault) => {
+                self.fault = Some(fault);
+                Err(fault)
+            }
+        }
     }
 }
 
 impl<W: Write> View for Perfetto<'_, W> {
     ghost seen = { λ perfetto. perfetto.taken.entries };
+
+    ghost failed = { λ perfetto. perfetto.fault };
+
+    fn fault(&self) -> Option<ViewFault> {
+        self.fault
+    }
 
     fn take(&mut self, entry: EntryRef<'_>) -> Result<(), ViewFault> {
         if let Some(fault) = self.fault {

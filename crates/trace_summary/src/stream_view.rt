@@ -1,12 +1,11 @@
 //! An entry stream, handed to a view.
 
-ghost use Rattle.std.specs.Prelude.{◌≡◌, ◌≤◌, ◌<◌, ◌⊎◌, ◌++◌, ◌∷◌, [], ℕ, List, Some, None, IfOk, IfErr, OnOk, OnErr, IsErr, IsOk, IsSome, MatchResult, length, slice_index};
+ghost use Rattle.std.specs.Prelude.{◌≡◌, ◌≢◌, ◌≤◌, ◌<◌, ◌⊎◌, ◌++◌, ◌∷◌, [], ℕ, List, Some, None, false, IfOk, IfErr, OnOk, OnErr, IsErr, IsOk, IsSome, MatchResult, length, slice_index};
 ghost use Rattle.std.specs.Int.{w32, to_be_bytes};
 ghost use Rattle.std.specs.Io.{WritesAtMost, KnownBytes.Keeps, KnownBytes.WriteAppends};
 ghost use Rattle.entry_codec.specs.{Entries.Entry, Entries.Message, Entries.spelling, Entries.bytes_of, Outcomes.IsBadOp};
 ghost use Rattle.trace_summary.specs.declared.stream_view.Refusal.TheVariants as refusals;
-ghost use Rattle.trace_summary.specs.declared.view.ViewFault.TheVariants.{NoMemory};
-ghost use Rattle.trace_summary.specs.Streams.{EndsAll, FitsHead, FitHeads, FitHeads-prop, IsPart, IsPart-prop, Takes, stream_contents};
+ghost use Rattle.trace_summary.specs.Streams.{EndsAll, FitsHead, FitHeads, FitHeads-prop, IsPart, IsPart-prop, Takes, stream_contents, why_stopped};
 
 use crate::stream_start::{BadOp, HEAD_SIZE, entry_at, wanted};
 use crate::view::{View, ViewFault};
@@ -18,25 +17,27 @@ use std::io::{self, ErrorKind, Write};
 /// Why bytes aren't taken.
 #[derive(Clone, Copy)]
 enum Refusal {
-    /// The view takes no more, or there is no room for the bytes of an entry that hasn't come whole.
-    View(ViewFault),
+    /// The view takes no more.
+    View,
+    /// There is no room for the bytes of an entry that hasn't come whole.
+    NoRoom,
     /// They begin no entry.
     BadOp,
 }
 
 impl From<ViewFault> for Refusal {
-    ghost from_gives = { λ fault refusal. refusal ≡ refusals.View fault };
+    ghost from_gives = { λ _ refusal. refusal ≡ refusals.View };
 
-    fn from(fault: ViewFault) -> Self {
-        Refusal::View(fault)
+    fn from(_fault: ViewFault) -> Self {
+        Refusal::View
     }
 }
 
 impl From<AllocError> for Refusal {
-    ghost from_gives = { λ _ refusal. refusal ≡ refusals.View NoMemory };
+    ghost from_gives = { λ _ refusal. refusal ≡ refusals.NoRoom };
 
-    fn from(fault: AllocError) -> Self {
-        Refusal::View(ViewFault::from(fault))
+    fn from(_fault: AllocError) -> Self {
+        Refusal::NoRoom
     }
 }
 
@@ -54,8 +55,8 @@ pub struct StreamView<V: View> {
     view: V,
     /// The bytes of an entry that hasn't come whole.
     pending: Vec<u8>,
-    /// Why no more is taken.
-    fault: Option<ViewFault>,
+    /// There was no room for such bytes, and no more is taken.
+    no_room: bool,
     ghost fits: { FitHeads (V.seen view) } by { FitHeads-prop (V.seen view) },
     ghost part: { IsPart pending.items } by { IsPart-prop pending.items },
 }
@@ -66,19 +67,19 @@ impl<V: View> StreamView<V> {
         requires { FitHeads (V.seen view) }
         ensures view { result.view ≡ view }
         ensures pending { result.pending.items ≡ [] }
-        ensures fault { result.fault ≡ None }
+        ensures room { result.no_room ≡ false }
     {
         StreamView {
             view,
             pending: Vec::new(alloc),
-            fault: None,
+            no_room: false,
         }
     }
 
-    /// The view, and why it took no more.
+    /// The view, and why no more is taken: its own fault, or that there was no room.
     pub fn into_view(self) -> (V, Option<ViewFault>)
         ensures view { result.0 ≡ self.view }
-        ensures fault { result.1 ≡ self.fault }
+        ensures why { result.1 ≡ why_stopped (V.failed self.view) self.no_room }
         // Where the bytes that came are those of entries, the view has seen these.
         ensures seen { (entries : List Entry) → FitHeads entries
             → stream_contents (V.seen self.view) self.pending.items ≡ Some (bytes_of entries)
@@ -88,7 +89,11 @@ impl<V: View> StreamView<V> {
             → bytes_of (V.seen self.view) ++ self.pending.items ++ left ≡ bytes_of entries
             → (more : List Entry) × (V.seen result.0 ++ more ≡ entries) }
     {
-        (self.view, self.fault)
+        let why = match self.view.fault() {
+            None if self.no_room => Some(ViewFault::NoMemory),
+            fault => fault,
+        };
+        (self.view, why)
     }
 }
 
@@ -102,17 +107,22 @@ impl<V: View> Write for StreamView<V> {
             (stream_contents (V.seen self.new.view) self.new.pending.items) result bytes.now }
         ensures some { IfOk result (λ count. 0 < length bytes.now → 0 < count) }
         // A refusal is remembered, unless the bytes begin no entry.
-        ensures told { MatchResult result (λ _. self.new.fault ≡ None)
-            (λ _. IsSome self.new.fault ⊎ IsBadOp bytes.now) }
-        ensures ended { IsSome self.old.fault → IsErr result × (self.new.fault ≡ self.old.fault) }
+        ensures told { MatchResult result
+            (λ _. why_stopped (V.failed self.new.view) self.new.no_room ≡ None)
+            (λ _. IsSome (why_stopped (V.failed self.new.view) self.new.no_room)
+            ⊎ IsBadOp bytes.now) }
+        ensures ended { IsSome (why_stopped (V.failed self.old.view) self.old.no_room)
+            → IsErr result × (why_stopped (V.failed self.new.view) self.new.no_room
+            ≡ why_stopped (V.failed self.old.view) self.old.no_room) }
     {
-        if self.fault.is_some() {
+        if self.no_room || self.view.fault().is_some() {
             return Err(io::Error::from(ErrorKind::Other));
         }
         match take_bytes(&mut self.view, &mut self.pending, bytes) {
             Ok(count) => Ok(count),
-            Err(Refusal::View(fault)) => {
-                self.fault = Some(fault);
+            Err(Refusal::View) => Err(io::Error::from(ErrorKind::Other)),
+            Err(Refusal::NoRoom) => {
+                self.no_room = true;
                 Err(io::Error::from(ErrorKind::Other))
             }
             Err(Refusal::BadOp) => Err(io::Error::from(ErrorKind::InvalidData)),
@@ -122,7 +132,7 @@ impl<V: View> Write for StreamView<V> {
     fn flush(&mut self) -> io::Result<()>
         ensures stay { self.new.pending.items ≡ self.old.pending.items }
         ensures view { self.new.view ≡ self.old.view }
-        ensures fault { self.new.fault ≡ self.old.fault }
+        ensures room { self.new.no_room ≡ self.old.no_room }
         ensures ok { IsOk result }
     {
         Ok(())
@@ -133,8 +143,12 @@ impl<V: View> Write for StreamView<V> {
 fn take_bytes<V: View>(view: &mut V, pending: &mut Vec<u8>, bytes: &[u8]) -> Result<usize, Refusal>
     requires part { IsPart pending.old.items }
     requires fits { FitHeads (V.seen view.old) }
+    requires goes_on { V.failed view.old ≡ None }
     ensures taken { Takes result (V.seen view.old) (V.seen view.new)
         pending.old.items pending.new.items bytes.now }
+    ensures goes_on { OnOk result (V.failed view.new ≡ None) }
+    ensures failed { IfErr result (λ refusal. refusal ≡ Refusal.View
+        → IsSome (V.failed view.new)) }
     ensures bad_op { IfErr result (λ refusal. refusal ≡ Refusal.BadOp → IsBadOp bytes.now) }
 {
     if pending.is_empty() {
@@ -152,8 +166,12 @@ fn take_bytes<V: View>(view: &mut V, pending: &mut Vec<u8>, bytes: &[u8]) -> Res
 fn take_start<V: View>(view: &mut V, pending: &mut Vec<u8>, bytes: &[u8]) -> Result<usize, Refusal>
     requires none { pending.old.items ≡ [] }
     requires fits { FitHeads (V.seen view.old) }
+    requires goes_on { V.failed view.old ≡ None }
     ensures taken { Takes result (V.seen view.old) (V.seen view.new)
         pending.old.items pending.new.items bytes.now }
+    ensures goes_on { OnOk result (V.failed view.new ≡ None) }
+    ensures failed { IfErr result (λ refusal. refusal ≡ Refusal.View
+        → IsSome (V.failed view.new)) }
     ensures bad_op { IfErr result (λ refusal. refusal ≡ Refusal.BadOp → IsBadOp bytes.now) }
 {
     match entry_at(bytes)? {
@@ -177,8 +195,10 @@ fn take_message<V: View>(
     requires head { pending.old.items ≡ 0 ∷ to_be_bytes w32 (length message.now) }
     requires fits { FitsHead (Message message.now) }
     requires seen { FitHeads (V.seen view.old) }
-    ensures { Takes result (V.seen view.old) (V.seen view.new)
+    ensures taken { Takes result (V.seen view.old) (V.seen view.new)
         pending.old.items pending.new.items message.now }
+    ensures goes_on { OnOk result (V.failed view.new ≡ None) }
+    ensures failed { OnErr result (IsSome (V.failed view.new)) }
 {
     view.take(EntryRef::Message(message))?;
     pending.clear();
@@ -186,13 +206,18 @@ fn take_message<V: View>(
 }
 
 /// Takes more bytes of an entry, none behind it.
-fn gather<V: View>(view: &mut V, pending: &mut Vec<u8>, bytes: &[u8]) -> Result<usize, ViewFault>
+fn gather<V: View>(view: &mut V, pending: &mut Vec<u8>, bytes: &[u8]) -> Result<usize, Refusal>
     requires part { IsPart pending.old.items }
     requires some { 0 < length pending.old.items }
     requires whole { EndsAll (pending.old.items ++ bytes.now) }
     requires fits { FitHeads (V.seen view.old) }
-    ensures { Takes result (V.seen view.old) (V.seen view.new)
+    requires goes_on { V.failed view.old ≡ None }
+    ensures taken { Takes result (V.seen view.old) (V.seen view.new)
         pending.old.items pending.new.items bytes.now }
+    ensures goes_on { OnOk result (V.failed view.new ≡ None) }
+    ensures failed { IfErr result (λ refusal. refusal ≡ Refusal.View
+        → IsSome (V.failed view.new)) }
+    ensures known { IfErr result (λ refusal. refusal ≢ Refusal.BadOp) }
 {
     let held = pending.len();
     pending.extend_from_slice(bytes)?;
@@ -200,7 +225,7 @@ fn gather<V: View>(view: &mut V, pending: &mut Vec<u8>, bytes: &[u8]) -> Result<
         Ok(()) => Ok(bytes.len()),
         Err(fault) => {
             pending.truncate(held);
-            Err(fault)
+            Err(Refusal::from(fault))
         }
     }
 }
@@ -210,12 +235,15 @@ fn hand_over<V: View>(view: &mut V, pending: &mut Vec<u8>) -> Result<(), ViewFau
     requires known { slice_index pending.old.items 0 ≤ 1 }
     requires whole { EndsAll pending.old.items }
     requires fits { FitHeads (V.seen view.old) }
+    requires goes_on { V.failed view.old ≡ None }
     ensures same { bytes_of (V.seen view.new) ++ pending.new.items
         ≡ bytes_of (V.seen view.old) ++ pending.old.items }
     ensures part { OnOk result (IsPart pending.new.items) }
     ensures fits { FitHeads (V.seen view.new) }
     ensures stays { OnErr result ((V.seen view.new ≡ V.seen view.old)
         × (pending.new.items ≡ pending.old.items)) }
+    ensures goes_on { OnOk result (V.failed view.new ≡ None) }
+    ensures failed { OnErr result (IsSome (V.failed view.new)) }
 {
     match entry_at(pending) {
         Ok(Some(entry)) => {

@@ -1,10 +1,20 @@
 //! The times that messages tell.
 
+/// What the text of a message with a time begins with.
+const TAG: &[u8; 10] = b"{trace_ts,";
+
+/// A number below it has room for one more digit.
+const LARGE: u64 = 1_000_000_000_000_000_000;
+
 /// The time stamp of a message with this text, in nanoseconds, where its tag is `trace_ts`: from the time
 /// `{MegaSecs,Secs,MicroSecs}`, from the monotonic time, or from `{Monotonic,Unique}`. None where there is none, and where it
 /// has no value in i64.
 pub fn time_in(text: &[u8]) -> Option<i64> {
-    let members = text.strip_prefix(b"{trace_ts,")?.strip_suffix(b"}")?;
+    let (tag, members) = text.split_first_chunk()?;
+    if tag != TAG {
+        return None;
+    }
+    let members = members.strip_suffix(b"}")?;
     if let [inside @ .., b'}'] = members {
         return time_of_members(inside);
     }
@@ -38,33 +48,37 @@ fn nanoseconds(mega: i64, seconds: i64, micros: i64) -> Option<i64> {
 
 /// The integer that ends a text, and what stands before it.
 fn last_number(text: &[u8]) -> Option<(i64, &[u8])> {
-    let (negative, before) = last_digits(text)?;
+    let (number, before) = last_digits(text)?;
     match before {
-        [before @ .., b'-'] => Some((negative, before)),
-        _ => Some((0_i64.checked_sub(negative)?, before)),
+        [before @ .., b'-'] => Some((0_i64.checked_sub_unsigned(number)?, before)),
+        _ => Some((i64::try_from(number).ok()?, before)),
     }
 }
 
-/// The number that the digits at the end of a text are, with the sign `-`, and what stands before them.
-fn last_digits(text: &[u8]) -> Option<(i64, &[u8])> {
+/// The number that the digits at the end of a text are, and what stands before them.
+fn last_digits(text: &[u8]) -> Option<(u64, &[u8])> {
     let mut before = text;
     while let [front @ .., b'0'..=b'9'] = before {
         before = front;
     }
     match text.get(before.len()..)? {
         [] => None,
-        digits => Some((negative_of(digits)?, before)),
+        digits => Some((number_of(digits)?, before)),
     }
 }
 
-/// The number that digits are, with the sign `-`.
-fn negative_of(digits: &[u8]) -> Option<i64> {
-    let mut negative: i64 = 0;
+/// The number that digits are.
+fn number_of(digits: &[u8]) -> Option<u64> {
+    let mut number: u64 = 0;
     for digit in digits {
-        let unit = i64::from(digit.saturating_sub(b'0'));
-        negative = negative.checked_mul(10)?.checked_sub(unit)?;
+        let unit = u64::from(digit & 0x0F);
+        number = if number < LARGE {
+            number * 10 + unit
+        } else {
+            number.checked_mul(10)?.checked_add(unit)?
+        };
     }
-    Some(negative)
+    Some(number)
 }
 
 /// The nanoseconds from one time to another, where both are told; 0 where that is before.

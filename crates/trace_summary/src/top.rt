@@ -1,8 +1,8 @@
 //! What a trace has most of: its functions, its processes, and the kinds of its messages.
-ghost use Rattle.std.specs.Prelude.{◌≡◌, ◌⊎◌, ◌++◌, ◌∷◌, [], Some, None, List, IfErr, OnOk, OnErr};
+ghost use Rattle.std.specs.Prelude.{◌≡◌, ◌++◌, ◌∷◌, [], None, List, IfErr, OnOk, OnErr};
+ghost use Rattle.std.specs.Io.KnownBytes.{Keeps};
 ghost use Rattle.entry_codec.specs.{Entries.Entry, Entries.Message, Seen.lent};
-ghost use Rattle.trace_summary.specs.declared.view.ViewFault.TheVariants.{NoMemory};
-ghost use Rattle.trace_summary.specs.{Counting.Telling, Counting.telling_of, Counting.tellings, Tallies.IsCounted, Tallies.IsCountedUnless, Tallies.IsCountedUnless-prop};
+ghost use Rattle.trace_summary.specs.{Counting.Telling, Counting.telling_of, Counting.tellings, Tallies.IsCounted, Tallies.IsCountedUnless, Tallies.IsCountedUnless-prop, Streams.IsWhyStopped};
 
 use crate::taken::Taken;
 use crate::tallies::Tallies;
@@ -48,8 +48,8 @@ impl Top {
     ) -> Result<io::Result<()>, ViewFault>
         ensures counted { OnOk result (IsCounted self.now.tallies
             (tellings self.now.taken.entries)) }
-        ensures refused { IfErr result (λ fault. (self.now.fault ≡ Some fault)
-            ⊎ (fault ≡ NoMemory)) }
+        ensures refused { IfErr result (IsWhyStopped self.now.fault) }
+        ensures nothing { OnErr result (Keeps (W.contents out.old) (W.contents out.new)) }
     {
         if let Some(fault) = self.fault {
             return Err(fault);
@@ -100,13 +100,13 @@ fn count_entry(
 impl View for Top {
     ghost seen = { λ top. top.taken.entries };
 
-    fn take(&mut self, entry: EntryRef<'_>) -> Result<(), ViewFault>
-        ensures taken { OnOk result (self.new.taken.entries
-            ≡ self.old.taken.entries ++ (lent entry.entry ∷ [])) }
-        ensures stays { OnErr result (self.new.taken.entries ≡ self.old.taken.entries) }
-        ensures counts { OnOk result (self.new.fault ≡ None) }
-        ensures ends { IfErr result (λ fault. self.new.fault ≡ Some fault) }
-    {
+    ghost failed = { λ top. top.fault };
+
+    fn fault(&self) -> Option<ViewFault> {
+        self.fault
+    }
+
+    fn take(&mut self, entry: EntryRef<'_>) -> Result<(), ViewFault> {
         if let Some(fault) = self.fault {
             return Err(fault);
         }

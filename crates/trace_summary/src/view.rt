@@ -1,7 +1,8 @@
 //! What looks at the entries of a trace, one by one.
 
-ghost use Rattle.std.specs.Prelude.{◌≡◌, ◌++◌, ◌∷◌, [], List, IfOk, OnOk, OnErr, Some};
+ghost use Rattle.std.specs.Prelude.{◌≡◌, ◌++◌, ◌∷◌, [], List, Option, IfOk, IfErr, IsSome, OnOk, OnErr, None, Some};
 ghost use Rattle.entry_codec.specs.{Entries.Entry, Seen.lent};
+ghost use Rattle.trace_summary.specs.declared.view.ViewFault.{ViewFault as TheFault};
 ghost use Rattle.trace_summary.specs.declared.view.ViewFault.TheVariants.{NoMemory};
 
 use entry_codec::EntryRef;
@@ -37,8 +38,18 @@ pub trait View {
     /// Those that it took.
     ghost seen: { Self → List Entry };
 
+    /// Why it takes no more.
+    ghost failed: { Self → Option TheFault };
+
+    /// Why it takes no more.
+    fn fault(&self) -> Option<ViewFault>
+        ensures { result ≡ failed self.now };
+
     /// Takes the next one, which may be a message longer than one that is stored. After a fault it takes no more.
     fn take(&mut self, entry: EntryRef<'_>) -> Result<(), ViewFault>
         ensures taken { OnOk result (seen self.new ≡ seen self.old ++ (lent entry.entry ∷ [])) }
-        ensures stays { OnErr result (seen self.new ≡ seen self.old) };
+        ensures stays { OnErr result (seen self.new ≡ seen self.old) }
+        ensures goes_on { OnOk result ((failed self.old ≡ None) × (failed self.new ≡ None)) }
+        ensures fails { IfErr result (λ fault. failed self.new ≡ Some fault) }
+        ensures ended { IsSome (failed self.old) → failed self.new ≡ failed self.old };
 }

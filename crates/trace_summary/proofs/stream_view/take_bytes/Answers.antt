@@ -39,7 +39,7 @@ returns-in_ok-take_message-clause-taken g c =
     let more = wants_more c.wanted.result held c.requires.part wanted in
     let size : c.len.result ≡ length held = search rules in
     took_front (c.wanted.result - c.len.result) c.in_ok-take_message.field-0 (g.V.View.seen c.args.view.now) (g.V.View.seen c.take_message.new.view) held c.take_message.new.pending.items bytes
-    (λ _. omega arith) c.in_ok-take_message.ensures
+    (λ _. omega arith) c.in_ok-take_message.ensures.taken
 
 pub returns-in_ok-gather-clause-taken : goal.returns-in_ok-gather-clause-taken
 returns-in_ok-gather-clause-taken g c =
@@ -49,4 +49,4 @@ returns-in_ok-gather-clause-taken g c =
     let more = wants_more c.wanted.result held c.requires.part wanted in
     let size : c.len.result ≡ length held = search rules in
     let some : 0 < length bytes → 0 < c.min.result = search rules in
-    took_front c.min.result c.in_ok-gather.field-0 (g.V.View.seen c.args.view.now) (g.V.View.seen c.gather.new.view) held c.gather.new.pending.items bytes some c.in_ok-gather.ensures
+    took_front c.min.result c.in_ok-gather.field-0 (g.V.View.seen c.args.view.now) (g.V.View.seen c.gather.new.view) held c.gather.new.pending.items bytes some c.in_ok-gather.ensures.taken
