@@ -170,10 +170,12 @@ impl Course {
         });
     }
 
-    /// Notes an entry.
+    /// Notes an entry. From the first time on, only the times matter.
     fn note(&mut self, bar: Bar) {
         self.by_time.add(self.passed, bar);
-        self.by_entry.add(self.entries, bar);
+        if self.first.is_none() {
+            self.by_entry.add(self.entries, bar);
+        }
         self.entries = self.entries.saturating_add(1);
     }
 
