@@ -42,10 +42,7 @@ fn entries_missing(count: u64) -> Many {
 }
 
 /// What an object that has no text tells, in words.
-pub fn notice_of(
-    alloc: Global,
-    object: &Option<Value<'_>>,
-) -> Result<Option<String>, AllocError> {
+pub fn notice_of(alloc: Global, object: &Option<Value<'_>>) -> Result<Option<String>, AllocError> {
     let told = |name| number(object, name).unwrap_or(0);
     let lost = messages_lost(told("dropped"));
     Ok(Some(match member(object, "kind").unwrap_or("") {

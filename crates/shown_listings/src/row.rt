@@ -163,7 +163,11 @@ fn before_in<'a>(parts: Parts<'a>, room: Room) -> (&'a [u8], &'a [u8], Room)
         Some(width) => {
             let (count, columns) = first_columns(before, width.saturating_sub(1));
             let is_whole = count == before.len();
-            let left = if is_whole { width.saturating_sub(columns) } else { 0 };
+            let left = if is_whole {
+                width.saturating_sub(columns)
+            } else {
+                0
+            };
             (&before[..count], Some(left))
         }
         None => (before, None),
