@@ -1,11 +1,12 @@
 -- What one more message does to the rows of kinds.
-use Rattle.std.proofs.Common.{◌≡◌, ℕ, ◌+◌, ◌<◌, ◌≤◌, ◌==◌, Bool, true, false, List, [], ◌∷◌, ◌++◌, Option, Some, None, refl, sym, ap, ◌∙◌, subst, arith, set, get_or, length, ltb, bytes_eq, if◌then◌else◌, suc, zero, not, ⊎_elim}
+use Rattle.std.proofs.Common.{◌≡◌, ℕ, ◌+◌, ◌<◌, ◌==◌, Bool, true, false, List, [], ◌∷◌, ◌++◌, Some, None, refl, sym, ap, ◌∙◌, subst, arith, set, get_or, length, ltb, bytes_eq, if◌then◌else◌, suc, zero}
 use borrow.Author.Tests.{ne_eqb}
 use Rattle.std.specs.Bool.{then_some}
 use Rattle.std.specs.Cmp.Lexicographic.{bytes_decides}
 use Rattle.std.specs.List.{cons_option, position, position_or_len}
-use Rattle.std.proofs.lemmas.Bool.{cases_Bool, ltb-false}
+use Rattle.std.proofs.lemmas.Bool.{ltb-false}
 use Rattle.std.proofs.lemmas.List.Quantifiers.{position-Some}
+use Rattle.std.proofs.lemmas.List.Sums.{fails_before_first}
 use Rattle.trace_text.specs.MessageFacts.{Facts}
 use Rattle.trace_summary.proofs.CountLemmas.{how_many_more}
 use Rattle.trace_summary.proofs.RowLemmas.{apart}
@@ -58,14 +59,11 @@ module _ (kind : List ℕ) where
   row_counted (first ∷ rows) (suc place) row within is same before =
       behind_other first rows _ (before 0 (omega arith)) (row_counted rows place row (omega (arith, within)) is same (λ k lt. before (suc k) (omega (arith, lt))))
 
-  abbrev IsBehind : List KindRow → Bool → Type 0
-  IsBehind rows b = suc (length rows) ≤ (if not b then 1 + position_or_len is_kind rows else 0)
-
-  row_added : (rows : List KindRow) (row : KindRow) → row.word.now ≡ kind → row.count ≡ 1 → length rows ≤ position_or_len is_kind rows → CountsOne rows (rows ++ (row ∷ []))
-  row_added [] row same one none = λ word. rw (same, one) (added (bytes_eq kind word))
-  row_added (first ∷ rows) row same one none =
-      ⊎_elim (λ y. absurd (omega (arith, subst (IsBehind rows) y none)))
-      (λ n. behind_other first rows _ n (row_added rows row same one (omega (arith, subst (IsBehind rows) n none)))) (cases_Bool (is_kind first))
+  row_added : (rows : List KindRow) (row : KindRow) → row.word.now ≡ kind → row.count ≡ 1 → ((k : ℕ) → k < length rows → is_kind (get_or rows k row) ≡ false)
+      → CountsOne rows (rows ++ (row ∷ []))
+  row_added [] row same one before = λ word. rw (same, one) (added (bytes_eq kind word))
+  row_added (first ∷ rows) row same one before =
+      behind_other first rows _ (before 0 (omega arith)) (row_added rows row same one (λ k lt. before (suc k) (omega (arith, lt))))
 
 -- the only count of a word, after one message more
 step : (b : Bool) (n : ℕ) → with_one_if b (cons_option (row_of n n) []) ≡ cons_option (row_of (n + one_if b) (n + one_if b)) []
@@ -91,9 +89,11 @@ module _ (old : List KindRow) (told : List Telling) (facts : Facts) (before : Ar
 
   -- its kind is new
   pub counted_first : (row : KindRow) → position (is_kind facts.kind) old ≡ None → row.word.now ≡ facts.kind → row.count ≡ 1 → AreKindsCounted (old ++ (row ∷ [])) (told ++ (Read facts ∷ []))
-  counted_first row none same one = all_counted _ (row_added facts.kind old row same one (go (ltb (position_or_len (is_kind facts.kind) old) (length old)) refl none))
+  counted_first row none same one = all_counted _ (row_added facts.kind old row same one (go (ltb first (length old)) refl none))
     where
-      go : (b : Bool) → ltb (position_or_len (is_kind facts.kind) old) (length old) ≡ b → (if b then Some (position_or_len (is_kind facts.kind) old) else None) ≡ None
-          → length old ≤ position_or_len (is_kind facts.kind) old
+      first : ℕ
+      first = position_or_len (is_kind facts.kind) old
+
+      go : (b : Bool) → ltb first (length old) ≡ b → (if b then Some first else None) ≡ None → (k : ℕ) → k < length old → is_kind facts.kind (get_or old k row) ≡ false
       go true e none = cc
-      go false e none = ltb-false _ _ e
+      go false e none = λ k lt. let le = ltb-false _ _ e in fails_before_first (is_kind facts.kind) old k row (omega (arith, le, lt))
