@@ -13,7 +13,7 @@ use Rattle.trace_summary.specs.declared.row.FunctionRow.{FunctionRow}
 use Rattle.trace_summary.specs.declared.row.ProcessRow.{ProcessRow}
 
 -- one message more
-how_many_more : (test : Facts → Bool) (told : List Telling) (facts : Facts) → how_many test (told ++ (Read facts ∷ [])) ≡ how_many test told + one_if (test facts)
+pub how_many_more : (test : Facts → Bool) (told : List Telling) (facts : Facts) → how_many test (told ++ (Read facts ∷ [])) ≡ how_many test told + one_if (test facts)
 how_many_more test told facts = sum_by_push _ told (Read facts)
 
 -- where one of three tests holds, a count isn't 0
@@ -245,35 +245,3 @@ processes_counted old middle new told facts does comes before process =
         go : (b : Bool) → Bounded (if b then process_counts_with facts.kind (counted_of_process process told) else counted_of_process process told)
         go true = goes_bounded (bytes_eq facts.kind (codes "receive")) (waiting_for process told) bounded
         go false = bounded
-
--- those of kinds
-pub kinds_counted : {S : Type 0} (old new : HashMap (Vec ℕ Global) ℕ S) (told : List Telling) (facts : Facts)
-    → Puts old new facts.kind (unwrap_or (row_at old facts.kind) 0 + 1)
-    → AreKindsCounted old told → AreKindsCounted new (told ++ (Read facts ∷ []))
-kinds_counted old new told facts puts before word = ⊎_elim same differs (cases_Bool (bytes_eq facts.kind word))
-  where
-    more : how_many (is_of word) (told ++ (Read facts ∷ [])) ≡ how_many (is_of word) told + one_if (bytes_eq facts.kind word)
-    more = how_many_more (is_of word) told facts
-
-    had : (n : ℕ) → unwrap_or (row_of n n) 0 ≡ n
-    had n = go (n == 0) refl
-      where
-        go : (b : Bool) → (n == 0) ≡ b → unwrap_or (row_of n n) 0 ≡ n
-        go true e = rw e (sym (eqb-true n 0 e))
-        go false e = rw e refl
-
-    some : (n : ℕ) → row_of (n + 1) (n + 1) ≡ Some (n + 1)
-    some n = let counts : (n + 1 == 0) ≡ false = ne_eqb (n + 1) 0 (λ e. omega arith) in rw counts refl
-
-    same : bytes_eq facts.kind word ≡ true → row_at new word ≡ kind_row word (told ++ (Read facts ∷ []))
-    same y =
-        let is_word : facts.kind ≡ word = (bytes_decides facts.kind word).0 y in
-        let now : how_many (is_of word) (told ++ (Read facts ∷ [])) ≡ how_many (is_of word) told + 1 = more ∙ ap (λ b. how_many (is_of word) told + one_if b) y in
-        puts word ∙ cond-true (bytes_eq facts.kind word) _ (row_at old word) y
-        ∙ ap (λ n. Some (n + 1)) (ap (λ t. unwrap_or (row_at old t) 0) is_word ∙ ap (λ o. unwrap_or o 0) (before word) ∙ had (how_many (is_of word) told))
-        ∙ sym (some (how_many (is_of word) told)) ∙ sym (ap (λ n. row_of n n) now)
-
-    differs : bytes_eq facts.kind word ≡ false → row_at new word ≡ kind_row word (told ++ (Read facts ∷ []))
-    differs n =
-        let now : how_many (is_of word) (told ++ (Read facts ∷ [])) ≡ how_many (is_of word) told = more ∙ ap (λ b. how_many (is_of word) told + one_if b) n ∙ omega arith in
-        puts word ∙ cond-false (bytes_eq facts.kind word) _ (row_at old word) n ∙ before word ∙ sym (ap (λ m. row_of m m) now)

@@ -1,4 +1,5 @@
 pub mod CountLemmas
+mod KindLemmas
 mod OpenLemmas
 pub mod RowLemmas
 mod StackLemmas

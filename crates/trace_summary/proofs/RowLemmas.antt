@@ -12,7 +12,7 @@ use Rattle.trace_summary.specs.Rows.{row_at}
 abbrev pub key_eq : Vec ℕ Global → Vec ℕ Global → Bool
 key_eq a b = bytes_eq a.items b.items
 
-apart : (text other key : List ℕ) → bytes_eq text other ≡ false → bytes_eq text key ≡ true → bytes_eq other key ≡ false
+pub apart : (text other key : List ℕ) → bytes_eq text other ≡ false → bytes_eq text key ≡ true → bytes_eq other key ≡ false
 apart text other key n y = nat_list_eq_equiv.symm other key ∙ sym (nat_list_eq_equiv.congr text key other y) ∙ n
 
 module _ {R S : Type 0} (text : List ℕ) (old new : HashMap (Vec ℕ Global) R S) where

@@ -1,12 +1,15 @@
 -- Rows under the texts that they are for.
-use Rattle.std.specs.Prelude.{◌≡◌, ℕ, ◌+◌, Bool, ◌||◌, Option, Some, None, List, Vec, codes, if◌then◌else◌}
+use Rattle.std.specs.Prelude.{◌≡◌, ℕ, ◌+◌, Bool, ◌||◌, Option, Some, None, List, [], Vec, codes, if◌then◌else◌}
 use Rattle.std.specs.declared.alloc.Global.{Global}
+use Rattle.std.specs.Bool.{then_some}
 use Rattle.std.specs.HashMap.{HashMap, get_by}
+use Rattle.std.specs.List.{cons_option, filter_map}
 use Rattle.std.specs.Map.{update}
 use Rattle.std.specs.Option.{option_map, unwrap_or}
 use Rattle.std.specs.Str.{bytes_eq}
 use Rattle.trace_text.specs.MessageFacts.{Facts}
 use Rattle.trace_summary.specs.Counting.{Telling, Waiting, none_waits, one_comes, goes_if, FunctionCounts, ProcessCounts, function_row, process_row, kind_row}
+use Rattle.trace_summary.specs.declared.messages.KindRow.{KindRow}
 use Rattle.trace_summary.specs.declared.row.FunctionRow.{FunctionRow}
 use Rattle.trace_summary.specs.declared.row.ProcessRow.{ProcessRow}
 use Rattle.trace_summary.specs.declared.row.Waiting.{Waiting as TheWaiting}
@@ -98,6 +101,10 @@ module _ {S : Type 0} where
   abbrev pub AreProcessesCounted : HashMap (Vec ℕ Global) ProcessRow S → List Telling → Type 0
   AreProcessesCounted rows told = (process : List ℕ) → option_map counts_of_process (row_at rows process) ≡ process_row process told
 
-  -- each kind
-  abbrev pub AreKindsCounted : HashMap (Vec ℕ Global) ℕ S → List Telling → Type 0
-  AreKindsCounted rows told = (word : List ℕ) → row_at rows word ≡ kind_row word told
+-- the counts of the rows of a kind, by its word
+abbrev pub counts_under : List KindRow → List ℕ → List ℕ
+counts_under rows word = filter_map (λ row. then_some (bytes_eq row.word.now word) row.count) rows
+
+-- each kind has the one row that these messages give it
+abbrev pub AreKindsCounted : List KindRow → List Telling → Type 0
+AreKindsCounted rows told = (word : List ℕ) → counts_under rows word ≡ cons_option (kind_row word told) []

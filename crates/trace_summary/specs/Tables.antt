@@ -2,7 +2,7 @@
 use Rattle.std.specs.Prelude.{◌≡◌, IsPermutation}
 use Rattle.command_line.specs.declared.ranking.Grouping.{Grouping}
 use Rattle.command_line.specs.declared.ranking.Grouping.TheVariants as by
-use Rattle.trace_summary.specs.Lines.{row_pairs, line_pairs}
+use Rattle.trace_summary.specs.Lines.{row_pairs, kind_pairs, line_pairs}
 use Rattle.trace_summary.specs.declared.table.Rows.{Rows}
 use Rattle.trace_summary.specs.declared.table.Rows.TheVariants as rows
 use Rattle.trace_summary.specs.declared.table.Table.{Table}
@@ -12,7 +12,7 @@ use Rattle.trace_summary.specs.declared.tallies.Tallies.{Tallies}
 abbrev pub HasEachRow : Tallies → Grouping → Rows → Type 0
 HasEachRow tallies by.Function (rows.Functions lines) = IsPermutation (row_pairs tallies.functions.rows.entries) (line_pairs lines.items)
 HasEachRow tallies by.Process (rows.Processes lines) = IsPermutation (row_pairs tallies.processes.rows.entries) (line_pairs lines.items)
-HasEachRow tallies by.Kind (rows.Kinds lines) = IsPermutation (row_pairs tallies.kinds.rows.entries) (line_pairs lines.items)
+HasEachRow tallies by.Kind (rows.Kinds lines) = IsPermutation (kind_pairs tallies.kinds.rows.items) (line_pairs lines.items)
 HasEachRow tallies grouping lines = ⊥
 
 -- and how many messages there are, and were lost

@@ -1,7 +1,8 @@
 //! The rows of a table, in order.
 ghost use Rattle.std.specs.Prelude.{◌≡◌, IfOk, IsPermutation};
-ghost use Rattle.trace_summary.specs.Lines.{line_pairs, row_pairs};
+ghost use Rattle.trace_summary.specs.Lines.{kind_pairs, line_pairs, row_pairs};
 
+use crate::messages::KindRow;
 use crate::row::{FunctionRow, ProcessRow};
 use command_line::Order;
 use std::alloc::{AllocError, Global};
@@ -34,12 +35,6 @@ impl Ranked for ProcessRow {
     }
 }
 
-impl Ranked for u64 {
-    fn rank(&self, _order: Order) -> u64 {
-        *self
-    }
-}
-
 /// A row, with the text that it is for.
 #[derive(Clone, Copy)]
 pub struct Line<'t, R> {
@@ -57,7 +52,33 @@ pub fn lines_of<R: Ranked + Drop>(
     ensures { IfOk result (λ lines.
         IsPermutation (row_pairs rows.now.entries) (line_pairs lines.items)) }
 {
-    let mut lines = unordered(alloc, rows, order)?;
+    let lines = unordered(alloc, rows, order)?;
+    in_order(lines)
+}
+
+/// A line for each kind, in the same order.
+pub fn lines_of_kinds(
+    alloc: Global,
+    rows: &[KindRow],
+) -> Result<Vec<Line<'static, u64>>, AllocError>
+    ensures { IfOk result (λ lines. IsPermutation (kind_pairs rows.now) (line_pairs lines.items)) }
+{
+    let mut lines = Vec::new(alloc);
+    for row in rows {
+        lines.push(Line {
+            rank: row.count,
+            text: row.word.as_bytes(),
+            row: row.count,
+        })?;
+    }
+    in_order(lines)
+}
+
+/// The lines, the greatest first, and those that are equal by their texts.
+fn in_order<R: Drop>(mut lines: Vec<Line<'_, R>>) -> Result<Vec<Line<'_, R>>, AllocError>
+    ensures { IfOk result (λ ordered.
+        IsPermutation (line_pairs lines.entry.items) (line_pairs ordered.items)) }
+{
     lines.sort_by(|one, other| {
         other
             .rank

@@ -1,52 +1,63 @@
 //! The kinds of messages in a trace.
-ghost use Rattle.std.specs.Prelude.{◌+◌, [], List, OnOk};
-ghost use Rattle.std.specs.Option.{unwrap_or};
+ghost use Rattle.std.specs.Prelude.{◌≡◌, [], List, OnOk};
+ghost use Rattle.std.specs.List.{position};
+ghost use Rattle.std.specs.Str.{bytes_eq};
 ghost use Rattle.trace_summary.specs.Counting.{Telling, with_read};
-ghost use Rattle.trace_summary.specs.Rows.{AreKindsCounted, Puts, row_at as the_row_at};
+ghost use Rattle.trace_summary.specs.Rows.{AreKindsCounted};
 
-use crate::rows::put_new;
 use crate::tallies::one_more;
 use crate::view::ViewFault;
 use std::alloc::Global;
-use std::collections::HashMap;
 use trace_text::MessageFacts;
 
-/// How many messages there are of each kind, under the kind's word.
+/// How many messages there are of a kind.
+#[derive(Clone, Copy)]
+pub struct KindRow {
+    /// The kind's word.
+    pub word: &'static str,
+    pub count: u64,
+}
+
+/// The kinds, in the order in which they were met. They are few, so each is looked at until the one is found.
 #[derive(Drop)]
 pub struct Kinds {
-    alloc: Global,
-    pub rows: HashMap<Vec<u8>, u64>,
+    pub rows: Vec<KindRow>,
 }
 
 impl Kinds {
     /// None yet.
     pub fn new(alloc: Global) -> Kinds
-        ensures { AreKindsCounted result.rows [] }
+        ensures { AreKindsCounted result.rows.items [] }
     {
         Kinds {
-            alloc,
-            rows: HashMap::new(alloc),
+            rows: Vec::new(alloc),
         }
     }
 
     /// Counts a message that was read.
     pub fn count(&mut self, facts: &MessageFacts<'_>) -> Result<(), ViewFault>
-        ensures { (told : List Telling) → AreKindsCounted self.old.rows told
-            → OnOk result (AreKindsCounted self.new.rows (with_read told facts.now)) }
+        ensures { (told : List Telling) → AreKindsCounted self.old.rows.items told
+            → OnOk result (AreKindsCounted self.new.rows.items (with_read told facts.now)) }
     {
-        self.count_one(facts.kind)
-    }
-
-    /// Counts a message of this kind.
-    fn count_one(&mut self, kind: &str) -> Result<(), ViewFault>
-        ensures { OnOk result (Puts self.old.rows self.new.rows kind.now
-            (unwrap_or (the_row_at self.old.rows kind.now) 0 + 1)) }
-    {
-        let kind = kind.as_bytes();
-        if let Some(count) = self.rows.get_mut(kind) {
-            *count = one_more(*count)?;
+        if let Some(place) = self.place_of(facts.kind) {
+            let row = &mut self.rows[place];
+            row.count = one_more(row.count)?;
             return Ok(());
         }
-        put_new(&mut self.rows, self.alloc, kind, 1, usize::MAX)
+        let row = KindRow {
+            word: facts.kind,
+            count: 1,
+        };
+        match self.rows.push(row) {
+            Ok(()) => Ok(()),
+            Err(_) => Err(ViewFault::NoMemory),
+        }
+    }
+
+    /// Where the row of a kind is.
+    fn place_of(&self, kind: &str) -> Option<usize>
+        ensures { result ≡ position (λ row. bytes_eq row.word.now kind.now) self.now.rows.items }
+    {
+        self.rows.iter().position(|row| row.word == kind)
     }
 }

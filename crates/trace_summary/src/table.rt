@@ -4,7 +4,7 @@ ghost use Rattle.trace_summary.specs.Tables.{HasEachRow, IsTableOf};
 
 use crate::bars::{Bar, Bars};
 use crate::cells::{Figure, Shown};
-use crate::lines::{Line, lines_of};
+use crate::lines::{Line, lines_of, lines_of_kinds};
 use crate::row::{FunctionRow, ProcessRow};
 use crate::tallies::{Span, Tallies};
 use command_line::{Grouping, Order, Ranking};
@@ -108,7 +108,7 @@ impl Tallies {
         Ok(match by {
             Grouping::Function => Rows::Functions(lines_of(alloc, &self.functions.rows, order)?),
             Grouping::Process => Rows::Processes(lines_of(alloc, &self.processes.rows, order)?),
-            Grouping::Kind => Rows::Kinds(lines_of(alloc, &self.kinds.rows, order)?),
+            Grouping::Kind => Rows::Kinds(lines_of_kinds(alloc, &self.kinds.rows)?),
         })
     }
 }

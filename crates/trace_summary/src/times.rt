@@ -3,8 +3,8 @@
 /// What the text of a message with a time begins with.
 const TAG: &[u8; 10] = b"{trace_ts,";
 
-/// A number below it has room for one more digit.
-const LARGE: u64 = 1_000_000_000_000_000_000;
+/// The most digits of a number in i64.
+const MOST_DIGITS: usize = 19;
 
 /// The time stamp of a message with this text, in nanoseconds, where its tag is `trace_ts`: from the time
 /// `{MegaSecs,Secs,MicroSecs}`, from the monotonic time, or from `{Monotonic,Unique}`. None where there is none, and where it
@@ -55,30 +55,21 @@ fn last_number(text: &[u8]) -> Option<(i64, &[u8])> {
     }
 }
 
-/// The number that the digits at the end of a text are, and what stands before them.
+/// The number that the digits at the end of a text are, and what stands before them. None where there are none, and where there
+/// are more than any number in i64 has. The greatest number of so many digits is below 2^64, so it is counted without wrapping.
 fn last_digits(text: &[u8]) -> Option<(u64, &[u8])> {
+    let mut number: u64 = 0;
+    let mut unit: u64 = 1;
     let mut before = text;
-    while let [front @ .., b'0'..=b'9'] = before {
+    while let [front @ .., digit @ b'0'..=b'9'] = before {
+        number = number.wrapping_add(unit.wrapping_mul(u64::from(digit & 0x0F)));
+        unit = unit.wrapping_mul(10);
         before = front;
     }
-    match text.get(before.len()..)? {
-        [] => None,
-        digits => Some((number_of(digits)?, before)),
+    match text.len() - before.len() {
+        1..=MOST_DIGITS => Some((number, before)),
+        _ => None,
     }
-}
-
-/// The number that digits are.
-fn number_of(digits: &[u8]) -> Option<u64> {
-    let mut number: u64 = 0;
-    for digit in digits {
-        let unit = u64::from(digit & 0x0F);
-        number = if number < LARGE {
-            number * 10 + unit
-        } else {
-            number.checked_mul(10)?.checked_add(unit)?
-        };
-    }
-    Some(number)
 }
 
 /// The nanoseconds from one time to another, where both are told; 0 where that is before.
