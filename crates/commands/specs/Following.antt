@@ -30,7 +30,7 @@ use Rattle.commands.specs.declared.following.Seen.{Seen}
 use Rattle.commands.specs.declared.following.Seen.TheVariants as seen
 
 abbrev pub style_in : Follower → Style
-style_in follower = follower.lister.apart.style
+style_in follower = follower.lister.writer.apart.style
 
 abbrev pub number_in : Follower → ℕ
 number_in follower = follower.lister.number
