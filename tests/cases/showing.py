@@ -86,10 +86,15 @@ def times_are_told_since_the_first_or_the_last(program):
     shows(program, expected + END, "--relative", "--only", "return")
 
 
+def monotonic(nanos):
+    """A send at a time of a monotonic clock."""
+    sent = sends(1)[5:].removeprefix(b"\x83\x68\x05\x77\x05trace")
+    return message(b"\x83\x68\x06\x77\x08trace_ts" + sent + whole(nanos))
+
+
 @case
 def monotonic_times_are_told_since_the_first(program):
-    sent = sends(1)[5:].removeprefix(b"\x83\x68\x05\x77\x05trace")
-    entries = [message(b"\x83\x68\x06\x77\x08trace_ts" + sent + whole(nanos)) for nanos in (-5, 1_000_000_000)]
+    entries = [monotonic(nanos) for nanos in (-5, 1_000_000_000)]
     program.good("import", "t", stdin=b"".join(entries))
     text = "{trace_ts,<n@h.1.0.1>,send,7,<n@h.99.0.1>,%d}"
     shows(program, row(0, "+0.000000000", "send", text % -5) + row(1, "+1.000000005", "send", text % 1_000_000_000) + END)
@@ -370,6 +375,73 @@ def the_last_rows_of_what_is_there_are_shown_and_then_what_is_added(program):
         same(follower.end().output.decode(), rows(chosen=(3, 4)) + END)
         expected = row(3, TIMES[3], "return", TOOK[3] + TEXTS[3]) + row(4, TIMES[4], "return", TEXTS[4])
         same(both.end().output.decode(), expected + END)
+
+
+# more entries than are listed for a few of the last rows
+MANY = 12_000
+
+
+def rows_of(program, name, *words):
+    return program.good("show", name, *words).decode().splitlines()
+
+
+@case
+def the_last_rows_of_a_long_trace_are_those_of_the_whole(program):
+    late = [sends(1, NOON + n) for n in range(MANY)]
+    entries = [call(2, "early", NOON)] + [drop(1)] * 4 + late + [call(3, "late", NOON + MANY), drop(2)]
+    program.good("import", "t", stdin=b"".join(entries))
+    for words in ([], ["--only", "call"], ["--grep", "early"], ["--grep", "m,late"], ["--only", "call", "--grep", "late"], ["--from", "2"], ["--from", str(MANY)], ["--to", "9"], ["--delta"], ["--relative"]):
+        found = rows_of(program, "t", *words)
+        for count in (1, 2, 3, 20):
+            rest = count + 1 if found[-1] + "\n" == END else count
+            same(rows_of(program, "t", *words, "--last", str(count)), found[-rest:])
+
+
+@case
+def the_last_rows_of_a_long_wrap_are_those_of_the_whole(program):
+    entries = [sends(1, NOON + n) for n in range(4 * MANY)]
+    size = len(entries[0]) * MANY // 2
+    program.good("import", "w", "--kind", "wrap", "--size", str(size), "--count", "4", stdin=b"".join(entries))
+    found = rows_of(program, "w")
+    assert found[0].startswith("-- the trace begins at entry "), found[0]
+    assert len(found) > MANY, len(found)
+    same(rows_of(program, "w", "--last", "3"), found[-4:])
+    same(rows_of(program, "w", "--last", str(len(found))), found)
+
+
+@case
+def what_is_open_before_the_last_entries_is_not_known_to_them(program):
+    late = [sends(1, NOON + n) for n in range(MANY)]
+    program.good("import", "t", stdin=b"".join([call(1, "f", NOON)] + late + [returns(1, "f", NOON + MANY)]))
+    text = return_text(1, "f", NOON + MANY)
+    same(rows_of(program, "t")[-2] + "\n", row(MANY + 1, "12:04:31.135456", "return", "(0.012000 s) " + text))
+    shows(program, row(MANY + 1, "12:04:31.135456", "return", text) + END, "--last", "1")
+    # where all is listed, so it is
+    shows(program, row(MANY + 1, "+0.012000", "return", "(0.012000 s) " + text) + END, "--last", "1", "--relative")
+
+
+@case
+def the_last_rows_of_a_monotonic_clock_are_told_since_the_first_of_all(program):
+    entries = [monotonic(n * 1_000) for n in range(MANY)]
+    program.good("import", "t", stdin=b"".join(entries))
+    found = rows_of(program, "t")
+    same(found[-2][8:23].strip(), f"+0.{(MANY - 1) * 1_000:09}")
+    same(rows_of(program, "t", "--last", "3"), found[-4:])
+    # since the row before, but for the first that is listed
+    same(rows_of(program, "t", "--last", "3", "--delta"), rows_of(program, "t", "--delta")[-4:])
+
+
+@case
+def a_long_trace_that_is_damaged_is_told_as_without_its_last_rows(program):
+    program.good("import", "t", stdin=b"".join(sends(1, NOON + n) for n in range(MANY)))
+    path = program.folder / "t"
+    data = bytearray(path.read_bytes())
+    data[len(data) // 2] ^= 1
+    path.write_bytes(data)
+    whole, last = program.run("show", "t"), program.run("show", "t", "--last", "3")
+    same((last.status, last.errors), (whole.status, whole.errors))
+    same(last.status, 1)
+    same(last.output.decode().splitlines(), whole.output.decode().splitlines()[-3:])
 
 
 @case

@@ -3,6 +3,7 @@ pub mod Bounds
 pub mod Telling
 pub mod Exported
 pub mod Viewed
+pub mod LookedAhead
 pub mod Naming
 pub mod Failing
 pub mod Readings

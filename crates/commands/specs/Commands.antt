@@ -204,7 +204,7 @@ Changes _ = Unit {0}
 -- what is done with a trace for what the command line asks and how it is to be shown, by what is seen of the stream that comes in, what is observed until the end, and the bytes that are written
 abbrev pub Serves : TraceRequest → Shown → Files → Files → Outside → Observations → Option (List ℕ) → Option (List ℕ) → Result Unit Complaint → Type 0
 Serves (requests.List asked is_pretty) shown old new saw observed was now result = (style : Style) × IsStyleOf is_pretty shown style
-    × LooksOver old.store new.store (most_with result (most_to_read (reads_of old.store)) (reads_of old.store)) (IsRead (as_lines style) (IsToldAt old.place new.store) (reads_of old.store) was now result)
+    × LooksOver old.store new.store (most_with result (most_to_read (reads_of old.store)) (reads_of old.store)) (IsRead (as_lines style) (IsToldAt old.place new.store) (reads_of old.store) was now result) × (new.place ≡ old.place)
 Serves (requests.Export asked) shown old new saw observed was now result = LooksOver old.store new.store (most_with result (most_to_read (reads_of old.store)) (reads_of old.store)) (IsRead (as_bytes (asks_shown shown)) (IsToldAt old.place new.store) (reads_of old.store) was now result)
 Serves (requests.Salvage asked form) shown old new saw observed was now result = (out : Form) × IsWrittenAs form shown out
     × LooksOver old.store new.store (most_to_salvage (reads_of old.store)) (IfErr result (IsSalvage out (IsToldAt old.place new.store) (Rose (failures_of old.store) (failures_of new.store)) (reads_of old.store) was now)) × IsErr result × IfErr result (λ complaint. status_told complaint ≡ 1)

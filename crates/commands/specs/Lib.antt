@@ -7,6 +7,7 @@ pub mod Viewing
 pub mod Commands
 pub mod Following
 pub mod Sites
+pub mod Later
 pub mod Serving
 pub mod Salvaging
 pub mod Openings

@@ -1,5 +1,5 @@
 -- What is done with a trace or a stream for the words of a command line, and how it is shown.
-use Rattle.std.specs.Prelude.{◌≡◌, ℕ, Bool, true, false, Option, Some, None, List, [], Result, Ok, Err, IfSome}
+use Rattle.std.specs.Prelude.{◌≡◌, ◌⊎◌, ℕ, Bool, true, false, Option, Some, None, List, [], Result, Ok, Err, IfSome}
 use Rattle.std.specs.Io.KnownBytes.{Appends, Keeps}
 use Rattle.stores.specs.Events.{World}
 use Rattle.stores.specs.FolderStore.{locked_of}
@@ -16,7 +16,8 @@ use Rattle.import.specs.Incoming.{Outside, outside}
 use Rattle.commands.specs.Sites.{asked_in, IsAtPlace, AgreesOn, NamesTrace}
 use Rattle.faults.specs.declared.complaint.Complaint.{Complaint}
 use Rattle.commands.specs.declared.files.Files.{Files}
-use Rattle.shown_listings.specs.Listings.{Listing, Shows}
+use Rattle.shown_listings.specs.Listings.{Listing, Shows, ShowsFrom}
+use Rattle.commands.specs.Later.{MayBeginLater, LooksAhead, IsShownFrom}
 use Rattle.trace_client.specs.Streams.{IsListed}
 use Rattle.commands.specs.declared.serving.Task.{Task}
 use Rattle.commands.specs.declared.serving.Task.TheVariants as tasks
@@ -50,10 +51,17 @@ pub data ServesFiles (world : World) (request : TraceRequest) (shown : Shown) (h
       → ServesFiles world request shown had was now result (Some left)
   no_files : (complaint : Complaint) → status_told complaint ≡ 1 → Keeps was now → ServesFiles world request shown had was now (Err complaint) None
 
--- the same, and what is done with them is shown so
+-- What is done with the files of a trace is shown so, where last rows alone are to be shown perhaps after a look ahead; or these
+-- were shown by a listing that begins with a later entry.
+pub data ShowsTrace (request : TraceRequest) (shown : Shown) (had : Option (List ℕ)) (files : Files) (left : Served) (result : Result Unit Complaint) (was now : Option (List ℕ)) : Type 0 where
+  shown_all : (mid : Files) → (mid ≡ files) ⊎ (MayBeginLater request shown × LooksAhead files mid) → Shows shown (ServesTrace request shown mid (outside had 0 []) left.files left.observed.notes) result was now
+      → ShowsTrace request shown had files left result was now
+  shown_from : (mid : Files) (first : ℕ) (later : Shown) → MayBeginLater request shown → LooksAhead files mid → IsShownFrom first shown later
+      → ShowsFrom first shown.layout (ServesTrace request later mid (outside (Some []) 0 []) left.files left.observed.notes) (Some result) was now → ShowsTrace request shown had files left result was now
+
+-- files were made for what is asked, and what is done with them is shown so, and they are left; or none could be had, and nothing is written
 pub data ListsFiles (world : World) (request : TraceRequest) (shown : Shown) (had was now : Option (List ℕ)) : Result Unit Complaint → Option Served → Type 0 where
-  listed : {result : Result Unit Complaint} (files : Files) (left : Served) → AreMade world request files → Shows shown (ServesTrace request shown files (outside had 0 []) left.files left.observed.notes) result was now
-      → ListsFiles world request shown had was now result (Some left)
+  listed : {result : Result Unit Complaint} (files : Files) (left : Served) → AreMade world request files → ShowsTrace request shown had files left result was now → ListsFiles world request shown had was now result (Some left)
   not_listed : (complaint : Complaint) → status_told complaint ≡ 1 → Keeps was now → ListsFiles world request shown had was now (Err complaint) None
 
 -- files were made for what is asked, and they were followed and shown so, and are left; or none could be had, and nothing is written

@@ -175,11 +175,12 @@ fn read_trace<W: Write, H: Host>(
     output_form: OutputForm<'_>,
     watched: &mut Watched<'_, W, H>,
 ) -> Result<(), Complaint>
-    ensures { LooksOver files.old.store files.new.store
+    ensures read { LooksOver files.old.store files.new.store
         (most_with result (most_to_read (reads_of files.old.store)) (reads_of files.old.store))
         (IsRead (form_of output_form.entry) (IsToldAt files.old.place files.new.store)
         (reads_of files.old.store) (W.contents watched.old.writer.now)
         (W.contents watched.new.writer.now) result) }
+    ensures place { files.new.place ≡ files.old.place }
 {
     let done = read_live(files, output_form, watched);
     let flushed = watched.flush();

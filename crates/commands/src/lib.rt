@@ -1,7 +1,8 @@
 //! The commands of dbgrec over the real files of a trace, and the listing of a stream of entries, as a node writes it.
 //!
 //! `serve_files` does with a trace what is asked, of the entries that a choice asks for (`ServesFiles`), `list_files` also
-//! shows its listing (`ListsFiles`), and `follow_files` goes on with what is added, and may wait for ever (`FollowsFiles`).
+//! shows its listing (`ListsFiles`), the last rows alone from an entry near the end on where that shows enough
+//! (`ShowsTrace`), and `follow_files` goes on with what is added, and may wait for ever (`FollowsFiles`).
 //! Each hands on the files and what was observed until then (`Served`). Their files are locked exactly where they are to be
 //! changed (`AreMade`); where there are none to be had, nothing is written and the exit status is 1. What is done is `Serves`,
 //! by the request: `Records`; `Feeds`, an import; `IsRead`, a listing or export; `IsSalvage`; `IsInfo`; `IsTop`, `IsFold`,
@@ -21,6 +22,7 @@ mod files;
 mod following;
 mod importing;
 mod informing;
+mod later;
 mod live;
 mod opening;
 mod reading;

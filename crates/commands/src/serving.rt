@@ -1,20 +1,23 @@
 //! What is asked of a stored trace, done and shown.
-ghost use Rattle.std.specs.Prelude.{◌≡◌, ℕ, List, Option, IfOk, IfErr};
+ghost use Rattle.std.specs.Prelude.{◌≡◌, ℕ, List, [], Option, IfOk, IfErr};
 ghost use Rattle.command_line.specs.declared.request.TraceRequest.TheVariants as asks;
 ghost use Rattle.faults.specs.Complaints.{status_told};
 ghost use Rattle.stores.specs.Events.{World};
 ghost use Rattle.import.specs.Incoming.{outside};
-ghost use Rattle.commands.specs.Serving.{Does, AreMade, ServesFiles, ListsFiles, FollowsFiles};
+ghost use Rattle.shown_listings.specs.Listings.{Shows};
+ghost use Rattle.commands.specs.Later.{MayBeginLater};
+ghost use Rattle.commands.specs.Serving.{Does, ServesTrace, ShowsTrace, AreMade, ServesFiles, ListsFiles, FollowsFiles};
 
 use crate::awaiting::await_trace;
 use crate::commands::serve_trace;
 use crate::files::Files;
 use crate::following::serve_following;
+use crate::later::{entries_for, last_of, not_before, shown_as_asked, shown_from, start_asked};
 use crate::sites::files_for;
 use command_line::{Asked, Shown, TraceRequest};
 use faults::Complaint;
-use shown_listings::{Console, Listable, Output, console_for, show, taken};
-use std::io::{Read, Write};
+use shown_listings::{Console, Listable, Output, console_for, show, show_from, taken};
+use std::io::{self, Read, Write};
 use std::mem;
 use std::sync::Wait;
 use trace_reader::{Observed, Watched};
@@ -39,6 +42,8 @@ struct TraceListing<'a> {
     task: Task<'a>,
     files: Files<'a>,
     console: Console,
+    /// Its end is told to a terminal.
+    is_told: bool,
 }
 
 /// Does it, and writes what comes of it.
@@ -62,13 +67,9 @@ fn do_with<R: Wait, I: Read + Drop, W: Write>(
     }
 }
 
-fn is_list(task: &Task<'_>) -> bool {
-    matches!(task, Task::Asked(TraceRequest::List { .. }))
-}
-
 /// Tells at the end of a listing whether more may come.
-fn tell_end(files: &Files<'_>, is_listed: bool, done: &Result<(), Complaint>) {
-    if is_listed && done.is_ok() {
+fn tell_end(files: &Files<'_>, is_told: bool, done: &Result<(), Complaint>) {
+    if is_told && done.is_ok() {
         files.tell_state();
     }
 }
@@ -116,10 +117,10 @@ impl<'a> Listable for TraceListing<'a> {
             task,
             mut files,
             console,
+            is_told,
         } = self;
-        let is_listed = is_list(&task);
         let (done, observed) = do_over(waiter, task, shown, &mut files, console, input, output);
-        tell_end(&files, is_listed, &done);
+        tell_end(&files, is_told, &done);
         (done, Served { files, observed })
     }
 }
@@ -147,7 +148,81 @@ pub fn serve_files<'a, R: Wait, I: Read + Drop, W: Output>(
     (done, Some(Served { files, observed }))
 }
 
-/// Does the same, and of what is listed so shows the lines that are chosen, as they are or as objects.
+/// What is asked of a trace, to be shown.
+fn listing_of<'a>(
+    rt: &HostRuntime,
+    request: TraceRequest<'a>,
+    files: Files<'a>,
+    is_told: bool,
+) -> TraceListing<'a>
+    ensures task { result.task ≡ Task.Asked request.entry }
+    ensures files { result.files ≡ files.entry }
+    ensures unobserved { result.console.observed.notes ≡ [] }
+{
+    let console = console_for(rt, &request);
+    TraceListing {
+        task: Task::Asked(request),
+        files,
+        console,
+        is_told,
+    }
+}
+
+/// Does with a trace what is asked, and shows all that is listed so.
+fn show_all<'a, R: Wait, I: Read + Drop, W: Output>(
+    rt: &HostRuntime,
+    waiter: &R,
+    request: TraceRequest<'a>,
+    shown: Shown,
+    files: Files<'a>,
+    input: I,
+    output: &mut W,
+) -> (Result<(), Complaint>, Served<'a>)
+    ensures { Shows shown (ServesTrace request.entry shown files.entry
+        (outside (I.remaining input) 0 []) result.1.files result.1.observed.notes) result.0
+        (W.contents output.old) (W.contents output.new) }
+{
+    let is_list = matches!(request, TraceRequest::List { .. });
+    let listing = listing_of(rt, request, files, is_list);
+    show(rt, waiter, listing, shown, input, output)
+}
+
+/// Shows the last rows of a trace: its listing begins near the end where enough of them come from there on, and else at the
+/// beginning.
+fn show_last<'a, R: Wait, I: Read + Drop, W: Output>(
+    rt: &HostRuntime,
+    waiter: &R,
+    request: TraceRequest<'a>,
+    shown: Shown,
+    last: u32,
+    files: Files<'a>,
+    input: I,
+    output: &mut W,
+) -> (Result<(), Complaint>, Served<'a>)
+    requires { MayBeginLater request shown }
+    ensures { ShowsTrace request.entry shown (I.remaining input) files.entry result.1 result.0
+        (W.contents output.old) (W.contents output.new) }
+{
+    let mut files = files;
+    let Some(first) = files.entry_before_end(entries_for(last)) else {
+        return show_all(rt, waiter, request, shown, files, input, output);
+    };
+    let first = not_before(&shown.choice, first);
+    let start = start_asked(&shown.choice);
+    let later = shown_from(rt.alloc(), shown, first);
+    let listing = listing_of(rt, request, files, false);
+    let (told, left) = show_from(rt, waiter, listing, &later, first, io::empty(), output);
+    if let Some(done) = told {
+        tell_end(&left.files, true, &done);
+        return (done, left);
+    }
+    let Served { mut files, .. } = left;
+    files.reopen();
+    let shown = shown_as_asked(later, start);
+    show_all(rt, waiter, request, shown, files, input, output)
+}
+
+/// Does the same as `serve_files`, and of what is listed so shows the lines that are chosen, as they are or as objects.
 pub fn list_files<'a, R: Wait, I: Read + Drop, W: Output>(
     rt: &HostRuntime,
     waiter: &R,
@@ -164,13 +239,11 @@ pub fn list_files<'a, R: Wait, I: Read + Drop, W: Output>(
         Ok(files) => files,
         Err(complaint) => return (Err(complaint), None),
     };
-    let console = console_for(rt, &request);
-    let listing = TraceListing {
-        task: Task::Asked(request),
-        files,
-        console,
-    };
-    let (done, left) = show(rt, waiter, listing, shown, input, output);
+    if let Some(last) = last_of(&request, &shown) {
+        let (done, left) = show_last(rt, waiter, request, shown, last, files, input, output);
+        return (done, Some(left));
+    }
+    let (done, left) = show_all(rt, waiter, request, shown, files, input, output);
     (done, Some(left))
 }
 
@@ -212,6 +285,7 @@ pub fn follow_files<'a, R: Wait, I: Read + Drop, W: Output>(
         task: Task::Followed { is_pretty },
         files,
         console: Console::new(*rt, true),
+        is_told: false,
     };
     let (done, left) = show(rt, waiter, listing, shown, input, output);
     (done, Some(left))

@@ -2,3 +2,4 @@ pub mod Ends
 pub mod Growth
 pub mod Listings
 pub mod Rows
+pub mod Since

@@ -1,5 +1,5 @@
 -- The rows of a listing for people, one for a line.
-use Rattle.std.specs.Prelude.{◌≡◌, ◌≢◌, ℕ, suc, ◌-◌, Bool, true, false, ◌||◌, ◌==◌, nat_lt, Option, Some, None, OnSome, List, [], ◌∷◌, ◌++◌, map, take, drop, length, codes, if◌then◌else◌, option_and_then, IfSome, IsUtf8, bytes_eq}
+use Rattle.std.specs.Prelude.{◌≡◌, ◌≢◌, ◌≤◌, ℕ, suc, ◌-◌, Bool, true, false, ◌||◌, ◌==◌, nat_lt, Option, Some, None, OnSome, List, [], ◌∷◌, ◌++◌, map, take, drop, length, codes, if◌then◌else◌, option_and_then, IfSome, IsUtf8, bytes_eq}
 use Rattle.std.specs.declared.vec.Vec.{Vec}
 use Rattle.std.specs.declared.alloc.Global.{Global}
 use Rattle.std.specs.List.{All}
@@ -9,6 +9,7 @@ use Rattle.std.specs.Io.KnownBytes.{Appends}
 use Rattle.shown_listings.specs.Ends.{text_of_lines, counted}
 use Rattle.shown_listings.specs.declared.given.Given.{Given}
 use Rattle.shown_listings.specs.declared.look.Rule.{Rule}
+use Rattle.shown_listings.specs.Since.{IsFrom}
 use Rattle.trace_text.specs.Objects.{object_text, end_members}
 use Rattle.json.specs.Json.{document}
 use Rattle.json.specs.Find.{get, as_str}
@@ -83,27 +84,51 @@ pub data ComesBehind (follows : Bool) : List (List ℕ) → Type 0 where
   added : (lines : List (List ℕ)) → follows ≡ true → ComesBehind follows lines
   ended : (line : List ℕ) (lines : List (List ℕ)) → is_end line ≡ true → ComesBehind follows (line ∷ lines)
 
--- of the first lines the last n rows are shown, of the others each row that they have
-pub record HaveLastFirst (n : ℕ) (each cut follows : Bool) (lines rows : List (List ℕ)) : Type 0 where
+-- of the rows of lines at least n, the last, are of a line from an entry on and of those behind that line
+pub record HaveEnough (entry n : ℕ) (each cut : Bool) (lines rows : List (List ℕ)) : Type 0 where
+  pub before : List (List ℕ)
+  pub line : List ℕ
+  pub behind : List (List ℕ)
+  pub earlier : List (List ℕ)
+  pub later : List (List ℕ)
+  pub lines_are : lines ≡ before ++ line ∷ behind
+  pub rows_are : rows ≡ earlier ++ later
+  pub from : IsFrom entry line
+  pub have : HaveRows each cut (line ∷ behind) later
+  pub enough : n ≤ length later
+
+-- Of the first lines the last n rows are shown, of the others each row that they have. Where the last are sought from an entry on,
+-- the first lines have as many from there on.
+pub record HaveLastFirst (n : ℕ) (rule : Rule) (lines rows : List (List ℕ)) : Type 0 where
   pub first : List (List ℕ)
   pub others : List (List ℕ)
   pub shown : List (List ℕ)
   pub more : List (List ℕ)
   pub lines_are : lines ≡ first ++ others
   pub rows_are : rows ≡ shown ++ more
-  pub last : HaveLast n each cut first shown
-  pub behind : ComesBehind follows others
-  pub have : HaveRows each cut others more
+  pub last : HaveLast n rule.shows_each rule.may_cut first shown
+  pub enough : IfSome rule.first (λ entry. HaveEnough entry n rule.shows_each rule.may_cut first last.all)
+  pub behind : ComesBehind rule.follows others
+  pub have : HaveRows rule.shows_each rule.may_cut others more
 
 -- the rows of lines, of which no row is held back
 abbrev pub HavePassed : Option ℕ → Rule → List (List ℕ) → List (List ℕ) → Type 0
 HavePassed None rule lines rows = HaveRows rule.shows_each rule.may_cut lines rows
-HavePassed (Some n) rule lines rows = HaveLastFirst n rule.shows_each rule.may_cut rule.follows lines rows
+HavePassed (Some n) rule lines rows = HaveLastFirst n rule lines rows
 
 -- the rows of lines, of which so many are held back, or none
 abbrev pub AreLaid : Option ℕ → Rule → List (List ℕ) → List (List ℕ) → Type 0
 AreLaid None rule lines rows = HavePassed rule.last rule lines rows
 AreLaid (Some n) rule lines rows = (rule.last ≡ Some n) × HaveLast n rule.shows_each rule.may_cut lines rows
+
+-- of the rows of lines so many came since, where that is counted
+abbrev pub HaveCome : Option ℕ → Rule → List (List ℕ) → List (List ℕ) → Type 0
+HaveCome since rule lines rows = IfSome since (λ n. IfSome rule.first (λ entry. HaveEnough entry n rule.shows_each rule.may_cut lines rows))
+
+-- the same, where so many came since
+abbrev pub AreHeld : Option ℕ → Option ℕ → Rule → List (List ℕ) → List (List ℕ) → Type 0
+AreHeld None since rule lines rows = HavePassed rule.last rule lines rows
+AreHeld (Some n) since rule lines rows = (rule.last ≡ Some n) × (last : HaveLast n rule.shows_each rule.may_cut lines rows) × HaveCome since rule lines last.all
 
 -- how many rows are held back behind a line
 abbrev pub held_behind : List ℕ → Option ℕ → Option ℕ
@@ -145,20 +170,21 @@ abbrev pub bit : Bool → ℕ
 bit false = 0
 bit true = 1
 
--- a number that tells how many rows are held back
+-- a number that tells a number, where there is one
 abbrev pub told_last : Option ℕ → ℕ
 told_last None = 0
 told_last (Some n) = suc n
 
 -- numbers that tell a rule, and others behind them
 abbrev pub with_rule : Rule → List ℕ → List ℕ
-with_rule rule others = bit rule.shows_each ∷ bit rule.may_cut ∷ told_last rule.last ∷ bit rule.follows ∷ others
+with_rule rule others = bit rule.shows_each ∷ bit rule.may_cut ∷ told_last rule.last ∷ bit rule.follows ∷ told_last rule.first ∷ others
 
 -- A writer of rows holds, as a writer, which rows it has, what the one below held when it was made, and what it was given since.
 unfoldable pub laid_contents : Rule → Option (List ℕ) → List ℕ → Option (List ℕ)
 laid_contents rule start given = Some (with_rule rule (counted start ++ given))
 
--- The rows of lines went to a writer: the first bytes of them, or all.
+-- The rows of lines went to a writer: the first bytes of them, or all. Where the last are sought from an entry on, nothing is
+-- written while rows are held back.
 pub record ShowsRows (rule : Rule) (whole : Type 0) (lines : List (List ℕ)) (was now : Option (List ℕ)) : Type 0 where
   pub rows : List (List ℕ)
   pub held : Option ℕ
@@ -167,6 +193,7 @@ pub record ShowsRows (rule : Rule) (whole : Type 0) (lines : List (List ℕ)) (w
   pub left : List ℕ
   pub front : written ++ left ≡ text_of_rows rows
   pub all : whole → left ≡ []
+  pub none : OnSome held (OnSome rule.first (written ≡ []))
   pub shown : Appends was now written
 
 pub Sends-prop : (now : Option (List ℕ)) (written : Given) (left all : List ℕ) → IsProp (Sends now written left all)

@@ -162,6 +162,15 @@ impl Clock {
         self.wall.first.is_some() || self.monotonic.first.is_some()
     }
 
+    /// Whether a row was told how long it came after the first: a monotonic clock tells no time of day.
+    pub fn is_since_first(&self, column: TimeColumn) -> bool {
+        match column {
+            TimeColumn::Clock => self.monotonic.first.is_some(),
+            TimeColumn::SinceFirst => self.is_on(),
+            TimeColumn::SinceLast => false,
+        }
+    }
+
     /// Appends what the column has for a row with this time, in a zone, and two blanks.
     pub fn put(
         &mut self,

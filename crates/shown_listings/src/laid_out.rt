@@ -1,7 +1,8 @@
 //! A writer that lays out a listing for a person.
-ghost use Rattle.std.specs.Prelude.{◌≡◌, ◌≤◌, ◌<◌, ◌+◌, ◌++◌, ◌∷◌, ℕ, true, false, Option, List, [], length, take, drop, OnOk, OnErr, MatchOption, IsOk};
+ghost use Rattle.std.specs.Prelude.{◌≡◌, ◌≤◌, ◌<◌, ◌+◌, ◌++◌, ◌∷◌, ℕ, true, false, None, Option, List, [], length, take, drop, OnOk, OnErr, IfSome, MatchOption, IsOk, is_some, ◌&&◌};
+ghost use Rattle.shown_listings.specs.Since.{IsEnough};
 ghost use Rattle.std.specs.Io.{WritesAtMost, KnownBytes.Keeps, KnownBytes.WriteAppends};
-ghost use Rattle.shown_listings.specs.{Rows.AreLaid, Rows.AreLines, Rows.AreLines-prop, Rows.Sends, Rows.Sends-prop, Rows.SendsNone, Rows.SendsNone-prop, Rows.ShowsRows, Rows.HasNoFeed, Rows.text_of_rows, Rows.rows_in, Rows.given_lines, Rows.laid_contents};
+ghost use Rattle.shown_listings.specs.{Rows.AreHeld, Rows.AreLines, Rows.AreLines-prop, Rows.Sends, Rows.Sends-prop, Rows.SendsNone, Rows.SendsNone-prop, Rows.ShowsRows, Rows.HasNoFeed, Rows.text_of_rows, Rows.rows_in, Rows.given_lines, Rows.laid_contents};
 
 use crate::given::Given;
 use crate::held::{held_behind, hold};
@@ -9,6 +10,7 @@ use crate::look::Look;
 use crate::noted::Noted;
 use crate::rows::Rows;
 use crate::sending::{Unsent, send_held};
+use crate::since::{has_enough, rows_since};
 use crate::zone::Zone;
 use std::alloc::{AllocError, Global};
 use std::collections::VecDeque;
@@ -57,13 +59,15 @@ pub struct LaidOut<W: Write> {
     held: VecDeque<Vec<u8>>,
     /// How many of these are held back at most, where they are.
     most: Option<u32>,
-    /// There was no memory for a row.
-    is_out_of_memory: bool,
+    /// How many rows came since a line of the entry from which on is listed, or one behind it.
+    since: Option<u64>,
+    /// It takes nothing more: there was no memory for a row, or fewer came than are asked for.
+    is_over: bool,
     pub written: Given,
     pub lines: Noted,
     laid: Noted,
     pub ghost lines_whole: { AreLines lines.items line.items } by { AreLines-prop lines.items line.items },
-    pub ghost rows_each: { ∥ AreLaid most look.rule lines.items (laid.items ++ rows_in held.items) ∥₁ },
+    pub ghost rows_each: { ∥ AreHeld most since look.rule lines.items (laid.items ++ rows_in held.items) ∥₁ },
     pub ghost sends_none: { SendsNone most laid.items } by { SendsNone-prop most laid.items },
     pub ghost sends: { Sends (W.contents out) written (drop unsent.taken unsent.bytes.items) (text_of_rows laid.items) } by { Sends-prop (W.contents out) written (drop unsent.taken unsent.bytes.items) (text_of_rows laid.items) },
 }
@@ -86,7 +90,7 @@ impl<W: Write> LaidOut<W> {
         ensures line { result.line.items ≡ [] }
         ensures look { result.look ≡ look }
     {
-        let (rows, is_out_of_memory) = rows_or_none(alloc, rows);
+        let (rows, is_over) = rows_or_none(alloc, rows);
         LaidOut {
             out,
             look,
@@ -98,29 +102,41 @@ impl<W: Write> LaidOut<W> {
             },
             held: VecDeque::new(alloc),
             most: look.rule.last,
-            is_out_of_memory,
+            since: None,
+            is_over,
             written: Given::new(),
             lines: Noted::new(),
             laid: Noted::new(),
         }
     }
 
-    /// Writes what is left of the rows, and tells how they ended.
+    /// Whether rows are held back that were sought from an entry on: not enough came, or not the end.
+    fn is_withheld(&self) -> bool
+        ensures { result ≡ (is_some self.now.most && is_some self.now.look.rule.first) }
+    {
+        self.most.is_some() && self.look.rule.first.is_some()
+    }
+
+    /// Writes what is left of the rows, and tells how they ended. Those that are withheld aren't written.
     pub fn end(self) -> (RowsEnd, W)
         ensures { ShowsRows self.look.rule (result.0 ≡ RowsEnd.Written) self.lines.items
             self.written.start (W.contents result.1) }
     {
+        let is_withheld = self.is_withheld();
         let LaidOut {
             mut out,
             mut unsent,
             mut held,
-            is_out_of_memory,
+            is_over,
             mut written,
             mut laid,
             ..
         } = self;
+        if is_withheld {
+            return (RowsEnd::Unwritten, out);
+        }
         let sent = send_held(&mut out, &mut unsent, &mut held, &mut written, &mut laid);
-        let end = end_of(is_out_of_memory, sent);
+        let end = end_of(is_over, sent);
         (end, out)
     }
 
@@ -143,14 +159,27 @@ impl<W: Write> LaidOut<W> {
         )
     }
 
-    /// Where what comes from now on is shown too, no row is held back any more.
+    /// Whether a row was told how long it came after the first, and that isn't the first that is asked for.
+    fn is_told_apart(&self) -> bool {
+        self.look.rule.first.is_some() && self.rows.are_since_first(&self.look)
+    }
+
+    /// Whether the rows that are held back may be shown: enough came, and each is what it is behind all others.
+    fn has_enough(&self) -> bool
+        ensures { result ≡ true → IfSome self.now.most
+            (IsEnough self.now.look.rule.first self.now.since) }
+    {
+        has_enough(self.most, self.look.rule.first, self.since) && !self.is_told_apart()
+    }
+
+    /// Where what comes from now on is shown too, no row is held back any more, once enough came.
     fn let_out(&mut self)
         ensures look { self.new.look ≡ self.old.look }
         ensures line { self.new.line ≡ self.old.line }
         ensures lines { self.new.lines ≡ self.old.lines }
         ensures start { self.new.written.start ≡ self.old.written.start }
     {
-        if self.look.rule.follows {
+        if self.look.rule.follows && self.has_enough() {
             self.most = None;
         }
     }
@@ -168,8 +197,16 @@ impl<W: Write> LaidOut<W> {
         self.line.extend_from_slice(more)
     }
 
-    /// Makes the row of the line that came.
-    fn lay(&mut self) -> Result<(), AllocError>
+    /// Whether rows are held no more behind a line, though too few came.
+    fn is_short(&self, most: Option<u32>) -> bool
+        ensures { result ≡ false → most ≡ None → IfSome self.now.most
+            (IsEnough self.now.look.rule.first self.now.since) }
+    {
+        most.is_none() && !self.has_enough()
+    }
+
+    /// Makes the row of the line that came. The last line of a listing is refused where too few rows came before.
+    fn lay(&mut self) -> io::Result<()>
         ensures look { self.new.look ≡ self.old.look }
         ensures start { self.new.written.start ≡ self.old.written.start }
         ensures line { self.new.line ≡ self.old.line }
@@ -179,14 +216,20 @@ impl<W: Write> LaidOut<W> {
     {
         let row = self.rows.row_of(&self.look, &self.line)?;
         let most = held_behind(&self.line, self.most);
+        if self.is_short(most) {
+            return Err(io::Error::from(ErrorKind::InvalidInput));
+        }
+        let more = u64::from(row.is_some());
+        let since = rows_since(self.look.rule.first, self.since, &self.line, more);
         hold(&mut self.held, row, most)?;
         self.most = most;
+        self.since = since;
         self.lines.note(&self.line);
         Ok(())
     }
 
     /// Takes the rest of a line, and makes its row.
-    fn end_line(&mut self, rest: &[u8]) -> Result<(), AllocError>
+    fn end_line(&mut self, rest: &[u8]) -> io::Result<()>
         requires { HasNoFeed rest.now }
         ensures look { self.new.look ≡ self.old.look }
         ensures start { self.new.written.start ≡ self.old.written.start }
@@ -226,7 +269,7 @@ fn line_end(bytes: &[u8]) -> Option<usize>
 
 impl<W: Write> LaidOut<W> {
     /// Takes bytes up to the end of a line, or all.
-    fn take(&mut self, bytes: &[u8]) -> Result<usize, AllocError>
+    fn take(&mut self, bytes: &[u8]) -> io::Result<usize>
         ensures look { self.new.look ≡ self.old.look }
         ensures bound { WritesAtMost result bytes.now }
         ensures bytes { WriteAppends
@@ -260,15 +303,15 @@ impl<W: Write> Write for LaidOut<W> {
             (given_lines self.new.lines.items self.new.line.items)) result bytes.now }
         ensures look { self.new.look ≡ self.old.look }
     {
-        if self.is_out_of_memory {
+        if self.is_over {
             return Err(io::Error::from(ErrorKind::OutOfMemory));
         }
         self.send()?;
         match self.take(bytes) {
             Ok(count) => Ok(count),
-            Err(AllocError) => {
-                self.is_out_of_memory = true;
-                Err(io::Error::from(ErrorKind::OutOfMemory))
+            Err(reason) => {
+                self.is_over = true;
+                Err(reason)
             }
         }
     }

@@ -32,10 +32,11 @@ mod rows;
 mod screen;
 mod sending;
 mod shown_object;
+mod since;
 mod zone;
 
 pub use console::{Console, console_for};
 pub use inlet::Inlet;
 pub use laws::ends_at_the_first_empty_line;
-pub use listing::{Listable, show};
+pub use listing::{Listable, show, show_from};
 pub use outlet::{Outlet, Output, taken};

@@ -1,18 +1,20 @@
 //! Listings, shown as they are or up to an empty line.
-ghost use Rattle.std.specs.Prelude.{◌≡◌, ℕ, List, None, Option, Result, IfErr};
-ghost use Rattle.std.specs.Io.KnownBytes.{Keeps};
+ghost use Rattle.std.specs.Prelude.{◌≡◌, ◌++◌, ℕ, List, [], None, Some, Option, Result, OnOk, IfErr};
+ghost use Rattle.std.specs.Io.KnownBytes.{Appends, Keeps};
 ghost use Rattle.script_runner.specs.declared.fault.SimFault.TheVariants as faults;
 ghost use Rattle.command_line.specs.declared.request.Shown.{Shown};
 ghost use Rattle.faults.specs.declared.complaint.Complaint.TheVariants as complaints;
-ghost use Rattle.shown_listings.specs.Listings.{Listing, UpToEnd, IsToldBy, IsLaidOut, IsToldWith, may_end, ShowsBy, Shows};
+ghost use Rattle.shown_listings.specs.Listings.{Listing, UpToEnd, IsToldBy, IsLaidOut, IsToldWith, rule_from, may_end, ShowsBy, ShowsFrom, Shows};
 
 use crate::counted::Counted;
 use crate::end_writer::EndWriter;
+use crate::given::Given;
 use crate::laid_out::{LaidOut, RowsEnd};
 use crate::look::Look;
 use crate::outlet::{Output, taken};
 use crate::rows::Rows;
 use crate::screen::screen_of;
+use crate::sending::{Unsent, send};
 use crate::zone::{Zone, local_zone};
 use command_line::{Layout, Shown};
 use faults::Complaint;
@@ -173,11 +175,11 @@ fn list_laid_out<S: Listable, R: Wait, I: Read + Drop, W: Output>(
     input: I,
     output: &mut W,
 ) -> (Result<(), Complaint>, S::Left)
-    ensures { IsLaidOut layout.now (ShowsBy (may_end shown.now.choice)
+    ensures { IsLaidOut (rule_from None layout.now) (ShowsBy (may_end shown.now.choice)
         (S.lists listing shown.now (I.remaining input) result.1)) result.0
         (W.contents output.old) (W.contents output.new) }
 {
-    let look = Look::new(layout, screen_of(rt, layout));
+    let look = Look::new(layout, None, screen_of(rt, layout));
     let rows = rows_for(rt, layout);
     let mut laid = LaidOut::new(rt.alloc(), taken(rt.alloc(), output), look, rows);
     let (done, left) = list_shown(rt.alloc(), waiter, listing, shown, input, &mut laid);
@@ -185,6 +187,77 @@ fn list_laid_out<S: Listable, R: Wait, I: Read + Drop, W: Output>(
     *output = out;
     let told = told_with(done, ended);
     (told, left)
+}
+
+/// Writes a text, and writes it out.
+fn write_text<W: Write>(text: Vec<u8>, output: &mut W) -> Result<(), Complaint>
+    ghost start: { Option (List ℕ) }
+    requires { start ≡ W.contents output.old }
+    ensures text { (written : List ℕ) × (left : List ℕ) × (written ++ left ≡ text.items)
+        × (OnOk result (left ≡ []))
+        × Appends (W.contents output.old) (W.contents output.new) written }
+    ensures err { IfErr result (λ complaint. complaint ≡ complaints.Fault faults.Write None) }
+{
+    let mut unsent = Unsent {
+        bytes: text,
+        taken: 0,
+    };
+    let mut written = Given::new();
+    if send(output, &mut unsent, &mut written).is_err() {
+        return Err(Complaint::from(SimFault::Write));
+    }
+    write_out(output)
+}
+
+/// Lists what is shown, which is asked for from this entry on, laid out for a person. Where the listing doesn't end well, or has
+/// fewer rows of that entry and those behind it than are asked for, None is answered, and nothing is written.
+fn lay_out_from<S: Listable, R: Wait, I: Read + Drop, W: Output>(
+    rt: &HostRuntime,
+    waiter: &R,
+    listing: S,
+    shown: &Shown,
+    layout: &Layout,
+    first: u64,
+    input: I,
+    output: &mut W,
+) -> (Option<Result<(), Complaint>>, S::Left)
+    ensures { ShowsFrom first (Some layout.now)
+        (S.lists listing shown.now (I.remaining input) result.1) result.0
+        (W.contents output.old) (W.contents output.new) }
+{
+    let look = Look::new(layout, Some(first), screen_of(rt, layout));
+    let rows = rows_for(rt, layout);
+    let mut laid = LaidOut::new(rt.alloc(), Vec::new(rt.alloc()), look, rows);
+    let (done, left) = listing.list(waiter, shown, input, &mut laid);
+    let (ended, text) = laid.end();
+    match (done, ended) {
+        (Ok(()), RowsEnd::Written) => (Some(write_text(text, output)), left),
+        _ => (None, left),
+    }
+}
+
+/// Shows a listing that is asked for from this entry on, where its last rows are of that entry and those behind it. Where fewer
+/// rows of these came than are asked for, or it didn't end well, None is answered, and nothing is written.
+pub fn show_from<S: Listable, R: Wait, I: Read + Drop, W: Output>(
+    rt: &HostRuntime,
+    waiter: &R,
+    listing: S,
+    shown: &Shown,
+    first: u64,
+    input: I,
+    output: &mut W,
+) -> (Option<Result<(), Complaint>>, S::Left)
+    ensures { ShowsFrom first shown.now.layout
+        (S.lists listing shown.now (I.remaining input) result.1) result.0
+        (W.contents output.old) (W.contents output.new) }
+{
+    match &shown.layout {
+        Some(layout) => lay_out_from(rt, waiter, listing, shown, layout, first, input, output),
+        None => {
+            let (done, left) = listing.list(waiter, shown, input, output);
+            (Some(done), left)
+        }
+    }
 }
 
 /// Shows a listing of the entries that are chosen. Where standard error is a terminal it says how many of these are opaque.

@@ -1,6 +1,6 @@
 //! How rows look, by what a command line asks and by what they are written to.
 ghost use Rattle.std.specs.Prelude.{◌≡◌};
-ghost use Rattle.shown_listings.specs.Listings.{rule_in};
+ghost use Rattle.shown_listings.specs.Listings.{rule_from};
 
 use crate::clock_text::Stamp;
 use command_line::{Layout, Moment, TimeColumn};
@@ -25,6 +25,8 @@ pub struct Rule {
     pub last: Option<u32>,
     /// What comes after the first flush is shown too.
     pub follows: bool,
+    /// The entry from which on the last rows are sought, where that isn't the first that is asked for.
+    pub first: Option<u64>,
 }
 
 /// How rows look, and which are shown.
@@ -68,13 +70,14 @@ impl Look {
             may_cut: false,
             last: None,
             follows: false,
+            first: None,
         },
         is_from_now: false,
     };
 
-    /// How a listing looks on a screen.
-    pub fn new(layout: &Layout, screen: Screen) -> Look
-        ensures { result.rule ≡ rule_in layout.now }
+    /// How a listing looks on a screen, whose last rows are sought from an entry on, or from its beginning.
+    pub fn new(layout: &Layout, first: Option<u64>, screen: Screen) -> Look
+        ensures { result.rule ≡ rule_from first layout.now }
     {
         Look {
             times: layout.times,
@@ -88,6 +91,7 @@ impl Look {
                 may_cut: layout.may_cut(),
                 last: layout.last,
                 follows: layout.follows,
+                first,
             },
             is_from_now: layout.is_from_now,
         }

@@ -15,7 +15,7 @@ const TERMINAL_BUFFER: usize = 1;
 /// What is written to. It can be taken from where it is lent, so that its owner knows what it holds then: what a call did to a
 /// struct that was lent a writer is known of the struct's value, and not that it still has the same writer.
 pub trait Output: Write + Drop {
-    /// A stand-in that refuses every byte; `taken` leaves it where the writer was.
+    /// A stand-in, which refuses every byte where it has no memory for it; `taken` leaves it where the writer was.
     fn none(alloc: Global) -> Self;
 }
 
@@ -78,6 +78,12 @@ impl Write for Outlet {
         };
         let answer = inner.flush();
         self.noted(answer)
+    }
+}
+
+impl Output for Vec<u8> {
+    fn none(alloc: Global) -> Vec<u8> {
+        Vec::new(alloc)
     }
 }
 

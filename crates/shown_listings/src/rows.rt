@@ -280,6 +280,11 @@ impl Rows {
         Rows { maker, scratch }
     }
 
+    /// Whether a row was told how long it came after the first.
+    pub fn are_since_first(&self, look: &Look) -> bool {
+        self.maker.clock.is_since_first(look.times)
+    }
+
     /// What comes from now on is new.
     pub fn begin(&mut self) {
         self.maker.is_new = true;

@@ -8,8 +8,8 @@ use Rattle.commands.proofs.Naming.{told_moved}
 use Rattle.commands.proofs.Commanding.{is_read}
 use Rattle.commands.proofs.commands.read_trace.Goals as goal
 
-pub returns-in-Ok : goal.returns-in-Ok
-returns-in-Ok g c =
+pub returns-in-Ok-clause-read : goal.returns-in-Ok-clause-read
+returns-in-Ok-clause-read g c =
     let e = c.in-Ok.ensures in
     record {
       only_reads = c.read_live-done.ensures.only_reads;
@@ -17,8 +17,8 @@ returns-in-Ok g c =
       told = λ h. is_read _ _ _ _ _ c.written_out.result _ (e.tells h) (e.there h) c.flush-flushed.ensures.bytes c.written_out.ensures.err;
     }
 
-pub returns-in-Err : goal.returns-in-Err
-returns-in-Err g c =
+pub returns-in-Err-clause-read : goal.returns-in-Err-clause-read
+returns-in-Err-clause-read g c =
     record {
       only_reads = reads_both honest_of clock_of reads_of images_of moments_of c.args.files.now.store c.read_live-done.new.files.store c.explained.new.self.store c.read_live-done.ensures.only_reads c.explained.ensures.only_reads;
       at_most = λ h.

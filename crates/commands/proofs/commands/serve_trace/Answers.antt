@@ -35,4 +35,4 @@ returns-in-List g c =
     let call = c.read_trace in
     let saw = outside (g.R.Read.remaining c.args.input) 0 (observed c.args.watched.now.host.now) in
     subst (λ request. Serves request c.args.shown.now c.args.files.now call.new.files saw (observed call.new.watched.host.now) (contents c.args.watched.now.writer.now) (contents call.new.watched.writer.now) call.result) (sym c.in-List.is)
-    (c.style.result, c.style.ensures, call.ensures)
+    (c.style.result, c.style.ensures, call.ensures.read, call.ensures.place)
