@@ -1,10 +1,10 @@
 //! The table of what a trace has most of, as one JSON object.
-ghost use Rattle.std.specs.Prelude.{◌≡◌, ◌≤◌, List, IfOk, map, take, string_bytes};
+ghost use Rattle.std.specs.Prelude.{◌≡◌, ◌≤◌, ◌+◌, ℕ, List, Some, IfOk, map, take, codes, string_bytes};
 ghost use Rattle.std.specs.List.{AllZip};
-ghost use Rattle.serde_json.specs.{Data.Data, Data.depth, Data.items_depth, Read.read, View.items_view, View.view};
+ghost use Rattle.serde_json.specs.{Data.Data, Data.array, Data.depth, Data.items_depth, Find.get, Read.read, View.items_view, View.view};
 ghost use Rattle.trace_summary.specs.Lines.{line_pairs};
 ghost use Rattle.trace_summary.specs.Rows.{counts_of_function, counts_of_process};
-ghost use Rattle.trace_summary.specs.TableObjects.{HasMembers, IsFlat, Member, TellsRows, function_members, process_members, kind_members, members_in};
+ghost use Rattle.trace_summary.specs.TableObjects.{HasMembers, IsFlat, Member, TellsRows, table_members, function_members, process_members, kind_members, members_in};
 
 use crate::cells::open_of;
 use crate::lines::Line;
@@ -153,12 +153,13 @@ impl Table<'_> {
         rows: Vec<Value>,
         course: Course,
     ) -> Result<Value, AllocError>
-        requires rows { AllZip HasMembers (take self.now.limit (members_in self.now.rows))
-            (map view rows.items) }
-        requires flat_rows { items_depth (items_view rows.items) ≤ 1 }
-        requires flat { IsFlat course }
-        ensures told { IfOk result (λ object. TellsRows self.now (view object)) }
-        ensures flat { IfOk result (λ object. depth (view object) ≤ 3) }
+        requires { IsFlat course }
+        ensures told { IfOk result (λ object. HasMembers (table_members self.now.by
+            self.now.messages self.now.unread self.now.lost) (view object)) }
+        ensures rows { IfOk result (λ object.
+            get (codes "rows") (view object) ≡ Some (array (items_view rows.items))) }
+        ensures flat { IfOk result (λ object.
+            depth (view object) ≤ items_depth (items_view rows.items) + 2) }
     {
         json!(in alloc; {
             "by": self.word(),
