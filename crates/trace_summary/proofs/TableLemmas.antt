@@ -63,18 +63,18 @@ module _ {R : Type 0} where
 -- lines are rows in another order
 module _ {R : Type 0} (rows lines : List (List ℕ × R)) (each : IsPermutation rows lines) where
   -- as many have a text
-  pub texts_moved : (text : List ℕ) → count_by (bytes_eq text) (keys_of lines) ≡ count_by (bytes_eq text) (keys_of rows)
+  texts_moved : (text : List ℕ) → count_by (bytes_eq text) (keys_of lines) ≡ count_by (bytes_eq text) (keys_of rows)
   texts_moved text = sum_by-IsPermutation _ (keys_of rows) (keys_of lines) (IsPermutation-map (λ line. line.0) rows lines each)
 
   -- and where each row has the counts of its text, so has each line
-  pub members_moved : {C M : Type 0} (counts : R → C) (count : List ℕ → C) (members : List ℕ → C → M) → All (λ row. counts row.1 ≡ count row.0) rows → map (λ line. members line.0 (counts line.1)) lines ≡ map (λ text. members text (count text)) (keys_of lines)
+  members_moved : {C M : Type 0} (counts : R → C) (count : List ℕ → C) (members : List ℕ → C → M) → All (λ row. counts row.1 ≡ count row.0) rows → map (λ line. members line.0 (counts line.1)) lines ≡ map (λ text. members text (count text)) (keys_of lines)
   members_moved counts count members same = each_told counts count members lines (recursion_from_All _ lines (All-permutation (λ row. counts row.1 ≡ count row.0) rows lines each same))
 
 -- of a table in which each text has the row that is counted of it
 module _ {R C S : Type 0} (counts : R → C) (all : C → ℕ) (count : List ℕ → C) (rows : HashMap (Vec ℕ Global) R S) (unique : IsDistinct key_eq (keys_of rows.entries))
     (counted : (text : List ℕ) → option_map counts (row_at rows text) ≡ row_of (all (count text)) (count text)) where
   -- those have a row for which something is counted
-  pub texts_counted : (text : List ℕ) → count_by (bytes_eq text) (keys_of (row_pairs rows.entries)) ≡ one_if (is_some (row_of (all (count text)) (count text)))
+  texts_counted : (text : List ℕ) → count_by (bytes_eq text) (keys_of (row_pairs rows.entries)) ≡ one_if (is_some (row_of (all (count text)) (count text)))
   texts_counted text = count_texts text rows.entries unique ∙ ap one_if (is_some_map (row_at rows text)) ∙ ap (λ row. one_if (is_some row)) (counted text)
     where
       is_some_map : (row : Option R) → is_some row ≡ is_some (option_map counts row)
@@ -82,9 +82,21 @@ module _ {R C S : Type 0} (counts : R → C) (all : C → ℕ) (count : List ℕ
       is_some_map (Some row) = refl
 
   -- and it has what is counted
-  pub rows_counted : All (λ row. counts row.1 ≡ count row.0) (row_pairs rows.entries)
+  rows_counted : All (λ row. counts row.1 ≡ count row.0) (row_pairs rows.entries)
   rows_counted =
       All-map (λ row. counts row.1 ≡ count row.0) (λ entry. (entry.0.items, entry.1)) rows.entries (λ k d below.
           let entry = get_or rows.entries k d in
           let found : row_at rows entry.0.items ≡ Some entry.1 = lookup_from_place (on_equiv (λ key. key.items) nat_list_eq_equiv) rows.entries k entry.0 entry.1 unique (slice_get-get_or rows.entries k d below) in
           row_is (all (count entry.0.items)) (counts entry.1) (count entry.0.items) (sym (ap (option_map counts) found) ∙ counted entry.0.items))
+
+  -- so lines of these rows tell what is counted
+  pub all_told : {M : Type 0} (members : List ℕ → C → M) (lines : List (List ℕ × R)) → IsPermutation (row_pairs rows.entries) lines
+      → ((text : List ℕ) → count_by (bytes_eq text) (keys_of lines) ≡ one_if (is_some (row_of (all (count text)) (count text))))
+      × (map (λ line. members line.0 (counts line.1)) lines ≡ map (λ text. members text (count text)) (keys_of lines))
+  all_told members lines each =
+      (λ text. texts_moved (row_pairs rows.entries) lines each text ∙ texts_counted text, members_moved (row_pairs rows.entries) lines each counts count members rows_counted)
+
+-- a number is its own count
+pub same_row : (row : Option ℕ) → option_map (λ n. n) row ≡ row
+same_row None = refl
+same_row (Some n) = refl
