@@ -85,9 +85,9 @@ module _ {R C S : Type 0} (counts : R → C) (all : C → ℕ) (count : List ℕ
   rows_counted : All (λ row. counts row.1 ≡ count row.0) (row_pairs rows.entries)
   rows_counted =
       All-map (λ row. counts row.1 ≡ count row.0) (λ entry. (entry.0.items, entry.1)) rows.entries (λ k d below.
-          let entry = get_or rows.entries k d in
-          let found : row_at rows entry.0.items ≡ Some entry.1 = lookup_from_place (on_equiv (λ key. key.items) nat_list_eq_equiv) rows.entries k entry.0 entry.1 unique (slice_get-get_or rows.entries k d below) in
-          row_is (all (count entry.0.items)) (counts entry.1) (count entry.0.items) (sym (ap (option_map counts) found) ∙ counted entry.0.items))
+      let entry = get_or rows.entries k d in
+      let found : row_at rows entry.0.items ≡ Some entry.1 = lookup_from_place (on_equiv (λ key. key.items) nat_list_eq_equiv) rows.entries k entry.0 entry.1 unique (slice_get-get_or rows.entries k d below) in
+      row_is (all (count entry.0.items)) (counts entry.1) (count entry.0.items) (sym (ap (option_map counts) found) ∙ counted entry.0.items))
 
   -- so lines of these rows tell what is counted
   pub all_told : {M : Type 0} (members : List ℕ → C → M) (lines : List (List ℕ × R)) → IsPermutation (row_pairs rows.entries) lines

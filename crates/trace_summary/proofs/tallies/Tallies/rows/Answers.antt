@@ -1,6 +1,5 @@
-use Rattle.std.proofs.Common.{◌∙◌, ◌≡◌, rules}
+use Rattle.std.proofs.Common.{◌∙◌}
 use Rattle.trace_summary.specs.Counting.{all_of_function, all_of_process, counted_of_function, counted_of_process, how_many, is_of}
-use Rattle.trace_summary.specs.Lines.{line_pairs}
 use Rattle.trace_summary.specs.Rows.{counts_of_function, counts_of_process, row_at}
 use Rattle.trace_summary.specs.TableObjects.{function_members, kind_members, process_members}
 use Rattle.trace_summary.proofs.TableLemmas.{all_told, same_row}
