@@ -216,7 +216,7 @@ Serves (requests.Draw asked) shown old new saw observed was now result =
     LooksOver old.store new.store (most_with result (most_to_read (reads_of old.store)) (reads_of old.store)) (IsDrawn (asks_shown shown) (IsToldAt old.place new.store) old.place.base.now (reads_of old.store) now result)
     × IfErr result (λ complaint. status_told complaint ≡ 1)
 Serves (requests.Top asked ranking is_json) shown old new saw observed was now result =
-    LooksOver old.store new.store (most_with result (most_to_read (reads_of old.store)) (reads_of old.store)) (IsTop (asks_shown shown) (IsToldAt old.place new.store) old.place.base.now (reads_of old.store) was now result)
+    LooksOver old.store new.store (most_with result (most_to_read (reads_of old.store)) (reads_of old.store)) (IsTop (asks_shown shown) ranking is_json (IsToldAt old.place new.store) old.place.base.now (reads_of old.store) was now result)
     × IfErr result (λ complaint. status_told complaint ≡ 1)
 Serves (requests.Wipe asked is_forced) shown old new saw observed was now result = (honest_of new.store → Clears (clearing_of is_forced) old.place old.store new.store was now result)
     × (honest_of new.store → IsNotToWipe (clearing_of is_forced) (reads_of old.store) → OnlyLooks old.store new.store) × (honest_of new.store → LeavesOnly clock_of moments_of old.store new.store (IsClearing (images_of old.store)))

@@ -1,7 +1,8 @@
 -- A trace whose entries are looked at, and counted.
-use Rattle.std.specs.Prelude.{◌≡◌, ◌⊎◌, ℕ, ℤ, Option, Some, None, List, Result, Ok, Err}
+use Rattle.std.specs.Prelude.{◌≡◌, ◌⊎◌, ℕ, ℤ, Bool, IsTrue, Option, Some, None, List, Result, Ok, Err}
 use Rattle.std.specs.Io.KnownBytes.{Appends, Keeps}
 use Rattle.std.specs.String.{string_bytes}
+use Rattle.command_line.specs.declared.ranking.Ranking.{Ranking}
 use Rattle.entry_codec.specs.Entries.{Entry, bytes_of}
 use Rattle.trace_store.specs.Disk.{Image}
 use Rattle.trace_text.specs.Choosing.{Asks}
@@ -14,6 +15,7 @@ use Rattle.trace_summary.specs.Acts.{acts_in}
 use Rattle.trace_summary.specs.Drawings.{ending}
 use Rattle.trace_summary.specs.Stacks.{AreOrdered, calls_at, calls_of, lines_of}
 use Rattle.trace_summary.specs.Streams.{IsWhyStopped}
+use Rattle.trace_summary.specs.TableObjects.{WritesTable}
 use Rattle.trace_summary.specs.declared.folded.Folded.{Folded}
 use Rattle.trace_summary.specs.contracts.folded.FoldedView.TheImpl as folded_view
 use Rattle.trace_summary.specs.declared.perfetto.Perfetto.{Perfetto}
@@ -95,11 +97,11 @@ pub data IsUncounted (TooMany : Type 0) (Told : SimFault → Complaint → Type 
   too_many : TooMany → IsOfRows base complaint → IsUncounted TooMany Told base image complaint
   no_memory : IsOfMemory complaint → IsUncounted TooMany Told base image complaint
 
--- how it ended: all entries that an export of the trace has, of those that are asked for, were counted, and that was told; or they weren't, and nothing is written; or it couldn't be written
-pub data IsTop (asks : Option Asks) (Told : SimFault → Complaint → Type 0) (base : List ℕ) (image : Image) (was now : Option (List ℕ)) : Result Unit Complaint → Type 0 where
-  counted : (top : Top) → AreExported asks image (taken_by top) → IsCounted top.tallies (tellings (taken_by top)) → IsTop asks Told base image was now (Ok tt)
-  not_counted : (complaint : Complaint) → IsUncounted (HasFailed count_failed views.TooMany) Told base image complaint → Keeps was now → IsTop asks Told base image was now (Err complaint)
-  not_written : (complaint : Complaint) → IsOfWriter complaint → IsTop asks Told base image was now (Err complaint)
+-- how it ended: all entries that an export of the trace has, of those that are asked for, were counted, and where JSON is asked for, what is written tells what was counted; or they weren't, and nothing is written; or it couldn't be written
+pub data IsTop (asks : Option Asks) (ranking : Ranking) (is_json : Bool) (Told : SimFault → Complaint → Type 0) (base : List ℕ) (image : Image) (was now : Option (List ℕ)) : Result Unit Complaint → Type 0 where
+  counted : (top : Top) → AreExported asks image (taken_by top) → IsCounted top.tallies (tellings (taken_by top)) → (IsTrue is_json → WritesTable ranking (tellings (taken_by top)) was now) → IsTop asks ranking is_json Told base image was now (Ok tt)
+  not_counted : (complaint : Complaint) → IsUncounted (HasFailed count_failed views.TooMany) Told base image complaint → Keeps was now → IsTop asks ranking is_json Told base image was now (Err complaint)
+  not_written : (complaint : Complaint) → IsOfWriter complaint → IsTop asks ranking is_json Told base image was now (Err complaint)
 
 -- the lines of stacks of calls were written, in the order of their texts: each was counted as often as its entries say that it was called
 pub record AreFolded (folded : Folded) (was now : Option (List ℕ)) : Type 0 where

@@ -191,7 +191,8 @@ pub fn top<W: Write, H: Host>(
 ) -> Result<(), Complaint>
     ensures ended { LooksOver files.old.store files.new.store
         (most_with result (most_to_read (reads_of files.old.store)) (reads_of files.old.store))
-        (IsTop (asks_where choice.entry) (IsToldAt files.old.place files.new.store)
+        (IsTop (asks_where choice.entry) ranking is_json
+        (IsToldAt files.old.place files.new.store)
         files.old.place.base.now (reads_of files.old.store)
         (W.contents watched.old.writer.now)
         (W.contents watched.new.writer.now) result) }

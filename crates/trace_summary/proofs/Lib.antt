@@ -4,3 +4,4 @@ mod OpenLemmas
 pub mod RowLemmas
 mod StackLemmas
 mod StreamLemmas
+mod TableLemmas

@@ -2,6 +2,7 @@
 use Rattle.std.specs.Prelude.{◌≡◌, IsPermutation}
 use Rattle.command_line.specs.declared.ranking.Grouping.{Grouping}
 use Rattle.command_line.specs.declared.ranking.Grouping.TheVariants as by
+use Rattle.command_line.specs.declared.ranking.Ranking.{Ranking}
 use Rattle.trace_summary.specs.Lines.{row_pairs, kind_pairs, line_pairs}
 use Rattle.trace_summary.specs.declared.table.Rows.{Rows}
 use Rattle.trace_summary.specs.declared.table.Rows.TheVariants as rows
@@ -15,9 +16,11 @@ HasEachRow tallies by.Process (rows.Processes lines) = IsPermutation (row_pairs 
 HasEachRow tallies by.Kind (rows.Kinds lines) = IsPermutation (kind_pairs tallies.kinds.rows.items) (line_pairs lines.items)
 HasEachRow tallies grouping lines = ⊥
 
--- and how many messages there are, and were lost
-pub record IsTableOf (tallies : Tallies) (grouping : Grouping) (table : Table) : Type 0 where
-  pub rows : HasEachRow tallies grouping table.rows
+-- of which so many are shown; and how many messages there are, and were lost
+pub record IsTableOf (tallies : Tallies) (ranking : Ranking) (table : Table) : Type 0 where
+  pub by : table.by ≡ ranking.by
+  pub rows : HasEachRow tallies ranking.by table.rows
+  pub limit : table.limit ≡ ranking.limit
   pub messages : table.messages ≡ tallies.messages
   pub unread : table.unread ≡ tallies.unread
   pub lost : table.lost ≡ tallies.lost

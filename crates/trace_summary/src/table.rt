@@ -1,6 +1,8 @@
 //! The table of what a trace has most of, as text for a person.
-ghost use Rattle.std.specs.Prelude.{IfOk};
-ghost use Rattle.trace_summary.specs.Tables.{HasEachRow, IsTableOf};
+ghost use Rattle.std.specs.Prelude.{◌≡◌, List, IfOk};
+ghost use Rattle.std.specs.HashMap.{IsUnique};
+ghost use Rattle.std.specs.Str.{bytes_eq};
+ghost use Rattle.trace_summary.specs.{Counting.Telling, TableObjects.AreTold, TableObjects.word_of, Tables.HasEachRow, Tables.IsTableOf, Tallies.IsCounted};
 
 use crate::bars::{Bar, Bars};
 use crate::cells::{Figure, Shown};
@@ -9,6 +11,7 @@ use crate::row::{FunctionRow, ProcessRow};
 use crate::tallies::{Span, Tallies};
 use command_line::{Grouping, Order, Ranking};
 use std::alloc::{AllocError, Global};
+use std::collections::HashMap;
 use std::fmt;
 
 /// The numbers of functions of a trace that has times.
@@ -58,6 +61,7 @@ struct Column {
 /// A table, of which the first rows are shown.
 #[derive(Drop)]
 pub struct Table<'t> {
+    pub by: Grouping,
     pub rows: Rows<'t>,
     columns: Vec<Column>,
     /// How many calls of a function are open, by the function's number.
@@ -74,7 +78,9 @@ pub struct Table<'t> {
 impl Tallies {
     /// The table that is asked for.
     pub fn table(&self, alloc: Global, ranking: Ranking) -> Result<Table<'_>, AllocError>
-        ensures { IfOk result (IsTableOf self.now ranking.by) }
+        ensures table { IfOk result (IsTableOf self.now ranking) }
+        ensures told { (told : List Telling) → IsCounted self.now told
+            → IfOk result (λ table. AreTold ranking.by told table.rows) }
     {
         let usual = if self.span.is_some() {
             Order::Total
@@ -89,6 +95,7 @@ impl Tallies {
         let limit = ranking.limit as usize;
         let columns = columns_of(alloc, &rows, self.span.is_some(), limit, &open)?;
         Ok(Table {
+            by: ranking.by,
             rows,
             columns,
             open,
@@ -103,14 +110,25 @@ impl Tallies {
 
     /// The rows, in this order.
     fn rows(&self, alloc: Global, by: Grouping, order: Order) -> Result<Rows<'_>, AllocError>
-        ensures { IfOk result (HasEachRow self.now by) }
+        ensures each { IfOk result (HasEachRow self.now by) }
+        ensures told { (told : List Telling) → IsCounted self.now told
+            → IfOk result (AreTold by told) }
     {
+        has_each_once(&self.functions.rows);
+        has_each_once(&self.processes.rows);
         Ok(match by {
             Grouping::Function => Rows::Functions(lines_of(alloc, &self.functions.rows, order)?),
             Grouping::Process => Rows::Processes(lines_of(alloc, &self.processes.rows, order)?),
             Grouping::Kind => Rows::Kinds(lines_of_kinds(alloc, &self.kinds.rows)?),
         })
     }
+}
+
+/// No text has two rows.
+fn has_each_once<R: Drop>(rows: &HashMap<Vec<u8>, R>)
+    ensures { IsUnique (λ one other. bytes_eq one.items other.items) rows.now }
+{
+    let _count = rows.len();
 }
 
 /// The columns of a table with these rows.
@@ -161,9 +179,9 @@ fn width_of<R: Shown>(figure: Figure, lines: &[Line<'_, R>], limit: usize, open:
 impl fmt::Display for Table<'_> {
     fn fmt<W: fmt::Write>(&self, f: &mut fmt::Formatter<W>) -> fmt::Result {
         match &self.rows {
-            Rows::Functions(lines) => self.tell_rows(f, "function", lines)?,
-            Rows::Processes(lines) => self.tell_rows(f, "process", lines)?,
-            Rows::Kinds(lines) => self.tell_rows(f, "kind", lines)?,
+            Rows::Functions(lines) => self.tell_rows(f, lines)?,
+            Rows::Processes(lines) => self.tell_rows(f, lines)?,
+            Rows::Kinds(lines) => self.tell_rows(f, lines)?,
         }
         if self.span.is_none() && matches!(self.rows, Rows::Functions(_)) {
             f.write_str(NO_TIMES)?;
@@ -174,11 +192,21 @@ impl fmt::Display for Table<'_> {
 }
 
 impl Table<'_> {
+    /// What a row is for.
+    pub fn word(&self) -> &'static str
+        ensures { result.now ≡ word_of self.now.by }
+    {
+        match self.by {
+            Grouping::Function => "function",
+            Grouping::Process => "process",
+            Grouping::Kind => "kind",
+        }
+    }
+
     /// The names of the columns, the rows that are shown, and how many aren't, where some aren't.
     fn tell_rows<W: fmt::Write, R: Shown>(
         &self,
         f: &mut fmt::Formatter<W>,
-        name: &str,
         lines: &[Line<'_, R>],
     ) -> fmt::Result {
         for column in &self.columns {
@@ -186,7 +214,7 @@ impl Table<'_> {
             tell_blanks(f, column.width, name.len())?;
             write!(f, "{name} ")?;
         }
-        writeln!(f, " {name}")?;
+        writeln!(f, " {}", self.word())?;
         for line in lines.iter().take(self.limit) {
             self.tell_row(f, line)?;
         }

@@ -1,173 +1,177 @@
 //! The table of what a trace has most of, as one JSON object.
+ghost use Rattle.std.specs.Prelude.{◌≡◌, ◌≤◌, ◌+◌, ℕ, List, Some, IfOk, map, take, codes, string_bytes};
+ghost use Rattle.std.specs.List.{AllZip};
+ghost use Rattle.serde_json.specs.{Data.Data, Data.array, Data.depth, Data.items_depth, Find.get, Read.read, View.items_view, View.view};
+ghost use Rattle.trace_summary.specs.Lines.{line_pairs};
+ghost use Rattle.trace_summary.specs.Rows.{counts_of_function, counts_of_process};
+ghost use Rattle.trace_summary.specs.TableObjects.{HasMembers, IsFlat, Member, TellsRows, table_members, function_members, process_members, kind_members, members_in};
 
 use crate::cells::open_of;
 use crate::lines::Line;
 use crate::row::{FunctionRow, ProcessRow};
 use crate::table::{Rows, Table};
-use serde_json::{Map, Value};
+use serde_json::{Number, Value, json};
 use std::alloc::{AllocError, Global};
 
-/// An object that members are put into.
-#[derive(Drop)]
-struct Object {
-    alloc: Global,
-    members: Map<String, Value>,
-}
-
-impl Object {
-    fn new(alloc: Global) -> Object {
-        Object {
-            alloc,
-            members: Map::new(alloc),
-        }
-    }
-
-    fn put(&mut self, name: &str, value: Value) -> Result<(), AllocError> {
-        let name = String::from_str(self.alloc, name)?;
-        let _before = self.members.insert(name, value)?;
-        Ok(())
-    }
-
-    fn put_number(&mut self, name: &str, number: u64) -> Result<(), AllocError> {
-        self.put(name, Value::from(number))
-    }
-
-    /// Puts a text; its bytes that aren't UTF-8 are told as U+FFFD.
-    fn put_text(&mut self, name: &str, text: &[u8]) -> Result<(), AllocError> {
-        let text = String::from_utf8_lossy(self.alloc, text)?;
-        self.put(name, Value::String(text))
-    }
-
-    fn end(self) -> Value {
-        Value::Object(self.members)
-    }
-}
-
 /// A number, or null.
-fn number_or_null(number: Option<u64>) -> Value {
+fn or_null<N: Into<Number>>(number: Option<N>) -> Value
+    ensures { depth (view result) ≡ 0 }
+{
     match number {
-        Some(number) => Value::from(number),
+        Some(number) => Value::Number(number.into()),
         None => Value::Null,
     }
 }
 
-/// A time, or null.
-fn time_or_null(time: Option<i64>) -> Value {
-    match time {
-        Some(time) => Value::from(time),
-        None => Value::Null,
+/// A row that is told as an object.
+trait Told: Copy {
+    /// What it tells, with its text.
+    ghost members: { List ℕ → Self → List Member };
+
+    /// The object, of a function with the open calls of each, by its number.
+    fn to_object(&self, alloc: Global, text: &[u8], open: &[u64]) -> Result<Value, AllocError>
+        ensures told { IfOk result
+            (λ object. HasMembers (members text.now self.now) (view object)) }
+        ensures flat { IfOk result (λ object. depth (view object) ≤ 1) };
+}
+
+impl Told for FunctionRow {
+    ghost members = { λ text row. function_members text (counts_of_function row) };
+
+    fn to_object(&self, alloc: Global, text: &[u8], open: &[u64]) -> Result<Value, AllocError> {
+        let mean = self.times.mean();
+        json!(in alloc; {
+            "function": String::from_utf8_lossy(alloc, text)?,
+            "calls": self.calls,
+            "returns": self.returns,
+            "exceptions": self.exceptions,
+            "total": or_null(mean.map(|_| self.times.total)),
+            "mean": or_null(mean),
+            "longest": or_null(mean.map(|_| self.times.longest)),
+            "open": open_of(open, self.number),
+        })
     }
+}
+
+impl Told for ProcessRow {
+    ghost members = { λ text row. process_members text (counts_of_process row) };
+
+    fn to_object(&self, alloc: Global, text: &[u8], _open: &[u64]) -> Result<Value, AllocError> {
+        json!(in alloc; {
+            "process": String::from_utf8_lossy(alloc, text)?,
+            "calls": self.calls,
+            "sent": self.sent,
+            "received": self.received,
+            "waiting": self.waiting.most,
+        })
+    }
+}
+
+impl Told for u64 {
+    ghost members = { kind_members };
+
+    fn to_object(&self, alloc: Global, text: &[u8], _open: &[u64]) -> Result<Value, AllocError> {
+        json!(in alloc; {"kind": String::from_utf8_lossy(alloc, text)?, "count": *self})
+    }
+}
+
+/// The first rows.
+fn objects_of<R: Told>(
+    alloc: Global,
+    lines: &[Line<'_, R>],
+    limit: usize,
+    open: &[u64],
+) -> Result<Vec<Value>, AllocError>
+    ensures told { IfOk result (λ objects. AllZip HasMembers
+        (take limit (map (λ line. R.members line.0 line.1) (line_pairs lines.now)))
+        (map view objects.items)) }
+    ensures flat { IfOk result (λ objects. items_depth (items_view objects.items) ≤ 1) }
+{
+    let mut objects = Vec::new(alloc);
+    for line in lines.iter().take(limit) {
+        objects.push(line.row.to_object(alloc, line.text, open)?)?;
+    }
+    Ok(objects)
+}
+
+/// Where in a trace its messages lie.
+#[derive(Drop)]
+struct Course {
+    from: Value,
+    to: Value,
+    /// The messages of each share, and those that were lost there.
+    bars: Vec<Value>,
+    lost_bars: Vec<Value>,
 }
 
 impl Table<'_> {
     /// The text of the object. Its times are in nanoseconds.
-    pub fn to_json(&self, alloc: Global) -> Result<String, AllocError> {
-        let mut object = Object::new(alloc);
-        object.put_text("by", self.word().as_bytes())?;
-        object.put("rows", Value::Array(self.rows_as_json(alloc)?))?;
-        object.put_number("messages", self.messages)?;
-        object.put_number("unread", self.unread)?;
-        object.put_number("lost", self.lost)?;
-        object.put("from", time_or_null(self.span.map(|span| span.from)))?;
-        object.put("to", time_or_null(self.span.map(|span| span.to)))?;
-        object.put_number("share", self.bars.length())?;
-        self.put_bars(alloc, &mut object)?;
-        object.end().to_string(alloc)
+    pub fn to_json(&self, alloc: Global) -> Result<String, AllocError>
+        ensures { IfOk result (λ text. (object : Data)
+            × (read (string_bytes text) ≡ Some object) × TellsRows self.now object) }
+    {
+        let rows = self.objects(alloc)?;
+        let course = self.course(alloc)?;
+        self.to_object(alloc, rows, course)?.to_string(alloc)
     }
 
-    /// What a row is for.
-    fn word(&self) -> &'static str {
+    /// The rows that are shown.
+    fn objects(&self, alloc: Global) -> Result<Vec<Value>, AllocError>
+        ensures told { IfOk result (λ objects. AllZip HasMembers
+            (take self.now.limit (members_in self.now.rows)) (map view objects.items)) }
+        ensures flat { IfOk result (λ objects. items_depth (items_view objects.items) ≤ 1) }
+    {
         match &self.rows {
-            Rows::Functions(_) => "function",
-            Rows::Processes(_) => "process",
-            Rows::Kinds(_) => "kind",
+            Rows::Functions(lines) => objects_of(alloc, lines, self.limit, &self.open),
+            Rows::Processes(lines) => objects_of(alloc, lines, self.limit, &self.open),
+            Rows::Kinds(lines) => objects_of(alloc, lines, self.limit, &self.open),
         }
     }
 
-    /// Puts the messages of each share, and those that were lost there.
-    fn put_bars(&self, alloc: Global, object: &mut Object) -> Result<(), AllocError> {
-        let mut messages = Vec::new(alloc);
-        let mut lost = Vec::new(alloc);
+    #[tactic(auto, using(crate::proofs::TableLemmas::flat_push))]
+    fn course(&self, alloc: Global) -> Result<Course, AllocError>
+        ensures { IfOk result IsFlat }
+    {
+        let mut bars = Vec::new(alloc);
+        let mut lost_bars = Vec::new(alloc);
         for bar in self.bars.shares() {
-            messages.push(Value::from(bar.messages))?;
-            lost.push(Value::from(bar.lost))?;
+            bars.push(Value::from(bar.messages))?;
+            lost_bars.push(Value::from(bar.lost))?;
         }
-        object.put("bars", Value::Array(messages))?;
-        object.put("lost_bars", Value::Array(lost))
+        Ok(Course {
+            from: or_null(self.span.map(|span| span.from)),
+            to: or_null(self.span.map(|span| span.to)),
+            bars,
+            lost_bars,
+        })
     }
 
-    fn rows_as_json(&self, alloc: Global) -> Result<Vec<Value>, AllocError> {
-        let mut rows = Vec::new(alloc);
-        match &self.rows {
-            Rows::Functions(lines) => self.put_functions(alloc, &mut rows, lines)?,
-            Rows::Processes(lines) => self.put_processes(alloc, &mut rows, lines)?,
-            Rows::Kinds(lines) => self.put_kinds(alloc, &mut rows, lines)?,
-        }
-        Ok(rows)
-    }
-
-    fn put_functions(
+    /// The object with these.
+    fn to_object(
         &self,
         alloc: Global,
-        rows: &mut Vec<Value>,
-        lines: &[Line<'_, FunctionRow>],
-    ) -> Result<(), AllocError> {
-        for line in lines.iter().take(self.limit) {
-            rows.push(self.function_as_json(alloc, line)?)?;
-        }
-        Ok(())
-    }
-
-    fn function_as_json(
-        &self,
-        alloc: Global,
-        line: &Line<'_, FunctionRow>,
-    ) -> Result<Value, AllocError> {
-        let row = line.row;
-        let mean = row.times.mean();
-        let mut object = Object::new(alloc);
-        object.put_text("function", line.text)?;
-        object.put_number("calls", row.calls)?;
-        object.put_number("returns", row.returns)?;
-        object.put_number("exceptions", row.exceptions)?;
-        object.put("total", number_or_null(mean.map(|_| row.times.total)))?;
-        object.put("mean", number_or_null(mean))?;
-        object.put("longest", number_or_null(mean.map(|_| row.times.longest)))?;
-        object.put_number("open", open_of(&self.open, row.number))?;
-        Ok(object.end())
-    }
-
-    fn put_processes(
-        &self,
-        alloc: Global,
-        rows: &mut Vec<Value>,
-        lines: &[Line<'_, ProcessRow>],
-    ) -> Result<(), AllocError> {
-        for line in lines.iter().take(self.limit) {
-            let row = line.row;
-            let mut object = Object::new(alloc);
-            object.put_text("process", line.text)?;
-            object.put_number("calls", row.calls)?;
-            object.put_number("sent", row.sent)?;
-            object.put_number("received", row.received)?;
-            object.put_number("waiting", row.waiting.most)?;
-            rows.push(object.end())?;
-        }
-        Ok(())
-    }
-
-    fn put_kinds(
-        &self,
-        alloc: Global,
-        rows: &mut Vec<Value>,
-        lines: &[Line<'_, u64>],
-    ) -> Result<(), AllocError> {
-        for line in lines.iter().take(self.limit) {
-            let mut object = Object::new(alloc);
-            object.put_text("kind", line.text)?;
-            object.put_number("count", line.row)?;
-            rows.push(object.end())?;
-        }
-        Ok(())
+        rows: Vec<Value>,
+        course: Course,
+    ) -> Result<Value, AllocError>
+        requires { IsFlat course }
+        ensures told { IfOk result (λ object. HasMembers (table_members self.now.by
+            self.now.messages self.now.unread self.now.lost) (view object)) }
+        ensures rows { IfOk result (λ object.
+            get (codes "rows") (view object) ≡ Some (array (items_view rows.items))) }
+        ensures flat { IfOk result (λ object.
+            depth (view object) ≤ items_depth (items_view rows.items) + 2) }
+    {
+        json!(in alloc; {
+            "by": self.word(),
+            "rows": rows,
+            "messages": self.messages,
+            "unread": self.unread,
+            "lost": self.lost,
+            "from": course.from,
+            "to": course.to,
+            "share": self.bars.length(),
+            "bars": course.bars,
+            "lost_bars": course.lost_bars,
+        })
     }
 }

@@ -1,8 +1,8 @@
 //! What a trace has most of: its functions, its processes, and the kinds of its messages.
-ghost use Rattle.std.specs.Prelude.{◌≡◌, ◌++◌, ◌∷◌, [], None, List, IfErr, OnOk, OnErr};
+ghost use Rattle.std.specs.Prelude.{◌≡◌, ◌++◌, ◌∷◌, [], None, List, IfErr, IfOk, IsTrue, OnOk, OnErr};
 ghost use Rattle.std.specs.Io.KnownBytes.{Keeps};
 ghost use Rattle.entry_codec.specs.{Entries.Entry, Entries.Message, Seen.lent};
-ghost use Rattle.trace_summary.specs.{Counting.Telling, Counting.telling_of, Counting.tellings, Tallies.IsCounted, Tallies.IsCountedUnless, Tallies.IsCountedUnless-prop, Streams.IsWhyStopped};
+ghost use Rattle.trace_summary.specs.{Counting.Telling, Counting.telling_of, Counting.tellings, Tallies.IsCounted, Tallies.IsCountedUnless, Tallies.IsCountedUnless-prop, TableObjects.WritesTable, Streams.IsWhyStopped};
 
 use crate::taken::Taken;
 use crate::tallies::Tallies;
@@ -50,6 +50,9 @@ impl Top {
             (tellings self.now.taken.entries)) }
         ensures refused { IfErr result (IsWhyStopped self.now.fault) }
         ensures nothing { OnErr result (Keeps (W.contents out.old) (W.contents out.new)) }
+        ensures told { IfOk result (λ written. IsTrue is_json → OnOk written
+            (WritesTable ranking (tellings self.now.taken.entries) (W.contents out.old)
+            (W.contents out.new))) }
     {
         if let Some(fault) = self.fault {
             return Err(fault);
