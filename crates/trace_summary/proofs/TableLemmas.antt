@@ -100,7 +100,7 @@ module _ {R C S : Type 0} (counts : R → C) (all : C → ℕ) (count : List ℕ
 
 -- of a list in which each word has the one row that is counted of it
 module _ (count : List ℕ → ℕ) where
-  counted_row : List ℕ → Option ℕ
+  abbrev counted_row : List ℕ → Option ℕ
   counted_row word = row_of (count word) (count word)
 
   -- a word has as many rows as counts
