@@ -7,8 +7,8 @@ use Rattle.std.specs.HashMap.{HashMap}
 use Rattle.std.proofs.lemmas.Bool.{cases_Bool, cond-true, cond-false}
 use Rattle.std.proofs.lemmas.List.Sums.{fold_push, sum_by_push}
 use Rattle.trace_text.specs.MessageFacts.{Facts}
-use Rattle.trace_summary.specs.Counting.{Telling, Read, Waiting, none_waits, comes_if, goes_if, waits_after, waiting_for, how_many, passes, does, is_told, is_to, is_of, is_sent, row_of, kind_row, ProcessCounts, all_of_process, counted_of_process}
-use Rattle.trace_summary.specs.Rows.{row_at, Puts, one_if, counts_of_function, function_counts_with, no_function_counts, is_of_functions, counts_of_process, process_counts_with, process_counts_sent_to, process_counts_at, no_process_counts, is_of_processes, who_does, PutsProcess, PutsIfTold, AreFunctionsCounted, AreProcessesCounted, AreKindsCounted}
+use Rattle.trace_summary.specs.Counting.{Telling, Read, Waiting, none_waits, comes_if, goes_if, waits_after, waiting_for, how_many, passes, does, is_told, is_to, is_of, is_sent, row_of, ProcessCounts, all_of_process, counted_of_process}
+use Rattle.trace_summary.specs.Rows.{row_at, Puts, one_if, counts_of_function, function_counts_with, no_function_counts, is_of_functions, counts_of_process, process_counts_with, process_counts_sent_to, process_counts_at, no_process_counts, is_of_processes, who_does, PutsProcess, PutsIfTold, AreFunctionsCounted, AreProcessesCounted}
 use Rattle.trace_summary.specs.declared.row.FunctionRow.{FunctionRow}
 use Rattle.trace_summary.specs.declared.row.ProcessRow.{ProcessRow}
 

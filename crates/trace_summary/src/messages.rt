@@ -18,7 +18,7 @@ pub struct KindRow {
     pub count: u64,
 }
 
-/// The kinds, in the order in which they were met. They are few, so each is looked at until the one is found.
+/// The kinds, in the order in which they were met. They are so few that to look at each takes less than a hash.
 #[derive(Drop)]
 pub struct Kinds {
     pub rows: Vec<KindRow>,
