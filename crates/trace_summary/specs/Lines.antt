@@ -8,6 +8,7 @@ use Rattle.trace_summary.specs.declared.lines.Line.{Line}
 abbrev pub row_pairs : {R : Type 0} → List (Vec ℕ Global × R) → List (List ℕ × R)
 row_pairs entries = map (λ entry. (entry.0.items, entry.1)) entries
 
+-- each kind's count with its word
 abbrev pub kind_pairs : List KindRow → List (List ℕ × ℕ)
 kind_pairs rows = map (λ row. (row.word.now, row.count)) rows
 
