@@ -118,18 +118,13 @@ honest_then mid new more h = elim more [
   | inr on ↦ on.was_honest h
 ]
 
--- what was written is there where it is written out
-pub ended_so : {E : Type 0} (P : Type 0) (written : Result Unit E) (result : Result Unit Complaint) → OnOk written P → OnOk result (IsOk written) → OnOk result P
-ended_so P (Ok done) (Ok out) wrote well = wrote
-ended_so P (Err fault) (Ok out) wrote well = absurd (cc)
-ended_so P written (Err complaint) wrote well = tt
-
 -- a table was written out, or not
-pub is_top : (asks : Option Asks) (ranking : Ranking) (is_json : Bool) (Told : SimFault → Complaint → Type 0) (base : List ℕ) (image : Image) (was mid now : Option (List ℕ)) (top : Top) (result : Result Unit Complaint) → AreExported asks image (taken_by top) → IsCounted top.tallies (tellings (taken_by top))
-    → (IsTrue is_json → OnOk result (WritesTable ranking (tellings (taken_by top)) was mid)) → Keeps mid now → IfErr result IsOfWriter → IsTop asks ranking is_json Told base image was now result
-is_top asks ranking is_json Told base image was mid now top (Ok done) are counts wrote kept unwritten =
+pub is_top : {E : Type 0} (asks : Option Asks) (ranking : Ranking) (is_json : Bool) (Told : SimFault → Complaint → Type 0) (base : List ℕ) (image : Image) (was mid now : Option (List ℕ)) (top : Top) (written : Result Unit E) (result : Result Unit Complaint) → AreExported asks image (taken_by top)
+    → IsCounted top.tallies (tellings (taken_by top)) → (IsTrue is_json → OnOk written (WritesTable ranking (tellings (taken_by top)) was mid)) → OnOk result (IsOk written) → Keeps mid now → IfErr result IsOfWriter → IsTop asks ranking is_json Told base image was now result
+is_top asks ranking is_json Told base image was mid now top (Ok done) (Ok out) are counts wrote well kept unwritten =
     counted top are counts (λ json. let table = wrote json in record { text = table.text; writes = Appends-kept was mid now _ table.writes kept; table = table.table; reads = table.reads; tells = table.tells })
-is_top asks ranking is_json Told base image was mid now top (Err complaint) are counts wrote kept unwritten = not_written complaint unwritten
+is_top asks ranking is_json Told base image was mid now top (Err fault) (Ok out) are counts wrote well kept unwritten = absurd (cc)
+is_top asks ranking is_json Told base image was mid now top written (Err complaint) are counts wrote well kept unwritten = not_written complaint unwritten
 
 -- there is none, and nothing is written
 pub no_top : (asks : Option Asks) (ranking : Ranking) (is_json : Bool) (Told : SimFault → Complaint → Type 0) (base : List ℕ) (image : Image) (was now : Option (List ℕ)) (complaint : Complaint) → IsUncounted (HasFailed count_failed views.TooMany) Told base image complaint ⊎ IsOfWriter complaint → Keeps was now → IsTop asks ranking is_json Told base image was now (Err complaint)
@@ -156,6 +151,12 @@ no_stacks asks Told base image was now complaint why kept = elim why [
 pub no_fold : (asks : Option Asks) (Told : SimFault → Complaint → Type 0) (base : List ℕ) (image : Image) (was now : Option (List ℕ)) (result : Result Unit Complaint) → IsErr result → IfErr result IsOfWriter → IsFold asks Told base image was now result
 no_fold asks Told base image was now (Ok done) err unwritten = absurd (cc)
 no_fold asks Told base image was now (Err complaint) err unwritten = lines_not_written complaint unwritten
+
+-- what was written behind the events is there where it is written out
+pub ended_so : {E : Type 0} (events mid : Option (List ℕ)) (text bytes : List ℕ) (written : Result Unit E) (result : Result Unit Complaint) → bytes ≡ text → OnOk written (Appends events mid bytes) → OnOk result (IsOk written) → OnOk result (Appends events mid text)
+ended_so events mid text bytes (Ok done) (Ok out) same wrote well = subst (Appends events mid) same wrote
+ended_so events mid text bytes (Err fault) (Ok out) same wrote well = absurd (cc)
+ended_so events mid text bytes written (Err complaint) same wrote well = tt
 
 -- events were
 pub is_drawn : (asks : Option Asks) (Told : SimFault → Complaint → Type 0) (base : List ℕ) (image : Image) (entries : List Entry) (events mid now : Option (List ℕ)) (first : Option ℤ) (result : Result Unit Complaint) → AreExported asks image entries → OnOk result (Appends events mid (ending first)) → Keeps mid now → IfErr result IsOfWriter

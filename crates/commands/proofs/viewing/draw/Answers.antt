@@ -40,7 +40,7 @@ returns-in-Ok-clause-ended g c =
       told = λ h.
           let viewed = subst (λ (why : Option Uncounted). IsViewed (asks_where c.args.choice) (drawn_by g.row.W.Denot) (draw_failed g.row.W.Denot) image c.draw_into-drawn.result.0 why) (nothing c.draw_into-drawn.result.1 c.in_default.not-Some) (e.told h) in
           is_drawn (asks_where c.args.choice) (IsToldAt c.args.files.now.place c.draw_into-drawn.new.files.store) c.args.files.now.place.base.now image (drawn_by g.row.W.Denot c.draw_into-drawn.result.0) _ _ _ _ c.write_out.result viewed.0
-          (ended_so _ c.write_all.result c.write_out.result (rw same at c.write_all.ensures.bytes) c.write_out.ensures.well) c.write_out.ensures.stays c.write_out.ensures.failed;
+          (ended_so _ _ _ c.deref.result.now c.write_all.result c.write_out.result same c.write_all.ensures.bytes c.write_out.ensures.well) c.write_out.ensures.stays c.write_out.ensures.failed;
     }
 
 pub returns-in-Err-clause-ended : goal.returns-in-Err-clause-ended

@@ -8,7 +8,7 @@ use Rattle.commands.specs.Viewing.{IsViewed, count_failed, taken_by}
 use Rattle.commands.specs.declared.viewing.Uncounted.{Uncounted}
 use Rattle.commands.specs.declared.viewing.Uncounted.TheVariants as whys
 use Rattle.commands.proofs.Bounds.{most_so, tell_after}
-use Rattle.commands.proofs.Viewed.{ended_so, honest_then, is_top, looks_then, no_top, nothing, stopped, uncounted, why_moved}
+use Rattle.commands.proofs.Viewed.{honest_then, is_top, looks_then, no_top, nothing, stopped, uncounted, why_moved}
 use Rattle.commands.proofs.viewing.top.Goals as goal
 
 pub returns-in-Some-clause-ended : goal.returns-in-Some-clause-ended
@@ -37,8 +37,8 @@ returns-in-Ok-clause-ended g c =
       at_most = λ h. most_so c.write_out.result image (clock_of c.args.files.now.store) (clock_of c.count-top.new.files.store) (most_to_read image) (e.at_most h);
       told = λ h.
           let viewed = subst (λ (why : Option Uncounted). IsViewed (asks_where c.args.choice) taken_by count_failed image c.count-top.result.0 why) (nothing c.count-top.result.1 c.in_default.not-Some) (e.told h) in
-          is_top (asks_where c.args.choice) c.args.ranking c.args.is_json (IsToldAt c.args.files.now.place c.count-top.new.files.store) c.args.files.now.place.base.now image (g.W.Write.contents c.args.watched.now.writer.now) _ _ c.count-top.result.0 c.write_out.result viewed.0 c.in-Ok.ensures.counted
-          (λ json. ended_so _ c.in-Ok.written c.write_out.result (c.in-Ok.ensures.told json) c.write_out.ensures.well) c.write_out.ensures.stays c.write_out.ensures.failed;
+          is_top (asks_where c.args.choice) c.args.ranking c.args.is_json (IsToldAt c.args.files.now.place c.count-top.new.files.store) c.args.files.now.place.base.now image (g.W.Write.contents c.args.watched.now.writer.now) _ _ c.count-top.result.0 c.in-Ok.written c.write_out.result viewed.0 c.in-Ok.ensures.counted
+          c.in-Ok.ensures.told c.write_out.ensures.well c.write_out.ensures.stays c.write_out.ensures.failed;
     }
 
 pub returns-clause-ended : goal.returns-clause-ended
