@@ -125,16 +125,18 @@ module _ (count : List ℕ → ℕ) where
       let word = row.word.now in
       let here : counts_under (row ∷ rows) word ≡ row.count ∷ counts_under rows word = ap (λ b. cons_option (then_some b row.count) (counts_under rows word)) (nat_list_eq_equiv.refl word) in
       let is : counts_under before word ++ row.count ∷ counts_under rows word ≡ cons_option (counted_row word) [] =
-      ap (λ counts. counts_under before word ++ counts) (sym here) ∙ sym (filter_map-append (λ (other : KindRow). then_some (bytes_eq other.word.now word) other.count) before (row ∷ rows)) ∙ counted word in
-      (row_is (count word) row.count (count word) (the_one (counts_under before word) row.count (counts_under rows word) (counted_row word) is),
-      kinds_counted (before ++ row ∷ []) rows (λ other. ap (λ all. counts_under all other) (append_assoc before (row ∷ []) rows) ∙ counted other))
+      ap (λ counts. counts_under before word ++ counts) (sym here) ∙ sym (filter_map-append (λ (other : KindRow). then_some (bytes_eq other.word.now word) other.count) before (row ∷ rows)) ∙ counted word in (
+        row_is (count word) row.count (count word) (the_one (counts_under before word) row.count (counts_under rows word) (counted_row word) is),
+        kinds_counted (before ++ row ∷ []) rows (λ other. ap (λ all. counts_under all other) (append_assoc before (row ∷ []) rows) ∙ counted other),
+      )
 
   -- so lines of these rows tell what is counted
   pub kinds_told : {M : Type 0} (members : List ℕ → ℕ → M) (rows : List KindRow) (lines : List (List ℕ × ℕ)) → ((word : List ℕ) → counts_under rows word ≡ cons_option (counted_row word) []) → IsPermutation (kind_pairs rows) lines
       → ((word : List ℕ) → count_by (bytes_eq word) (keys_of lines) ≡ one_if (is_some (counted_row word))) × (map (λ line. members line.0 line.1) lines ≡ map (λ word. members word (count word)) (keys_of lines))
-  kinds_told members rows lines counted each =
-      (λ word. texts_moved (kind_pairs rows) lines each word ∙ how_many_under word rows ∙ ap length (counted word) ∙ only (counted_row word),
-      members_moved (kind_pairs rows) lines each (λ n. n) count members (All-from_recursion _ (kind_pairs rows) (kinds_counted [] rows counted)))
+  kinds_told members rows lines counted each = (
+    λ word. texts_moved (kind_pairs rows) lines each word ∙ how_many_under word rows ∙ ap length (counted word) ∙ only (counted_row word),
+    members_moved (kind_pairs rows) lines each (λ n. n) count members (All-from_recursion _ (kind_pairs rows) (kinds_counted [] rows counted)),
+  )
     where
       only : (row : Option ℕ) → length (cons_option row []) ≡ one_if (is_some row)
       only None = refl
