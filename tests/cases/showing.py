@@ -433,10 +433,11 @@ def the_last_rows_of_a_monotonic_clock_are_told_since_the_first_of_all(program):
 
 @case
 def a_long_trace_that_is_damaged_is_told_as_without_its_last_rows(program):
-    program.good("import", "t", stdin=b"".join(sends(1, NOON + n) for n in range(MANY)))
+    entries = [sends(1, NOON + n) for n in range(MANY)]
+    program.good("import", "t", stdin=b"".join(entries))
     path = program.folder / "t"
     data = bytearray(path.read_bytes())
-    data[len(data) // 2] ^= 1
+    data[data.index(entries[MANY // 2])] = 5
     path.write_bytes(data)
     whole, last = program.run("show", "t"), program.run("show", "t", "--last", "3")
     same((last.status, last.errors), (whole.status, whole.errors))
