@@ -4,10 +4,10 @@
 //! `trace_reader` answers them. `fault` answers why the files aren't one whole trace, exactly where they aren't.
 //!
 //! A `View` takes entries one by one; `StreamView` hands it those of an entry stream that is written to it (`into_view`). `Top`
-//! counts functions, processes and kinds exactly, and how many messages waited for a process at most (`IsCounted`), and tells that
-//! in JSON (`WritesTable`); `Folded` counts how often each stack of calls was called (`IsFolded`). `Perfetto` writes events for
-//! each entry as it takes it, and answers what ends the drawing (`ending`). No contract says how long calls took, how numbers are
-//! laid out for people, or what events tell: tests of the program show it. No file is read here.
+//! counts functions, processes and kinds exactly, and how many messages waited for a process at most (`IsCounted`), and tells
+//! that in JSON (`WritesTable`); `Folded` counts how often each stack of calls was called (`IsFolded`). `Perfetto` writes events
+//! for each entry as it takes it, and answers what ends the drawing (`ending`). No contract says how long calls took, how numbers
+//! are laid out for people, or what events tell: tests of the program show it. No file is read here.
 #![tactic(auto)]
 
 mod acts;

@@ -128,6 +128,7 @@ impl Table<'_> {
         }
     }
 
+    /// Where its messages lie.
     #[tactic(auto, using(crate::proofs::TableLemmas::flat_push))]
     fn course(&self, alloc: Global) -> Result<Course, AllocError>
         ensures { IfOk result IsFlat }
