@@ -4,7 +4,7 @@ ghost use Rattle.std.specs.Io.KnownBytes.{Keeps};
 ghost use Rattle.stores.specs.FolderStore.{reads_of};
 ghost use Rattle.trace_text.specs.Chooses.{asks_where};
 ghost use Rattle.faults.specs.Complaints.{status_told};
-ghost use Rattle.commands.specs.{Files.CallsToTell, Files.LooksOver, Files.OnlyLooks, Files.most_with, Live.most_to_read, Naming.IsToldAt, Telling.IsOfMemory, Telling.IsOfWriter, Viewing.count_failed, Viewing.draw_failed, Viewing.drawn_by, Viewing.fold_failed, Viewing.folded_by, Viewing.taken_by, Viewing.IsDrawn, Viewing.IsFold, Viewing.IsViewed, Viewing.IsOfRows, Viewing.IsReadInto, Viewing.IsTop, Viewing.TellsWhy};
+ghost use Rattle.commands.specs.{Files.CallsToTell, Files.LooksOver, Files.OnlyLooks, Files.most_with, Live.most_to_read, Naming.IsToldAt, Telling.IsOfMemory, Telling.IsOfWriter, Viewing.IsDrawn, Viewing.IsFold, Viewing.IsViewed, Viewing.IsOfRows, Viewing.IsReadInto, Viewing.IsTop, Viewing.TellsWhy};
 
 use crate::commands::written_out;
 use crate::files::Files;
@@ -78,56 +78,6 @@ fn look_at<V: View + Drop, H: Host>(
     }
 }
 
-/// Reads a trace, and counts what its messages tell.
-fn count<H: Host>(
-    files: &mut Files<'_>,
-    choice: Option<&Choice>,
-    host: &mut H,
-) -> (Top, Option<Uncounted>)
-    ensures counted { LooksOver files.old.store files.new.store
-        (most_to_read (reads_of files.old.store))
-        (IsViewed (asks_where choice.entry) taken_by count_failed (reads_of files.old.store)
-        result.0 result.1) }
-    ensures place { files.new.place ≡ files.old.place }
-{
-    let alloc = files.alloc();
-    look_at(files, choice, Top::new(alloc), Top::new(alloc), host)
-}
-
-/// Reads a trace, and counts the stacks of its calls.
-fn count_stacks<H: Host>(
-    files: &mut Files<'_>,
-    choice: Option<&Choice>,
-    host: &mut H,
-) -> (Folded, Option<Uncounted>)
-    ensures counted { LooksOver files.old.store files.new.store
-        (most_to_read (reads_of files.old.store))
-        (IsViewed (asks_where choice.entry) folded_by fold_failed (reads_of files.old.store)
-        result.0 result.1) }
-    ensures place { files.new.place ≡ files.old.place }
-{
-    let alloc = files.alloc();
-    look_at(files, choice, Folded::new(alloc), Folded::new(alloc), host)
-}
-
-/// Reads a trace, and writes events for what its entries tell.
-fn draw_into<'w, W: Write, H: Host>(
-    files: &mut Files<'_>,
-    choice: Option<&Choice>,
-    out: &'w mut W,
-    host: &mut H,
-) -> (Perfetto<'w, W>, Option<Uncounted>)
-    ensures drawn { LooksOver files.old.store files.new.store
-        (most_to_read (reads_of files.old.store))
-        (IsViewed (asks_where choice.entry) (drawn_by W) (draw_failed W)
-        (reads_of files.old.store) result.0 result.1) }
-    ensures place { files.new.place ≡ files.old.place }
-{
-    let alloc = files.alloc();
-    let view = Perfetto::new(alloc, Some(out));
-    look_at(files, choice, view, Perfetto::new(alloc, None), host)
-}
-
 /// What is told of a trace that has more rows than are counted.
 fn too_many(files: &Files<'_>) -> Result<Complaint, AllocError>
     ensures { IfOk result (IsOfRows files.now.place.base.now) }
@@ -198,7 +148,8 @@ pub fn top<W: Write, H: Host>(
         (W.contents watched.new.writer.now) result) }
     ensures status { IfErr result (λ complaint. status_told complaint ≡ 1) }
 {
-    let (top, why) = count(files, choice, &mut *watched.host);
+    let (alloc, host) = (files.alloc(), &mut *watched.host);
+    let (top, why) = look_at(files, choice, Top::new(alloc), Top::new(alloc), host);
     if let Some(why) = why {
         return Err(told(files, why, "top"));
     }
@@ -222,7 +173,8 @@ pub fn fold<W: Write, H: Host>(
         (W.contents watched.new.writer.now) result) }
     ensures status { IfErr result (λ complaint. status_told complaint ≡ 1) }
 {
-    let (folded, why) = count_stacks(files, choice, &mut *watched.host);
+    let (alloc, host) = (files.alloc(), &mut *watched.host);
+    let (folded, why) = look_at(files, choice, Folded::new(alloc), Folded::new(alloc), host);
     if let Some(why) = why {
         return Err(told(files, why, "export"));
     }
@@ -245,7 +197,9 @@ pub fn draw<W: Write, H: Host>(
         (W.contents watched.new.writer.now) result) }
     ensures status { IfErr result (λ complaint. status_told complaint ≡ 1) }
 {
-    let (mut drawn, why) = draw_into(files, choice, &mut *watched.writer, &mut *watched.host);
+    let (alloc, host) = (files.alloc(), &mut *watched.host);
+    let view = Perfetto::new(alloc, Some(&mut *watched.writer));
+    let (mut drawn, why) = look_at(files, choice, view, Perfetto::new(alloc, None), host);
     if let Some(why) = why {
         return Err(told(files, why, "export"));
     }
