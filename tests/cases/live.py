@@ -104,20 +104,25 @@ def never_goes_back(windows):
     same([first + count for first, count in windows], sorted(first + count for first, count in windows))
 
 
+def is_still(windows):
+    """Whether nothing was written between the first look and the last: on a machine with much to do the writer may have to wait."""
+    return windows[0][1] == windows[-1][1]
+
+
 def try_file(program, name, tries):
     """Lists and exports a file by turns while an import writes it, and answers how often."""
     windows = []
     with program.start("import", name) as importer:
         same(importer.opens(), "created")
         with Feeder(importer) as feeder:
-            while len(windows) < TRIES_OF_A_FILE or (len(windows) < tries and feeder.bytes < MUCH):
+            while len(windows) < TRIES_OF_A_FILE or (len(windows) < tries and feeder.bytes < MUCH) or (len(windows) < TRIES and is_still(windows)):
                 command = ("list", "export")[len(windows) % 2]
                 windows.append(shown_first(command, program.good(command, name)))
                 feeder.tries += 1
         same(importer.end().status, 0)
     never_goes_back(windows)
     same({first for first, _ in windows}, {0})
-    assert windows[0][1] < windows[-1][1], "nothing was written meanwhile"
+    assert not is_still(windows), "nothing was written meanwhile"
     (program.folder / name).unlink()
     return len(windows)
 
