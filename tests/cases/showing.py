@@ -421,6 +421,25 @@ def what_is_open_before_the_last_entries_is_not_known_to_them(program):
 
 
 @case
+def what_is_added_to_a_long_trace_is_shown_from_now_on(program):
+    late = [sends(1, NOON + n) for n in range(MANY)]
+    program.good("import", "t", "--keep-open", stdin=b"".join([call(1, "early", NOON)] + late + [call(1, "late", NOON + MANY)]))
+    with program.start("show", "-f", "t") as follower, program.start("show", "-f", "--last", "1", "t") as last, program.start("show", "-f", "--last", "2", "--only", "call", "t") as calls:
+        same(last.line() + "\n", row(MANY + 1, "12:04:31.135456", "call", call_text(1, "late", NOON + MANY)))
+        # the first of them comes before the last entries
+        same(calls.line() + "\n", row(0, "12:04:31.123456", "call", call_text(1, "early", NOON)))
+        same(calls.line() + "\n", row(MANY + 1, "12:04:31.135456", "call", call_text(1, "late", NOON + MANY), 2))
+        time.sleep(LONG)
+        program.good("import", "t", stdin=returns(1, "late", NOON + MANY + 5) + returns(1, "early", NOON + MANY + 6))
+        expected = row(MANY + 2, "12:04:31.135461", "return", "(0.000005 s) " + return_text(1, "late", NOON + MANY + 5))
+        # its call isn't one of the last entries that were there
+        expected += row(MANY + 3, "12:04:31.135462", "return", return_text(1, "early", NOON + MANY + 6))
+        same(follower.end().output.decode(), expected + END)
+        same(last.end().output.decode(), expected + END)
+        same(calls.end().output.decode(), END)
+
+
+@case
 def the_last_rows_of_a_monotonic_clock_are_told_since_the_first_of_all(program):
     entries = [monotonic(n * 1_000) for n in range(MANY)]
     program.good("import", "t", stdin=b"".join(entries))

@@ -52,6 +52,6 @@ pub readings_at_most : (before mid now j m : ℕ) → j ≤ 4 → mid ≤ before
 readings_at_most before mid now j m few had made = omega (arith, few, had, made, suc-mul j m, mul-le-mul_right m (let less : suc j ≤ 5 = omega (arith, few) in less))
 
 -- and more is allowed where a fault ends it
-pub most_so : (result : Result Unit Complaint) (image : Image) (before now most : ℕ) → now ≤ before + most → now ≤ before + most_with result most image
+pub most_so : {T : Type 0} (result : Result T Complaint) (image : Image) (before now most : ℕ) → now ≤ before + most → now ≤ before + most_with result most image
 most_so (Ok done) image before now most had = had
 most_so (Err complaint) image before now most had = omega (arith, had)

@@ -1,43 +1,42 @@
 -- A trace that is counted.
-use Rattle.std.proofs.Common.{◌≡◌, ◌⊎◌, ◌∙◌, ℕ, Bool, true, false, Option, List, [], Some, None, ap, refl, subst, sym, inl, inr}
-use Rattle.std.specs.Prelude.{ℤ, Result, Ok, Err, OnOk, IfErr, IsErr, IsOk, IsTrue}
+use Rattle.std.proofs.Common.{◌≡◌, ◌∙◌, ℕ, Bool, true, false, Option, List, [], Some, None, ap, refl, subst, sym, inl, inr}
+use Rattle.std.specs.Prelude.{ℤ, Result, Ok, Err, OnOk, IfErr, IsOk, IsTrue}
 use Rattle.std.specs.Io.KnownBytes.{Appends, Keeps}
 use Rattle.std.proofs.KnownBytes.{Appends-kept}
 use Rattle.command_line.specs.declared.ranking.Ranking.{Ranking}
 use Rattle.entry_codec.specs.Entries.{Entry, bytes_of}
 use Rattle.trace_store.specs.Disk.{Image, AreBytes}
-use Rattle.segment.proofs.Taking.{reads_both}
 use Rattle.stores.specs.CallLaws.{images_are_bytes, reads_may_stay}
 use Rattle.stores.specs.EventLaws.{sound_events}
 use Rattle.stores.specs.Events.{files_after}
-use Rattle.stores.specs.FolderStore.{honest_of, reads_of, images_of, moments_of, clock_of, past_of}
+use Rattle.stores.specs.FolderStore.{honest_of, reads_of, clock_of, past_of}
 use Rattle.stores.specs.declared.folder_store.FolderStore.{FolderStore}
 use Rattle.trace_text.specs.Choosing.{Asks}
 use Rattle.trace_client.specs.Forms.{as_bytes}
 use Rattle.foreign_files.specs.Standing.{IsStanding}
 use Rattle.foreign_files.specs.declared.standing.Standing.TheVariants as standings
+use Rattle.trace_summary.specs.Acts.{acts_in}
 use Rattle.trace_summary.specs.Counting.{tellings}
 use Rattle.trace_summary.specs.Drawings.{ending}
+use Rattle.trace_summary.specs.Stacks.{AreOrdered, calls_at, calls_of, lines_of}
 use Rattle.trace_summary.specs.Streams.{FitHeads, IsWhyStopped, stream_contents, why_stopped}
 use Rattle.trace_summary.specs.TableObjects.{WritesTable}
 use Rattle.trace_summary.specs.Tallies.{IsCounted}
-use Rattle.trace_summary.specs.declared.folded.Folded.{Folded}
-use Rattle.trace_summary.specs.declared.top.Top.{Top}
+use Rattle.trace_summary.specs.declared.stacks.Stacks.{Stacks}
+use Rattle.trace_summary.specs.declared.tallies.Tallies.{Tallies}
 use Rattle.trace_summary.specs.declared.view.ViewFault.{ViewFault}
 use Rattle.trace_summary.specs.declared.view.ViewFault.TheVariants as views
-use Rattle.trace_lookup.specs.declared.place.Place.{Place}
 use Rattle.trace_reader.specs.Listings.{WritesStore}
 use Rattle.trace_reader.specs.Reading.{IsWhyNotRead}
 use Rattle.faults.specs.declared.complaint.Complaint.{Complaint}
 use Rattle.script_runner.specs.declared.fault.SimFault.{SimFault}
-use Rattle.commands.specs.Naming.{IsToldAt}
-use Rattle.commands.specs.Files.{OnlyLooks}
-use Rattle.commands.specs.Telling.{IsOfMemory, IsOfWriter}
+use Rattle.commands.specs.Files.{LooksOver}
+use Rattle.commands.specs.Live.{ReadsTrace, most_to_read}
+use Rattle.commands.specs.Telling.{IsOfWriter}
+use Rattle.commands.proofs.Bounds.{most_so}
 use Rattle.commands.proofs.Exported.{entries_of_export}
-use Rattle.commands.specs.Viewing.{AreExported, AreFolded, HasFailed, IsDrawn, IsFold, IsReadInto, IsUncounted, IsViewed, IsTop, TellsWhy, count_failed, counted, drawn, fold_failed, folded, folded_by, lines_not_written, no_memory, not_counted, not_drawn, not_folded, not_written, refused, taken_by, too_many}
+use Rattle.commands.specs.Viewing.{AreExported, EndsDrawing, IsFullView, IsNotShown, IsReadInto, IsShownBy, ShowsStacks, ShowsTable, TellsStop, no_memory, not_shown, not_written, refused, shown, too_many}
 use Rattle.commands.specs.declared.live.ReadFailure.{ReadFailure}
-use Rattle.commands.specs.declared.viewing.Uncounted.{Uncounted}
-use Rattle.commands.specs.declared.viewing.Uncounted.TheVariants as whys
 
 -- a trace was written whole, or why it wasn't
 pub read_so : (asks : Option Asks) (image : Image) (old now : Option (List ℕ)) (result : Result Unit ReadFailure) → OnOk result ((text : List ℕ) × WritesStore (as_bytes asks) image text × Appends old now text) → OnOk result (IsStanding standings.Ours image) → IfErr result (λ failure. IsWhyNotRead failure.fault image) → IsReadInto asks image old now result
@@ -80,98 +79,57 @@ not_failed (Some failed) no_room is = absurd (cc)
 not_failed None no_room is = refl
 
 -- what is told where no more is taken
-pub stopped : {V : Type 0} (failed : V → Option ViewFault) (Told : SimFault → Complaint → Type 0) (base : List ℕ) (image : Image) (view : V) (fault : ViewFault) (complaint : Complaint) → IsWhyStopped (failed view) fault → TellsWhy Told base (whys.View fault) complaint
-    → IsUncounted (HasFailed failed views.TooMany) Told base image complaint ⊎ IsOfWriter complaint
-stopped failed Told base image view views.NoMemory complaint why told = inl (no_memory told)
+pub stopped : {V : Type 0} (failed : V → Option ViewFault) (Told : SimFault → Complaint → Type 0) (base : List ℕ) (image : Image) (view : V) (fault : ViewFault) (complaint : Complaint) → IsWhyStopped (failed view) fault → TellsStop base fault complaint → IsNotShown (IsFullView failed) Told base image complaint
+stopped failed Told base image view views.NoMemory complaint why told = no_memory told
 stopped failed Told base image view views.TooMany complaint why told = elim told [
-  | inl rows ↦ inl (too_many (view, failed_by (failed view) why) rows)
-  | inr memory ↦ inl (no_memory memory)
+  | inl rows ↦ too_many (view, failed_by (failed view) why) rows
+  | inr memory ↦ no_memory memory
 ]
-stopped failed Told base image view views.Write complaint why told = inr told
+stopped failed Told base image view views.Write complaint why told = not_written told
 
--- what is told where it isn't counted
-pub uncounted : {V : Type 0} (asks : Option Asks) (seen : V → List Entry) (failed : V → Option ViewFault) (Told : SimFault → Complaint → Type 0) (base : List ℕ) (image : Image) (view : V) (why : Uncounted) (complaint : Complaint) → IsViewed asks seen failed image view (Some why)
-    → TellsWhy Told base why complaint → IsUncounted (HasFailed failed views.TooMany) Told base image complaint ⊎ IsOfWriter complaint
-uncounted asks seen failed Told base image view (whys.ReadFailure failure) complaint why_not told = inl (refused failure.fault why_not.0 told)
-uncounted asks seen failed Told base image view (whys.View fault) complaint why_not told = stopped failed Told base image view fault complaint why_not told
+-- it is told, whichever view failed
+pub whichever : {Full : Type 0} (Told : SimFault → Complaint → Type 0) (base : List ℕ) (image : Image) (complaint : Complaint) → IsNotShown Full Told base image complaint → IsNotShown Unit Told base image complaint
+whichever Told base image complaint (refused fault why_not told) = refused fault why_not told
+whichever Told base image complaint (too_many full rows) = too_many tt rows
+whichever Told base image complaint (no_memory memory) = no_memory memory
+whichever Told base image complaint (not_written writer) = not_written writer
 
--- what isn't there
-pub nothing : {A : Type 0} (o : Option A) → ((x : A) → o ≡ Some x → ⊥) → o ≡ None
-nothing None none = refl
-nothing (Some x) none = absurd (none x refl)
+-- what is told of it tells something else
+pub tells_on : {A B : Type 0} (old new : FolderStore) (most : ℕ) → LooksOver old new most A → (A → B) → LooksOver old new most B
+tells_on old new most looks more = record { only_reads = looks.only_reads; at_most = looks.at_most; told = λ h. more (looks.told h) }
 
--- at the same place
-pub why_moved : (was now : Place) (store : FolderStore) (why : Uncounted) (complaint : Complaint) → now ≡ was → TellsWhy (IsToldAt now store) now.base.now why complaint → TellsWhy (IsToldAt was store) was.base.now why complaint
-why_moved was now store why complaint same told = subst (λ (place : Place). TellsWhy (IsToldAt place store) place.base.now why complaint) same told
+-- a reading was made, however it ended
+pub reads_on : {A B T : Type 0} (old new : FolderStore) (result : Result T Complaint) → LooksOver old new (most_to_read (reads_of old)) A → (A → B) → ReadsTrace old new result B
+reads_on old new result looks more = record {
+  only_reads = looks.only_reads;
+  at_most = λ h. most_so result (reads_of old) (clock_of old) (clock_of new) (most_to_read (reads_of old)) (looks.at_most h);
+  told = λ h. more (looks.told h);
+}
 
--- a look, and then perhaps one more
-pub looks_then : (old mid new : FolderStore) → OnlyLooks old mid → (new ≡ mid) ⊎ OnlyLooks mid new → OnlyLooks old new
-looks_then old mid new looks more = elim more [
-  | inl same ↦ subst (λ (store : FolderStore). OnlyLooks old store) (sym same) looks
-  | inr on ↦ reads_both honest_of clock_of reads_of images_of moments_of old mid new looks on
-]
+-- what was written of the entries was written out, or it couldn't be
+pub shown_so : {E : Type 0} (Shows : List Entry → Type 0) (Full Left : Type 0) (asks : Option Asks) (Told : SimFault → Complaint → Type 0) (base : List ℕ) (image : Image) (entries : List Entry) (written : Result Unit E) (result : Result Unit Complaint) → OnOk written (Shows entries) → OnOk result (IsOk written) → IfErr result IsOfWriter → AreExported asks image entries
+    → IsShownBy Shows Full Left asks Told base image result
+shown_so Shows Full Left asks Told base image entries (Ok done) (Ok out) shows well unwritten are = shown entries are shows
+shown_so Shows Full Left asks Told base image entries (Err fault) (Ok out) shows well unwritten are = absurd (cc)
+shown_so Shows Full Left asks Told base image entries written (Err complaint) shows well unwritten are = not_shown complaint (not_written unwritten) (inl unwritten)
 
--- the store was honest before it
-pub honest_then : (mid new : FolderStore) → (new ≡ mid) ⊎ OnlyLooks mid new → honest_of new → honest_of mid
-honest_then mid new more h = elim more [
-  | inl same ↦ subst honest_of same h
-  | inr on ↦ on.was_honest h
-]
-
--- a table was written out, or not
-pub is_top : {E : Type 0} (asks : Option Asks) (ranking : Ranking) (is_json : Bool) (Told : SimFault → Complaint → Type 0) (base : List ℕ) (image : Image) (was mid now : Option (List ℕ)) (top : Top) (written : Result Unit E) (result : Result Unit Complaint) → AreExported asks image (taken_by top)
-    → IsCounted top.tallies (tellings (taken_by top)) → (IsTrue is_json → OnOk written (WritesTable ranking (tellings (taken_by top)) was mid)) → OnOk result (IsOk written) → Keeps mid now → IfErr result IsOfWriter → IsTop asks ranking is_json Told base image was now result
-is_top asks ranking is_json Told base image was mid now top (Ok done) (Ok out) are counts wrote well kept unwritten =
-    counted top are counts (λ json. let table = wrote json in record { text = table.text; writes = Appends-kept was mid now _ table.writes kept; table = table.table; reads = table.reads; tells = table.tells })
-is_top asks ranking is_json Told base image was mid now top (Err fault) (Ok out) are counts wrote well kept unwritten = absurd (cc)
-is_top asks ranking is_json Told base image was mid now top written (Err complaint) are counts wrote well kept unwritten = not_written complaint unwritten
-
--- there is none, and nothing is written
-pub no_top : (asks : Option Asks) (ranking : Ranking) (is_json : Bool) (Told : SimFault → Complaint → Type 0) (base : List ℕ) (image : Image) (was now : Option (List ℕ)) (complaint : Complaint) → IsUncounted (HasFailed count_failed views.TooMany) Told base image complaint ⊎ IsOfWriter complaint → Keeps was now → IsTop asks ranking is_json Told base image was now (Err complaint)
-no_top asks ranking is_json Told base image was now complaint why kept = elim why [
-  | inl uncounted ↦ not_counted complaint uncounted kept
-  | inr writer ↦ not_written complaint writer
-]
+-- a table was written, and then written out
+pub table_so : {E : Type 0} (ranking : Ranking) (is_json : Bool) (was mid now : Option (List ℕ)) (entries : List Entry) (tallies : Tallies) (written : Result Unit E) → IsCounted tallies (tellings entries) → (IsTrue is_json → OnOk written (WritesTable ranking (tellings entries) was mid)) → Keeps mid now
+    → OnOk written (ShowsTable ranking is_json was now entries)
+table_so ranking is_json was mid now entries tallies (Ok done) counted told kept = record {
+  tallies = tallies;
+  counted = counted;
+  told = λ json. let wrote = told json in record { text = wrote.text; writes = Appends-kept was mid now _ wrote.writes kept; table = wrote.table; reads = wrote.reads; tells = wrote.tells };
+}
+table_so ranking is_json was mid now entries tallies (Err fault) counted told kept = tt
 
 -- stacks were
-pub is_fold : (asks : Option Asks) (Told : SimFault → Complaint → Type 0) (base : List ℕ) (image : Image) (was mid now : Option (List ℕ)) (stacks : Folded) (result : Result Unit Complaint) → AreExported asks image (folded_by stacks) → AreFolded stacks was mid → Keeps mid now
-    → IfErr result IsOfWriter → IsFold asks Told base image was now result
-is_fold asks Told base image was mid now stacks (Ok done) are lines kept unwritten =
-    folded stacks are (record { calls = lines.calls; ordered = lines.ordered; lines = Appends-kept was mid now _ lines.lines kept })
-is_fold asks Told base image was mid now stacks (Err complaint) are lines kept unwritten = lines_not_written complaint unwritten
+pub stacks_so : {E : Type 0} (was mid now : Option (List ℕ)) (entries : List Entry) (counted : Stacks) (written : Result Unit E) → OnOk written ((text : List ℕ) → calls_at counted.rows.rows text ≡ calls_of text (acts_in entries)) → OnOk written (AreOrdered counted.rows.rows)
+    → OnOk written (Appends was mid (lines_of counted.is_timed counted.rows.rows.entries)) → Keeps mid now → OnOk written (ShowsStacks was now entries)
+stacks_so was mid now entries counted (Ok done) calls ordered lines kept = record { stacks = counted; calls = calls; ordered = ordered; lines = Appends-kept was mid now _ lines kept }
+stacks_so was mid now entries counted (Err fault) calls ordered lines kept = tt
 
--- they couldn't be counted
-pub no_stacks : (asks : Option Asks) (Told : SimFault → Complaint → Type 0) (base : List ℕ) (image : Image) (was now : Option (List ℕ)) (complaint : Complaint) → IsUncounted (HasFailed fold_failed views.TooMany) Told base image complaint ⊎ IsOfWriter complaint → Keeps was now → IsFold asks Told base image was now (Err complaint)
-no_stacks asks Told base image was now complaint why kept = elim why [
-  | inl uncounted ↦ not_folded complaint uncounted kept
-  | inr writer ↦ lines_not_written complaint writer
-]
-
--- they couldn't be written
-pub no_fold : (asks : Option Asks) (Told : SimFault → Complaint → Type 0) (base : List ℕ) (image : Image) (was now : Option (List ℕ)) (result : Result Unit Complaint) → IsErr result → IfErr result IsOfWriter → IsFold asks Told base image was now result
-no_fold asks Told base image was now (Ok done) err unwritten = absurd (cc)
-no_fold asks Told base image was now (Err complaint) err unwritten = lines_not_written complaint unwritten
-
--- what was written behind the events is there where it is written out
-pub ended_so : {E : Type 0} (events mid : Option (List ℕ)) (text bytes : List ℕ) (written : Result Unit E) (result : Result Unit Complaint) → bytes ≡ text → OnOk written (Appends events mid bytes) → OnOk result (IsOk written) → OnOk result (Appends events mid text)
-ended_so events mid text bytes (Ok done) (Ok out) same wrote well = subst (Appends events mid) same wrote
-ended_so events mid text bytes (Err fault) (Ok out) same wrote well = absurd (cc)
-ended_so events mid text bytes written (Err complaint) same wrote well = tt
-
--- events were
-pub is_drawn : (asks : Option Asks) (Told : SimFault → Complaint → Type 0) (base : List ℕ) (image : Image) (entries : List Entry) (events mid now : Option (List ℕ)) (first : Option ℤ) (result : Result Unit Complaint) → AreExported asks image entries → OnOk result (Appends events mid (ending first)) → Keeps mid now → IfErr result IsOfWriter
-    → IsDrawn asks Told base image now result
-is_drawn asks Told base image entries events mid now first (Ok done) are ended kept unwritten = drawn entries events first are (Appends-kept events mid now _ ended kept)
-is_drawn asks Told base image entries events mid now first (Err complaint) are ended kept unwritten = not_drawn complaint (inr unwritten)
-
--- they weren't
-pub no_drawing : {TooMany : Type 0} (asks : Option Asks) (Told : SimFault → Complaint → Type 0) (base : List ℕ) (image : Image) (now : Option (List ℕ)) (complaint : Complaint) → IsUncounted TooMany Told base image complaint ⊎ IsOfWriter complaint → IsDrawn asks Told base image now (Err complaint)
-no_drawing {TooMany} asks Told base image now complaint why = elim why [
-  | inl uncounted ↦ not_drawn complaint (inl (simpler uncounted))
-  | inr writer ↦ not_drawn complaint (inr writer)
-]
-  where
-    simpler : IsUncounted TooMany Told base image complaint → IsUncounted Unit Told base image complaint
-    simpler (refused fault why_not told) = refused fault why_not told
-    simpler (too_many many rows) = too_many tt rows
-    simpler (no_memory memory) = no_memory memory
+-- what stands behind events was
+pub drawing_so : {E : Type 0} (events mid now : Option (List ℕ)) (first : Option ℤ) (bytes : List ℕ) (written : Result Unit E) → bytes ≡ ending first → OnOk written (Appends events mid bytes) → Keeps mid now → OnOk written (EndsDrawing now)
+drawing_so events mid now first bytes (Ok done) same wrote kept = (events, (first, Appends-kept events mid now _ (subst (Appends events mid) same wrote) kept))
+drawing_so events mid now first bytes (Err fault) same wrote kept = tt

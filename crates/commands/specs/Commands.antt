@@ -51,8 +51,8 @@ use Rattle.commands.specs.Naming.{IsToldAt}
 use Rattle.commands.specs.Informing.{most_to_inform, IsInfo}
 use Rattle.commands.specs.Viewing.{IsDrawn, IsFold, IsTop}
 use Rattle.commands.specs.Salvaging.{most_to_salvage, IsSalvage}
-use Rattle.commands.specs.Live.{most_to_read}
-use Rattle.commands.specs.Files.{most_with, most_to_tell, CallsToOpen, CallsToClear, CallsToTryClearing, CallsToLook, CallsToEnd, OnlyLooks, LooksWell, LooksBehind, LooksOver, MayFail, WasRecorded, IsKeptOf}
+use Rattle.commands.specs.Live.{ReadsTrace}
+use Rattle.commands.specs.Files.{most_to_tell, CallsToOpen, CallsToClear, CallsToTryClearing, CallsToLook, CallsToEnd, OnlyLooks, LooksWell, LooksBehind, LooksOver, MayFail, WasRecorded, IsKeptOf}
 use Rattle.commands.specs.Importing.{import_fault, WasFed}
 use Rattle.import.specs.Incoming.{Outside, outside}
 use Rattle.import.specs.Beginning.{Begins, EndsWithin, IsUnread}
@@ -204,19 +204,19 @@ Changes _ = Unit {0}
 -- what is done with a trace for what the command line asks and how it is to be shown, by what is seen of the stream that comes in, what is observed until the end, and the bytes that are written
 abbrev pub Serves : TraceRequest → Shown → Files → Files → Outside → Observations → Option (List ℕ) → Option (List ℕ) → Result Unit Complaint → Type 0
 Serves (requests.List asked is_pretty) shown old new saw observed was now result = (style : Style) × IsStyleOf is_pretty shown style
-    × LooksOver old.store new.store (most_with result (most_to_read (reads_of old.store)) (reads_of old.store)) (IsRead (as_lines style) (IsToldAt old.place new.store) (reads_of old.store) was now result) × (new.place ≡ old.place)
-Serves (requests.Export asked) shown old new saw observed was now result = LooksOver old.store new.store (most_with result (most_to_read (reads_of old.store)) (reads_of old.store)) (IsRead (as_bytes (asks_shown shown)) (IsToldAt old.place new.store) (reads_of old.store) was now result)
+    × ReadsTrace old.store new.store result (IsRead (as_lines style) (IsToldAt old.place new.store) (reads_of old.store) was now result) × (new.place ≡ old.place)
+Serves (requests.Export asked) shown old new saw observed was now result = ReadsTrace old.store new.store result (IsRead (as_bytes (asks_shown shown)) (IsToldAt old.place new.store) (reads_of old.store) was now result)
 Serves (requests.Salvage asked form) shown old new saw observed was now result = (out : Form) × IsWrittenAs form shown out
     × LooksOver old.store new.store (most_to_salvage (reads_of old.store)) (IfErr result (IsSalvage out (IsToldAt old.place new.store) (Rose (failures_of old.store) (failures_of new.store)) (reads_of old.store) was now)) × IsErr result × IfErr result (λ complaint. status_told complaint ≡ 1)
 Serves (requests.Info asked is_json) shown old new saw observed was now result = LooksOver old.store new.store (most_to_inform result (reads_of old.store)) (IsInfo (IsToldAt old.place new.store) (reads_of old.store) result) × IfErr result (λ complaint. status_told complaint ≡ 1)
 Serves (requests.Fold asked) shown old new saw observed was now result =
-    LooksOver old.store new.store (most_with result (most_to_read (reads_of old.store)) (reads_of old.store)) (IsFold (asks_shown shown) (IsToldAt old.place new.store) old.place.base.now (reads_of old.store) was now result)
+    ReadsTrace old.store new.store result (IsFold (asks_shown shown) (IsToldAt old.place new.store) old.place.base.now (reads_of old.store) was now result)
     × IfErr result (λ complaint. status_told complaint ≡ 1)
 Serves (requests.Draw asked) shown old new saw observed was now result =
-    LooksOver old.store new.store (most_with result (most_to_read (reads_of old.store)) (reads_of old.store)) (IsDrawn (asks_shown shown) (IsToldAt old.place new.store) old.place.base.now (reads_of old.store) now result)
+    ReadsTrace old.store new.store result (IsDrawn (asks_shown shown) (IsToldAt old.place new.store) old.place.base.now (reads_of old.store) now result)
     × IfErr result (λ complaint. status_told complaint ≡ 1)
 Serves (requests.Top asked ranking is_json) shown old new saw observed was now result =
-    LooksOver old.store new.store (most_with result (most_to_read (reads_of old.store)) (reads_of old.store)) (IsTop (asks_shown shown) ranking is_json (IsToldAt old.place new.store) old.place.base.now (reads_of old.store) was now result)
+    ReadsTrace old.store new.store result (IsTop (asks_shown shown) ranking is_json (IsToldAt old.place new.store) old.place.base.now (reads_of old.store) was now result)
     × IfErr result (λ complaint. status_told complaint ≡ 1)
 Serves (requests.Wipe asked is_forced) shown old new saw observed was now result = (honest_of new.store → Clears (clearing_of is_forced) old.place old.store new.store was now result)
     × (honest_of new.store → IsNotToWipe (clearing_of is_forced) (reads_of old.store) → OnlyLooks old.store new.store) × (honest_of new.store → LeavesOnly clock_of moments_of old.store new.store (IsClearing (images_of old.store)))

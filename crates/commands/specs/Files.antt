@@ -54,7 +54,7 @@ abbrev pub most_to_tell : Image → ℕ
 most_to_tell image = (4 + pieces_to 1099511627780) * length image
 
 -- so many, and where a fault ends it those to tell of that
-abbrev pub most_with : Result Unit Complaint → ℕ → Image → ℕ
+abbrev pub most_with : {T : Type 0} → Result T Complaint → ℕ → Image → ℕ
 most_with (Ok done) most image = most
 most_with (Err complaint) most image = most + most_to_tell image
 

@@ -1,7 +1,10 @@
 -- A listing that begins near the end of a trace.
-use Rattle.std.specs.Prelude.{◌≡◌, ◌≤◌, ◌+◌, ℕ, Option, Some, None, IfSome, IsSome, [], false}
+use Rattle.std.specs.Prelude.{◌≡◌, ◌≤◌, ◌<◌, ◌+◌, ℕ, max, Option, Some, None, IfSome, IsSome, [], true, false}
 use Rattle.std.specs.Option.{option_map}
 use Rattle.recovery.specs.CallCounts.{most_in}
+use Rattle.recovery.specs.Outlined.{Outlines}
+use Rattle.recovery.specs.Stores.{readings}
+use Rattle.recovery.specs.declared.outlined.Outlined.{Outlined}
 use Rattle.trace_store.specs.Disk.{Image}
 use Rattle.stores.specs.FolderStore.{honest_of, reads_of, clock_of}
 use Rattle.command_line.specs.declared.layout.Layout.{Layout}
@@ -12,10 +15,10 @@ use Rattle.command_line.specs.declared.request.TraceRequest.{TraceRequest}
 use Rattle.command_line.specs.declared.request.TraceRequest.TheVariants as requests
 use Rattle.trace_text.specs.Choosing.{Asked, Asks, asks_of}
 use Rattle.trace_text.specs.declared.choice.Choice.{Choice}
-use Rattle.commands.specs.Commands.{asks_shown}
 use Rattle.commands.specs.Files.{OnlyLooks, most_to_tell}
 use Rattle.commands.specs.Live.{most_to_read}
 use Rattle.commands.specs.declared.files.Files.{Files}
+use Rattle.commands.specs.declared.later.NearEnd.{NearEnd}
 
 -- a stored trace is to be listed
 abbrev pub IsList : TraceRequest → Type 0
@@ -42,18 +45,27 @@ pub record MayBeginLater (request : TraceRequest) (shown : Shown) : Type 0 where
   pub last : ShowsLast shown.layout
   pub to_end : EndsAtTheEnd shown.choice
 
+-- what is there at first isn't shown
+abbrev pub IsFromNow : Option Layout → Type 0
+IsFromNow None = ⊥
+IsFromNow (Some layout) = layout.is_from_now ≡ true
+
+-- what is shown of a trace that is followed is what comes from now on, up to its end
+pub record ShowsNew (shown : Shown) : Type 0 where
+  pub new : IsFromNow shown.layout
+  pub to_end : EndsAtTheEnd shown.choice
+
 -- no kind, process or function is named
 abbrev pub nothing : Asked
 nothing = record { kinds = None; pids = []; functions = [] }
 
--- the same is asked for from an entry on
-abbrev pub asks_from : ℕ → Option Asks → Asks
-asks_from first None = record { from = Some first; to = None; is_whole = false; only = nothing; not = nothing }
-asks_from first (Some asks) = record asks { from = Some first }
+-- all is asked for from an entry on
+abbrev pub all_from : ℕ → Asks
+all_from first = record { from = Some first; to = None; is_whole = false; only = nothing; not = nothing }
 
 -- a choice of the same from an entry on
 abbrev pub IsChoiceFrom : ℕ → Option Choice → Choice → Type 0
-IsChoiceFrom first None later = asks_of later ≡ asks_from first None
+IsChoiceFrom first None later = asks_of later ≡ all_from first
 IsChoiceFrom first (Some choice) later = later ≡ record choice { from = Some first }
 
 -- where a choice begins, where there is one
@@ -76,18 +88,48 @@ as_asked None start = None
 abbrev pub IsNotLater : Option Choice → ℕ → Type 0
 IsNotLater choice first = IfSome choice (λ choice. IfSome choice.from (λ own. own ≤ first))
 
--- the same is shown from an entry on, which isn't before the first that is asked for
-pub record IsShownFrom (first : ℕ) (shown later : Shown) : Type 0 where
-  pub json : later.is_json ≡ shown.is_json
-  pub asks : asks_shown later ≡ Some (asks_from first (asks_shown shown))
-  pub not_later : IsNotLater shown.choice first
-
--- the most device calls to see how many entries there are, and to list those from one of them on
-abbrev pub most_ahead : Image → ℕ
-most_ahead image = most_in image + (most_to_read image + most_to_tell image)
-
--- the files were looked at so at most, and are in the same place
-pub record LooksAhead (old new : Files) : Type 0 where
+-- the files were looked at by so many device calls at most, and are in the same place
+pub record LooksUpTo (most : Image → ℕ) (old new : Files) : Type 0 where
   pub place : new.place ≡ old.place
   pub only_reads : OnlyLooks old.store new.store
-  pub at_most : honest_of new.store → clock_of new.store ≤ clock_of old.store + most_ahead (reads_of old.store)
+  pub at_most : honest_of new.store → clock_of new.store ≤ clock_of old.store + most (reads_of old.store)
+
+-- it was seen how many entries there are, and then perhaps those from one of them on were listed
+abbrev pub LooksAhead : Files → Files → Type 0
+LooksAhead old new = LooksUpTo (λ image. most_in image + (most_to_read image + most_to_tell image)) old new
+
+-- so many entries come from this one on to the end of what the files hold, and some before it
+pub record IsBeforeEnd (image : Image) (entries entry : ℕ) : Type 0 where
+  pub found : Outlined
+  pub outlines : Outlines (readings image) found
+  pub count : entry + entries ≡ found.total
+  pub behind : found.first < entry
+
+-- an entry, or one that is asked for, whichever comes later
+abbrev pub later_one : Option ℕ → ℕ → ℕ
+later_one None entry = entry
+later_one (Some own) entry = max own entry
+
+-- the same of the first entry of a choice
+abbrev pub later_of : Option Choice → ℕ → ℕ
+later_of None entry = entry
+later_of (Some choice) entry = later_one choice.from entry
+
+-- what is shown of what the files hold begins with an entry of these, or with a later one that is asked for
+pub record IsNearEnd (choice : Option Choice) (image : Image) (first : ℕ) : Type 0 where
+  pub entries : ℕ
+  pub entry : ℕ
+  pub before : IsBeforeEnd image entries entry
+  pub is : first ≡ later_of choice entry
+
+-- the same is shown from an entry near the end on, which a look ahead found, and which isn't before the first that is asked for
+pub record IsShownNearEnd (old new : Files) (first : ℕ) (shown later : Shown) : Type 0 where
+  pub ahead : LooksUpTo most_in old new
+  pub begun : IsBegunAt first shown later
+  pub not_later : IsNotLater shown.choice first
+  pub near : honest_of new.store → IsNearEnd shown.choice (reads_of old.store) first
+
+-- that, and where what is asked begins
+pub record IsNearEndOf (old new : Files) (shown : Shown) (near : NearEnd) : Type 0 where
+  pub shows : IsShownNearEnd old new near.first shown near.later
+  pub start : near.start ≡ start_asked shown.choice

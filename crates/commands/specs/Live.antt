@@ -3,13 +3,15 @@ use Rattle.std.specs.Prelude.{◌≡◌, ◌≤◌, ℕ, ◌+◌, ◌*◌, nat_l
 use Rattle.trace_store.specs.Disk.{Image}
 use Rattle.recovery.specs.CallCounts.{most_in}
 use Rattle.recovery.specs.declared.fault.RecoverFault.TheVariants as causes
-use Rattle.stores.specs.FolderStore.{failures_of, IsSame, IsClosedAnew}
+use Rattle.stores.specs.FolderStore.{failures_of, reads_of, IsSame, IsClosedAnew}
 use Rattle.stores.specs.declared.folder_store.FolderStore.{FolderStore}
 use Rattle.trace_reader.specs.Listings.{TellsFailures}
 use Rattle.trace_reader.specs.declared.fault.ReadFault.{ReadFault}
 use Rattle.trace_reader.specs.declared.fault.ReadFault.TheVariants as faults
 use Rattle.trace_reader.specs.declared.window.Opened.{Opened}
 use Rattle.trace_reader.specs.declared.window.Opened.TheVariants as opened
+use Rattle.faults.specs.declared.complaint.Complaint.{Complaint}
+use Rattle.commands.specs.Files.{LooksOver, most_with}
 
 -- the most device calls to read a trace of one file
 abbrev pub most_calls : Image → ℕ
@@ -30,6 +32,10 @@ most_of_several image = 32 * most_to_open image + most_opened image
 -- to read a trace of one file or of several
 abbrev pub most_to_read : Image → ℕ
 most_to_read image = if nat_lt 1 (length image) then most_of_several image else most_calls image
+
+-- a trace was read, by at most so many device calls, with those to tell of a fault that ended it; and this was told of it
+abbrev pub ReadsTrace : {T : Type 0} → FolderStore → FolderStore → Result T Complaint → Type 0 → Type 0
+ReadsTrace old new result Told = LooksOver old new (most_with result (most_to_read (reads_of old)) (reads_of old)) Told
 
 -- files that change while they are read may be why a trace is refused
 abbrev pub MayHaveChanged : ReadFault → Type 0

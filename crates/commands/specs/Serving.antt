@@ -2,7 +2,7 @@
 use Rattle.std.specs.Prelude.{◌≡◌, ◌⊎◌, ℕ, Bool, true, false, Option, Some, None, List, [], Result, Ok, Err, IfSome}
 use Rattle.std.specs.Io.KnownBytes.{Appends, Keeps}
 use Rattle.stores.specs.Events.{World}
-use Rattle.stores.specs.FolderStore.{locked_of}
+use Rattle.stores.specs.FolderStore.{locked_of, IsSame}
 use Rattle.command_line.specs.declared.request.Asked.{Asked}
 use Rattle.command_line.specs.declared.request.Shown.{Shown}
 use Rattle.command_line.specs.declared.request.TraceRequest.{TraceRequest}
@@ -17,7 +17,7 @@ use Rattle.commands.specs.Sites.{asked_in, IsAtPlace, AgreesOn, NamesTrace}
 use Rattle.faults.specs.declared.complaint.Complaint.{Complaint}
 use Rattle.commands.specs.declared.files.Files.{Files}
 use Rattle.shown_listings.specs.Listings.{Listing, Shows, ShowsFrom}
-use Rattle.commands.specs.Later.{MayBeginLater, LooksAhead, IsShownFrom}
+use Rattle.commands.specs.Later.{MayBeginLater, ShowsNew, LooksAhead, IsShownNearEnd}
 use Rattle.trace_client.specs.Streams.{IsListed}
 use Rattle.commands.specs.declared.serving.Task.{Task}
 use Rattle.commands.specs.declared.serving.Task.TheVariants as tasks
@@ -56,7 +56,7 @@ pub data ServesFiles (world : World) (request : TraceRequest) (shown : Shown) (h
 pub data ShowsTrace (request : TraceRequest) (shown : Shown) (had : Option (List ℕ)) (files : Files) (left : Served) (result : Result Unit Complaint) (was now : Option (List ℕ)) : Type 0 where
   shown_all : (mid : Files) → (mid ≡ files) ⊎ (MayBeginLater request shown × LooksAhead files mid) → Shows shown (ServesTrace request shown mid (outside had 0 []) left.files left.observed.notes) result was now
       → ShowsTrace request shown had files left result was now
-  shown_from : (mid : Files) (first : ℕ) (later : Shown) → MayBeginLater request shown → LooksAhead files mid → IsShownFrom first shown later
+  shown_from : (mid : Files) (first : ℕ) (later : Shown) → MayBeginLater request shown → IsShownNearEnd files mid first shown later
       → ShowsFrom first shown.layout (ServesTrace request later mid (outside (Some []) 0 []) left.files left.observed.notes) (Some result) was now → ShowsTrace request shown had files left result was now
 
 -- files were made for what is asked, and what is done with them is shown so, and they are left; or none could be had, and nothing is written
@@ -64,10 +64,26 @@ pub data ListsFiles (world : World) (request : TraceRequest) (shown : Shown) (ha
   listed : {result : Result Unit Complaint} (files : Files) (left : Served) → AreMade world request files → ShowsTrace request shown had files left result was now → ListsFiles world request shown had was now result (Some left)
   not_listed : (complaint : Complaint) → status_told complaint ≡ 1 → Keeps was now → ListsFiles world request shown had was now (Err complaint) None
 
--- files were made for what is asked, and they were followed and shown so, and are left; or none could be had, and nothing is written
+-- a listing showed the last rows, which came of an entry and what is behind it, and the files were opened anew
+pub record HasLast (request : TraceRequest) (shown : Shown) (first : ℕ) (old new : Files) : Type 0 where
+  pub left : Served
+  pub rows : Option (List ℕ)
+  pub shows : ShowsFrom first shown.layout (ServesTrace request shown old (outside (Some []) 0 []) left.files left.observed.notes) (Some (Ok tt)) (Some []) rows
+  pub place : new.place ≡ left.files.place
+  pub same : IsSame left.files.store new.store
+
+-- What is shown of a trace that is followed: what is asked, perhaps after a look ahead; or the same from an entry near the end on, where
+-- that is what comes from now on, or the last rows, and these came from there on.
+pub data IsShownOf (request : TraceRequest) (old new : Files) (shown : Shown) : Shown → Type 0 where
+  as_asked : (old ≡ new) ⊎ ((MayBeginLater request shown ⊎ ShowsNew shown) × LooksAhead old new) → IsShownOf request old new shown shown
+  from_now : (first : ℕ) (later : Shown) → ShowsNew shown → IsShownNearEnd old new first shown later → IsShownOf request old new shown later
+  last_rows : (mid : Files) (first : ℕ) (later : Shown) → MayBeginLater request shown → IsShownNearEnd old mid first shown later → HasLast request later first mid new → IsShownOf request old new shown later
+
+-- files were made for what is asked, and they were followed and shown so, perhaps from an entry near the end on, and are left; or none
+-- could be had, and nothing is written
 pub data FollowsFiles (world : World) (asked : Asked) (is_pretty : Bool) (shown : Shown) (was now : Option (List ℕ)) : Result Unit Complaint → Option Served → Type 0 where
-  followed : {result : Result Unit Complaint} (files : Files) (left : Served) → AreMade world (asks.List asked is_pretty) files → Shows shown (KeepsOn is_pretty shown files left.files) result was now
-      → FollowsFiles world asked is_pretty shown was now result (Some left)
+  followed : {result : Result Unit Complaint} (files mid : Files) (later : Shown) (left : Served) → AreMade world (asks.List asked is_pretty) files → IsShownOf (asks.List asked is_pretty) files mid shown later
+      → Shows later (KeepsOn is_pretty later mid left.files) result was now → FollowsFiles world asked is_pretty shown was now result (Some left)
   not_followed : (complaint : Complaint) → status_told complaint ≡ 1 → Keeps was now → FollowsFiles world asked is_pretty shown was now (Err complaint) None
 
 -- a stream that had these bytes is listed in a style, to its end or until a fault

@@ -8,7 +8,7 @@ ghost use Rattle.trace_client.specs.{Output.AppendsPrefix, Streams.IsListed};
 ghost use Rattle.foreign_files.specs.Clearing.{IsClearing, HasNoForeign};
 ghost use Rattle.trace_reader.specs.{WritesOut.form_of, Wiping.IsNotToWipe};
 ghost use Rattle.commands.specs.Commands.{clearing_of, wording_of, notation_of, asks_shown, IsStyleOf, EndsStream, IsRead, IsOfMark, Clears, Records, Feeds, Serves};
-ghost use Rattle.commands.specs.{Live.most_to_read, Files.most_with, Files.OnlyLooks, Files.LooksWell, Files.LooksOver, Telling.IsOfWriter, Naming.IsToldAt};
+ghost use Rattle.commands.specs.{Live.ReadsTrace, Files.OnlyLooks, Files.LooksWell, Telling.IsOfWriter, Naming.IsToldAt};
 ghost use Rattle.stores.specs.declared.folder_store.FolderStore.{FolderStore};
 ghost use Rattle.import.specs.{Incoming.Outside, Incoming.outside, Beginning.Begins};
 ghost use Rattle.commands.specs.Openings.{wanted};
@@ -175,8 +175,7 @@ fn read_trace<W: Write, H: Host>(
     output_form: OutputForm<'_>,
     watched: &mut Watched<'_, W, H>,
 ) -> Result<(), Complaint>
-    ensures read { LooksOver files.old.store files.new.store
-        (most_with result (most_to_read (reads_of files.old.store)) (reads_of files.old.store))
+    ensures read { ReadsTrace files.old.store files.new.store result
         (IsRead (form_of output_form.entry) (IsToldAt files.old.place files.new.store)
         (reads_of files.old.store) (W.contents watched.old.writer.now)
         (W.contents watched.new.writer.now) result) }

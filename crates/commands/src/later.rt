@@ -1,8 +1,10 @@
 //! A listing that begins near the end of a trace.
-ghost use Rattle.std.specs.Prelude.{◌≡◌, true, OnSome};
+ghost use Rattle.std.specs.Prelude.{◌≡◌, true, OnSome, IfOk, IfErr};
 ghost use Rattle.trace_text.specs.Choosing.{asked_of};
-ghost use Rattle.commands.specs.Later.{nothing, IsApart, IsList, ShowsLast, EndsAtTheEnd, MayBeginLater, IsNotLater, IsChoiceFrom, start_asked, IsBegunAt, as_asked};
+ghost use Rattle.commands.specs.Later.{nothing, IsApart, IsList, ShowsLast, EndsAtTheEnd, MayBeginLater, ShowsNew, IsNotLater, IsChoiceFrom, start_asked, IsBegunAt, as_asked, later_of, LooksUpTo, IsNearEndOf};
+ghost use Rattle.recovery.specs.CallCounts.{most_in};
 
+use crate::files::Files;
 use command_line::{Layout, Shown, TimeColumn, TraceRequest};
 use std::alloc::Global;
 use trace_text::{Choice, Filter};
@@ -62,9 +64,20 @@ pub fn last_of(request: &TraceRequest<'_>, shown: &Shown) -> Option<u32>
     }
 }
 
+/// Whether what is shown of a trace that is followed is what comes from now on.
+pub fn shows_new(shown: &Shown) -> bool
+    ensures { result ≡ true → ShowsNew shown.now }
+{
+    match &shown.layout {
+        Some(layout) => layout.is_from_now && is_to_end(&shown.choice),
+        None => false,
+    }
+}
+
 /// The entry at which a listing begins near the end, or a later one where the choice asks for that.
-pub fn not_before(choice: &Option<Choice>, first: u64) -> u64
-    ensures { IsNotLater choice.now result }
+fn not_before(choice: &Option<Choice>, first: u64) -> u64
+    ensures is { result ≡ later_of choice.now first }
+    ensures not_later { IsNotLater choice.now result }
 {
     match choice {
         Some(choice) => choice.from.map_or(first, |own| own.max(first)),
@@ -102,7 +115,7 @@ fn choice_from(alloc: Global, choice: Option<Choice>, first: u64) -> Choice
 }
 
 /// Where a choice begins, where there is one.
-pub fn start_asked(choice: &Option<Choice>) -> Option<Option<u64>>
+fn start_asked(choice: &Option<Choice>) -> Option<Option<u64>>
     ensures { result ≡ start_asked choice.now }
 {
     match choice {
@@ -112,7 +125,7 @@ pub fn start_asked(choice: &Option<Choice>) -> Option<Option<u64>>
 }
 
 /// The same shown from this entry on.
-pub fn shown_from(alloc: Global, shown: Shown, first: u64) -> Shown
+fn shown_from(alloc: Global, shown: Shown, first: u64) -> Shown
     ensures { IsBegunAt first shown result }
 {
     let Shown {
@@ -127,6 +140,35 @@ pub fn shown_from(alloc: Global, shown: Shown, first: u64) -> Shown
         is_plain,
         layout,
     }
+}
+
+/// What is shown from an entry near the end on.
+#[derive(Drop)]
+pub struct NearEnd {
+    pub first: u64,
+    /// Where what is asked begins, where a choice is asked for.
+    pub start: Option<Option<u64>>,
+    pub later: Shown,
+}
+
+/// What is asked, shown from that entry on which is followed by so many at least; as it is asked, where none comes before these
+/// or that can't be told.
+pub fn near_end(files: &mut Files<'_>, entries: u64, shown: Shown) -> Result<NearEnd, Shown>
+    ensures near { IfOk result (IsNearEndOf files.old files.new shown) }
+    ensures as_asked { IfErr result (λ asked. asked ≡ shown) }
+    ensures looks { LooksUpTo most_in files.old files.new }
+{
+    let Some(entry) = files.entry_before_end(entries) else {
+        return Err(shown);
+    };
+    let first = not_before(&shown.choice, entry);
+    let start = start_asked(&shown.choice);
+    let later = shown_from(files.alloc(), shown, first);
+    Ok(NearEnd {
+        first,
+        start,
+        later,
+    })
 }
 
 /// A choice as it was asked for, by where it began, where there was one.

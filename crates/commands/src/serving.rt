@@ -1,18 +1,17 @@
 //! What is asked of a stored trace, done and shown.
-ghost use Rattle.std.specs.Prelude.{◌≡◌, ℕ, List, [], Option, IfOk, IfErr};
-ghost use Rattle.command_line.specs.declared.request.TraceRequest.TheVariants as asks;
+ghost use Rattle.std.specs.Prelude.{◌≡◌, ℕ, List, [], Option, Some, Ok, true, IfOk, IfErr};
 ghost use Rattle.faults.specs.Complaints.{status_told};
 ghost use Rattle.stores.specs.Events.{World};
 ghost use Rattle.import.specs.Incoming.{outside};
-ghost use Rattle.shown_listings.specs.Listings.{Shows};
+ghost use Rattle.shown_listings.specs.Listings.{Shows, ShowsFrom};
 ghost use Rattle.commands.specs.Later.{MayBeginLater};
-ghost use Rattle.commands.specs.Serving.{Does, ServesTrace, ShowsTrace, AreMade, ServesFiles, ListsFiles, FollowsFiles};
+ghost use Rattle.commands.specs.Serving.{Does, ServesTrace, ShowsTrace, IsShownOf, AreMade, ServesFiles, ListsFiles, FollowsFiles};
 
 use crate::awaiting::await_trace;
 use crate::commands::serve_trace;
 use crate::files::Files;
 use crate::following::serve_following;
-use crate::later::{entries_for, last_of, not_before, shown_as_asked, shown_from, start_asked};
+use crate::later::{NearEnd, entries_for, last_of, near_end, shown_as_asked, shows_new};
 use crate::sites::files_for;
 use command_line::{Asked, Shown, TraceRequest};
 use faults::Complaint;
@@ -187,6 +186,23 @@ fn show_all<'a, R: Wait, I: Read + Drop, W: Output>(
     show(rt, waiter, listing, shown, input, output)
 }
 
+/// Shows a listing that begins near the end, where enough rows came from there on; else nothing is written.
+fn show_near_end<'a, R: Wait, W: Output>(
+    rt: &HostRuntime,
+    waiter: &R,
+    request: TraceRequest<'a>,
+    near: &NearEnd,
+    files: Files<'a>,
+    output: &mut W,
+) -> (Option<Result<(), Complaint>>, Served<'a>)
+    ensures { ShowsFrom near.now.first near.now.later.layout (ServesTrace request.entry
+        near.now.later files.entry (outside (Some []) 0 []) result.1.files
+        result.1.observed.notes) result.0 (W.contents output.old) (W.contents output.new) }
+{
+    let listing = listing_of(rt, request, files, false);
+    show_from(rt, waiter, listing, &near.later, near.first, io::empty(), output)
+}
+
 /// Shows the last rows of a trace: its listing begins near the end where enough of them come from there on, and else at the
 /// beginning.
 fn show_last<'a, R: Wait, I: Read + Drop, W: Output>(
@@ -204,21 +220,18 @@ fn show_last<'a, R: Wait, I: Read + Drop, W: Output>(
         (W.contents output.old) (W.contents output.new) }
 {
     let mut files = files;
-    let Some(first) = files.entry_before_end(entries_for(last)) else {
-        return show_all(rt, waiter, request, shown, files, input, output);
+    let near = match near_end(&mut files, entries_for(last), shown) {
+        Ok(near) => near,
+        Err(shown) => return show_all(rt, waiter, request, shown, files, input, output),
     };
-    let first = not_before(&shown.choice, first);
-    let start = start_asked(&shown.choice);
-    let later = shown_from(rt.alloc(), shown, first);
-    let listing = listing_of(rt, request, files, false);
-    let (told, left) = show_from(rt, waiter, listing, &later, first, io::empty(), output);
+    let (told, left) = show_near_end(rt, waiter, request, &near, files, output);
     if let Some(done) = told {
         tell_end(&left.files, true, &done);
         return (done, left);
     }
     let Served { mut files, .. } = left;
     files.reopen();
-    let shown = shown_as_asked(later, start);
+    let shown = shown_as_asked(near.later, near.start);
     show_all(rt, waiter, request, shown, files, input, output)
 }
 
@@ -251,15 +264,74 @@ pub fn list_files<'a, R: Wait, I: Read + Drop, W: Output>(
 fn files_to_follow<'a, R: Wait>(
     rt: &HostRuntime,
     waiter: &R,
-    asked: Asked<'a>,
-    is_pretty: bool,
+    asked: &Asked<'_>,
+    request: &TraceRequest<'a>,
 ) -> Result<Files<'a>, Complaint>
     ghost world: { World }
-    ensures made { IfOk result (AreMade world (asks.List asked.entry is_pretty)) }
+    ensures made { IfOk result (AreMade world request.now) }
     ensures refused { IfErr result (λ complaint. status_told complaint ≡ 1) }
 {
-    await_trace(rt, waiter, &asked)?;
-    files_for(rt, &TraceRequest::List { asked, is_pretty })
+    await_trace(rt, waiter, asked)?;
+    files_for(rt, request)
+}
+
+/// Whether rows were shown, and their listing ended well.
+fn ended_well(told: Option<Result<(), Complaint>>) -> bool
+    ensures { result ≡ true → told ≡ Some (Ok tt) }
+{
+    matches!(told, Some(Ok(())))
+}
+
+/// What is shown of a trace that is followed, where that is its last rows and then what is added: from near the end on, where
+/// enough of them come from there.
+fn last_shown<'a, R: Wait>(
+    rt: &HostRuntime,
+    waiter: &R,
+    request: TraceRequest<'a>,
+    last: u32,
+    files: Files<'a>,
+    shown: Shown,
+) -> (Files<'a>, Shown)
+    requires { MayBeginLater request shown }
+    ensures { IsShownOf request.entry files.entry result.0 shown result.1 }
+{
+    let mut files = files;
+    let near = match near_end(&mut files, entries_for(last), shown) {
+        Ok(near) => near,
+        Err(shown) => return (files, shown),
+    };
+    let mut rows = Vec::new(rt.alloc());
+    let (told, left) = show_near_end(rt, waiter, request, &near, files, &mut rows);
+    drop(rows);
+    let Served { mut files, .. } = left;
+    files.reopen();
+    if ended_well(told) {
+        return (files, near.later);
+    }
+    (files, shown_as_asked(near.later, near.start))
+}
+
+/// What is shown of a trace that is followed: from near the end on, where what comes before that isn't shown.
+fn shown_of<'a, R: Wait>(
+    rt: &HostRuntime,
+    waiter: &R,
+    request: TraceRequest<'a>,
+    files: Files<'a>,
+    shown: Shown,
+) -> (Files<'a>, Shown)
+    ensures { IsShownOf request.entry files.entry result.0 shown result.1 }
+{
+    if let Some(last) = last_of(&request, &shown) {
+        return last_shown(rt, waiter, request, last, files, shown);
+    }
+    if !shows_new(&shown) {
+        return (files, shown);
+    }
+    let mut files = files;
+    match near_end(&mut files, entries_for(0), shown) {
+        Ok(near) => (files, near.later),
+        Err(shown) => (files, shown),
+    }
 }
 
 /// Lists a trace, and goes on with what is added to it. It may wait for that forever. It hands on the files, where they could be
@@ -277,10 +349,12 @@ pub fn follow_files<'a, R: Wait, I: Read + Drop, W: Output>(
     ensures { FollowsFiles world asked.entry is_pretty shown (W.contents output.old)
         (W.contents output.new) result.0 result.1 }
 {
-    let files = match files_to_follow(rt, waiter, asked, is_pretty) {
+    let request = TraceRequest::List { asked, is_pretty };
+    let files = match files_to_follow(rt, waiter, &asked, &request) {
         Ok(files) => files,
         Err(complaint) => return (Err(complaint), None),
     };
+    let (files, shown) = shown_of(rt, waiter, request, files, shown);
     let listing = TraceListing {
         task: Task::Followed { is_pretty },
         files,

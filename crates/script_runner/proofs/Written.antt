@@ -12,8 +12,7 @@ use Rattle.tracees.specs.Books.{no_totals}
 use Rattle.tracees.specs.Desks.{DeskState}
 use Rattle.script_runner.specs.declared.reply.Leave.{Leave}
 use Rattle.script_runner.specs.Sides.{Held, Alone, AtDesk, first_side, new_side}
-use Rattle.script_runner.specs.Held.{Exchange, AreAsked, ends, reply_text, written, IsLetGo, IsAtDesk}
-use Rattle.script_runner.proofs.Running.{then_more}
+use Rattle.script_runner.specs.Held.{Exchange, AreAsked, reply_text, written, IsLetGo, IsAtDesk}
 
 -- nothing, and then two texts
 pub appends_none : (known : Option (List ℕ)) → Appends known known []

@@ -3,15 +3,22 @@ use Rattle.std.specs.Prelude.{◌≡◌, ◌⊎◌, ℕ, Option, Some, None, Lis
 use Rattle.trace_store.specs.Disk.{Image}
 use Rattle.recovery.specs.Items.{Item}
 use Rattle.recovery.specs.Views.{View}
-use Rattle.trace_store.specs.Device.{Device, Leaves, IsIdle}
+use Rattle.trace_store.specs.Device.{Device, device_of, Leaves, IsIdle}
+use Rattle.trace_store.specs.declared.store.Store.{Ghosts}
 use Rattle.trace_port.specs.Sound.{Sound}
 use Rattle.trace_port.specs.Port.{Told, Fits, Ends}
 use Rattle.trace_port.specs.PortCalls.{Finishes}
 use Rattle.tracees.specs.Desks.{DeskState}
 use Rattle.trace_port.specs.Effects.{Effect, items_in, covered_by, IsSoundSince}
-use Rattle.trace_port.specs.Opened.{IsAsOpened}
+use Rattle.trace_port.specs.Opened.{IsAsOpened, opened_told}
+use Rattle.trace_port.specs.FilePort.{file_told}
+use Rattle.trace_port.specs.contracts.pending.PendingRoom.TheImpl as pending
+use Rattle.wrap_port.specs.WrapOpened.{wrap_opened_told}
+use Rattle.wrap_port.specs.WrapPort.{wrap_told}
 use Rattle.script_lines.specs.declared.line.Line.{Line}
 use Rattle.script_runner.specs.declared.answer.Answer.{Answer}
+use Rattle.script_runner.specs.declared.opening.AnyOpening.{AnyOpening}
+use Rattle.script_runner.specs.declared.opening.AnyOpening.TheVariants as openings
 use Rattle.script_runner.specs.declared.reply.Leave.{Leave}
 use Rattle.script_runner.specs.declared.reply.Reply.{Reply}
 use Rattle.script_runner.specs.declared.reply.Reply.TheVariants.{Told as Answered, Left}
@@ -136,3 +143,10 @@ pub record WasHeld {P : Type 0} (told : P → Told) (start : P → Held P) (open
   pub read : AreTheLines files over left (lines_of done)
   -- it was told how many entries the opening found
   pub text : Tells Writes (line_of (greets (told held.first).total)) done left
+
+-- the same of a port of either kind over a store, which it left so
+abbrev pub WasHeldOver : {S : Type 0} → Ghosts S → AnyOpening → ((P : Type 0) → P → Held P) → (ℕ → Answer) → ℕ → S → S → Stretch → Result (Option Leave) SimFault → (List ℕ → Type 0) → Type 0
+WasHeldOver g (openings.File opening) start greets files old new over left Writes =
+    WasHeld (file_told g pending.ghosts) (start _) (opened_told pending.ghosts opening (device_of g old)) greets files over left (device_of g new) Writes
+WasHeldOver g (openings.Wrap opening) start greets files old new over left Writes =
+    WasHeld (wrap_told g pending.ghosts) (start _) (wrap_opened_told pending.ghosts opening (device_of g old)) greets files over left (device_of g new) Writes

@@ -3,22 +3,14 @@ use Rattle.std.specs.Prelude.{ℕ, ◌+◌, ◌/◌, ◌%◌, Option, Some, None
 use Rattle.std.specs.Fmt.{decimal}
 use Rattle.recovery.specs.declared.fault.RecoverFault.{RecoverFault}
 use Rattle.recovery.specs.declared.fault.RecoverFault.TheVariants as recovering
-use Rattle.stores.specs.declared.pick.CrashFault.{CrashFault}
 use Rattle.stores.specs.declared.pick.CrashFault.TheVariants as crashing
-use Rattle.trace_port.specs.declared.create.CreateFault.{CreateFault}
 use Rattle.trace_port.specs.declared.create.CreateFault.TheVariants as creating
-use Rattle.trace_port.specs.declared.resume.ResumeFault.{ResumeFault}
 use Rattle.trace_port.specs.declared.resume.ResumeFault.TheVariants as resuming
 use Rattle.trace_port.specs.declared.fault.PortFault.{PortFault}
 use Rattle.trace_port.specs.declared.fault.PortFault.TheVariants as porting
-use Rattle.intake.specs.declared.fault.EmitFault.{EmitFault}
 use Rattle.intake.specs.declared.fault.EmitFault.TheVariants as emitting
-use Rattle.intake.specs.declared.fault.TraceeFault.{TraceeFault}
 use Rattle.intake.specs.declared.fault.TraceeFault.TheVariants as making
-use Rattle.intake.specs.declared.offer.Counts.{Counts}
-use Rattle.intake.specs.declared.offer.Offer.{Offer}
 use Rattle.intake.specs.declared.offer.Offer.TheVariants as offers
-use Rattle.script_runner.specs.declared.refusal.HandRefusal.{HandRefusal}
 use Rattle.script_runner.specs.declared.refusal.HandRefusal.TheVariants as handing
 use Rattle.script_runner.specs.declared.refusal.Refusal.{Refusal}
 use Rattle.script_runner.specs.declared.refusal.Refusal.TheVariants as refusals
@@ -27,29 +19,12 @@ use Rattle.script_runner.specs.declared.answer.Answer.TheVariants as answers
 use Rattle.script_runner.specs.declared.reply.Origin.{Origin}
 use Rattle.script_runner.specs.declared.reply.Origin.TheVariants.{Created, Resumed}
 
-abbrev pub crash_text : CrashFault → List ℕ
-crash_text crashing.NotImage = codes "1 NotImage"
-crash_text crashing.NoMemory = codes "2 NoMemory"
-
 abbrev pub recover_text : RecoverFault → List ℕ
 recover_text (recovering.Damaged file place) = codes "1 Damaged file " ++ decimal file ++ codes " at " ++ decimal place
 recover_text recovering.Mixed = codes "2 Mixed"
 recover_text recovering.Sequence = codes "3 Sequence"
 recover_text recovering.Device = codes "4 Device"
 recover_text recovering.NoMemory = codes "5 NoMemory"
-
-abbrev pub create_text : CreateFault → List ℕ
-create_text creating.NotBlank = codes "1 NotBlank"
-create_text creating.BadSpec = codes "2 BadSpec"
-create_text creating.Device = codes "3 Device"
-create_text creating.NoMemory = codes "4 NoMemory"
-
-abbrev pub resume_text : ResumeFault → List ℕ
-resume_text resuming.Sealed = codes "1 Sealed"
-resume_text resuming.Blank = codes "2 Blank"
-resume_text resuming.WrongKind = codes "3 WrongKind"
-resume_text resuming.BadSpec = codes "4 BadSpec"
-resume_text (resuming.Recover cause) = codes "5 Recover " ++ recover_text cause
 
 abbrev pub port_text : PortFault → List ℕ
 port_text porting.Device = codes "1 Device"
@@ -58,43 +33,32 @@ port_text porting.Sealed = codes "3 Sealed"
 port_text porting.CountFull = codes "4 CountFull"
 port_text porting.FileFull = codes "5 FileFull"
 
-abbrev pub tracee_text : TraceeFault → List ℕ
-tracee_text making.BadSpec = codes "1 BadSpec"
-tracee_text making.NoMemory = codes "2 NoMemory"
-
-abbrev pub emit_text : EmitFault → List ℕ
-emit_text emitting.TooLong = codes "1 TooLong"
-emit_text emitting.TooDeep = codes "2 TooDeep"
-emit_text emitting.CountFull = codes "3 CountFull"
-emit_text emitting.NoMemory = codes "4 NoMemory"
-
-abbrev pub hand_text : HandRefusal → List ℕ
-hand_text (handing.Port fault moved) = codes "1 Port " ++ port_text fault ++ codes " moved " ++ decimal moved
-hand_text handing.NoMemory = codes "2 NoMemory"
-hand_text handing.Stranger = codes "3 Stranger"
-
 -- the number and the name of what was refused
 abbrev pub refusal_text : Refusal → List ℕ
 refusal_text refusals.Device = codes "1 Device"
 refusal_text refusals.NoMemory = codes "1 NoMemory"
-refusal_text (refusals.Crash fault) = crash_text fault
+refusal_text (refusals.Crash crashing.NotImage) = codes "1 NotImage"
+refusal_text (refusals.Crash crashing.NoMemory) = codes "2 NoMemory"
 refusal_text (refusals.Recover fault) = recover_text fault
-refusal_text (refusals.Create fault) = create_text fault
-refusal_text (refusals.Resume fault) = resume_text fault
+refusal_text (refusals.Create creating.NotBlank) = codes "1 NotBlank"
+refusal_text (refusals.Create creating.BadSpec) = codes "2 BadSpec"
+refusal_text (refusals.Create creating.Device) = codes "3 Device"
+refusal_text (refusals.Create creating.NoMemory) = codes "4 NoMemory"
+refusal_text (refusals.Resume resuming.Sealed) = codes "1 Sealed"
+refusal_text (refusals.Resume resuming.Blank) = codes "2 Blank"
+refusal_text (refusals.Resume resuming.WrongKind) = codes "3 WrongKind"
+refusal_text (refusals.Resume resuming.BadSpec) = codes "4 BadSpec"
+refusal_text (refusals.Resume (resuming.Recover cause)) = codes "5 Recover " ++ recover_text cause
 refusal_text (refusals.Port fault) = port_text fault
-refusal_text (refusals.Tracee fault) = tracee_text fault
-refusal_text (refusals.Emit fault) = emit_text fault
-refusal_text (refusals.Hand refusal) = hand_text refusal
-
-abbrev pub offer_text : Offer → List ℕ
-offer_text offers.Kept = codes "kept"
-offer_text offers.Dropped = codes "dropped"
-offer_text offers.Unasked = codes "unasked"
-
-abbrev pub counts_text : Counts → List ℕ
-counts_text counts =
-    codes "offered " ++ decimal counts.offered ++ codes " waiting " ++ decimal counts.waiting ++ codes " unsent " ++ decimal counts.unsent
-    ++ codes " handed " ++ decimal counts.handed ++ codes " lost " ++ decimal counts.lost
+refusal_text (refusals.Tracee making.BadSpec) = codes "1 BadSpec"
+refusal_text (refusals.Tracee making.NoMemory) = codes "2 NoMemory"
+refusal_text (refusals.Emit emitting.TooLong) = codes "1 TooLong"
+refusal_text (refusals.Emit emitting.TooDeep) = codes "2 TooDeep"
+refusal_text (refusals.Emit emitting.CountFull) = codes "3 CountFull"
+refusal_text (refusals.Emit emitting.NoMemory) = codes "4 NoMemory"
+refusal_text (refusals.Hand (handing.Port fault moved)) = codes "1 Port " ++ port_text fault ++ codes " moved " ++ decimal moved
+refusal_text (refusals.Hand handing.NoMemory) = codes "2 NoMemory"
+refusal_text (refusals.Hand handing.Stranger) = codes "3 Stranger"
 
 abbrev pub answer_text : Answer → List ℕ
 answer_text answers.Done = codes "ok"
@@ -109,10 +73,14 @@ answer_text (answers.KeptAt count) = codes "kept " ++ decimal count
 answer_text answers.Cut = codes "cut"
 answer_text answers.Open = codes "open"
 answer_text answers.Closed = codes "closed"
-answer_text (answers.Offer offer) = offer_text offer
+answer_text (answers.Offer offers.Kept) = codes "kept"
+answer_text (answers.Offer offers.Dropped) = codes "dropped"
+answer_text (answers.Offer offers.Unasked) = codes "unasked"
 answer_text (answers.Receipt first count) = codes "receipt " ++ decimal first ++ codes " " ++ decimal count
 answer_text (answers.CoveredReceipt first count covered) = codes "receipt " ++ decimal first ++ codes " " ++ decimal count ++ codes " covered " ++ decimal covered
-answer_text (answers.Counts counts) = counts_text counts
+answer_text (answers.Counts counts) =
+    codes "offered " ++ decimal counts.offered ++ codes " waiting " ++ decimal counts.waiting ++ codes " unsent " ++ decimal counts.unsent
+    ++ codes " handed " ++ decimal counts.handed ++ codes " lost " ++ decimal counts.lost
 answer_text (answers.Refused refusal) = codes "refused " ++ refusal_text refusal
 
 -- an answer and a line feed

@@ -1,8 +1,6 @@
 //! What a line of a script is answered.
-ghost use Rattle.std.specs.Prelude.{◌≡◌, Some};
-ghost use Rattle.std.specs.Fmt.{DisplaysOnOk};
+ghost use Rattle.std.specs.Prelude.{◌≡◌};
 ghost use Rattle.script_runner.specs.Answers as told;
-ghost use Rattle.script_runner.specs.Texts as texts;
 
 use crate::refusal::{HandRefusal, Refusal};
 use crate::reply::Origin;
@@ -163,41 +161,28 @@ impl fmt::Display for Answer {
             Answer::Cut => f.write_str("cut"),
             Answer::Open => f.write_str("open"),
             Answer::Closed => f.write_str("closed"),
-            Answer::Offer(offer) => f.write_str(offer_text(offer)),
+            Answer::Offer(Offer::Kept) => f.write_str("kept"),
+            Answer::Offer(Offer::Dropped) => f.write_str("dropped"),
+            Answer::Offer(Offer::Unasked) => f.write_str("unasked"),
             Answer::Receipt { first, count } => write!(f, "receipt {first} {count}"),
             Answer::CoveredReceipt {
                 first,
                 count,
                 covered,
             } => write!(f, "receipt {first} {count} covered {covered}"),
-            Answer::Counts(counts) => tell_counts(f, counts),
+            Answer::Counts(
+                Counts {
+                    offered,
+                    waiting,
+                    unsent,
+                    handed,
+                    lost,
+                },
+            ) => write!(
+                f,
+                "offered {offered} waiting {waiting} unsent {unsent} handed {handed} lost {lost}"
+            ),
             Answer::Refused(refusal) => write!(f, "refused {refusal}"),
         }
     }
-}
-
-fn offer_text(offer: Offer) -> &'static str
-    ensures { result.now ≡ texts.offer_text offer }
-{
-    match offer {
-        Offer::Kept => "kept",
-        Offer::Dropped => "dropped",
-        Offer::Unasked => "unasked",
-    }
-}
-
-fn tell_counts<W: fmt::Write>(f: &mut fmt::Formatter<W>, counts: Counts) -> fmt::Result
-    ensures { DisplaysOnOk W.write_str_gives f.old result (Some (texts.counts_text counts)) f.new }
-{
-    let Counts {
-        offered,
-        waiting,
-        unsent,
-        handed,
-        lost,
-    } = counts;
-    write!(
-        f,
-        "offered {offered} waiting {waiting} unsent {unsent} handed {handed} lost {lost}"
-    )
 }

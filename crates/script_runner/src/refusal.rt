@@ -6,7 +6,7 @@ ghost use Rattle.script_runner.specs.Texts as texts;
 
 use intake::{EmitFault, TraceeFault};
 use recovery::RecoverFault;
-use std::alloc::{AllocError, AllocFailed};
+use std::alloc::AllocError;
 use std::fmt;
 use stores::CrashFault;
 use trace_port::{CreateFault, PortFault, ResumeFault};
@@ -101,16 +101,6 @@ impl From<AllocError> for Refusal {
     }
 }
 
-impl<T: Drop> From<AllocFailed<T>> for Refusal {
-    ghost use Rattle.script_runner.specs.declared.refusal.Refusal.TheVariants.{NoMemory};
-
-    ghost from_gives = { λ _ refusal. refusal ≡ NoMemory };
-
-    fn from(_fault: AllocFailed<T>) -> Refusal {
-        Refusal::NoMemory
-    }
-}
-
 impl fmt::Display for Refusal {
     ghost use Rattle.std.specs.Prelude.{Some};
     ghost use Rattle.script_runner.specs.Texts.{refusal_text};
@@ -121,14 +111,34 @@ impl fmt::Display for Refusal {
         match *self {
             Refusal::Device => f.write_str("1 Device"),
             Refusal::NoMemory => f.write_str("1 NoMemory"),
-            Refusal::Crash(fault) => f.write_str(crash_text(fault)),
+            Refusal::Crash(CrashFault::NotImage) => f.write_str("1 NotImage"),
+            Refusal::Crash(CrashFault::NoMemory) => f.write_str("2 NoMemory"),
             Refusal::Recover(fault) => tell_recover(f, fault),
-            Refusal::Create(fault) => f.write_str(create_text(fault)),
-            Refusal::Resume(fault) => tell_resume(f, fault),
+            Refusal::Create(CreateFault::NotBlank) => f.write_str("1 NotBlank"),
+            Refusal::Create(CreateFault::BadSpec) => f.write_str("2 BadSpec"),
+            Refusal::Create(CreateFault::Device) => f.write_str("3 Device"),
+            Refusal::Create(CreateFault::NoMemory) => f.write_str("4 NoMemory"),
+            Refusal::Resume(ResumeFault::Sealed) => f.write_str("1 Sealed"),
+            Refusal::Resume(ResumeFault::Blank) => f.write_str("2 Blank"),
+            Refusal::Resume(ResumeFault::WrongKind) => f.write_str("3 WrongKind"),
+            Refusal::Resume(ResumeFault::BadSpec) => f.write_str("4 BadSpec"),
+            Refusal::Resume(ResumeFault::Recover(cause)) => {
+                f.write_str("5 Recover ")?;
+                tell_recover(f, cause)
+            }
             Refusal::Port(fault) => f.write_str(port_text(fault)),
-            Refusal::Tracee(fault) => f.write_str(tracee_text(fault)),
-            Refusal::Emit(fault) => f.write_str(emit_text(fault)),
-            Refusal::Hand(refusal) => tell_hand(f, refusal),
+            Refusal::Tracee(TraceeFault::BadSpec) => f.write_str("1 BadSpec"),
+            Refusal::Tracee(TraceeFault::NoMemory) => f.write_str("2 NoMemory"),
+            Refusal::Emit(EmitFault::TooLong) => f.write_str("1 TooLong"),
+            Refusal::Emit(EmitFault::TooDeep) => f.write_str("2 TooDeep"),
+            Refusal::Emit(EmitFault::CountFull) => f.write_str("3 CountFull"),
+            Refusal::Emit(EmitFault::NoMemory) => f.write_str("4 NoMemory"),
+            Refusal::Hand(HandRefusal::Port { fault, moved }) => {
+                let fault = port_text(fault);
+                write!(f, "1 Port {fault} moved {moved}")
+            }
+            Refusal::Hand(HandRefusal::NoMemory) => f.write_str("2 NoMemory"),
+            Refusal::Hand(HandRefusal::Stranger) => f.write_str("3 Stranger"),
         }
     }
 }
@@ -145,54 +155,6 @@ fn tell_recover<W: fmt::Write>(f: &mut fmt::Formatter<W>, fault: RecoverFault) -
     }
 }
 
-fn tell_resume<W: fmt::Write>(f: &mut fmt::Formatter<W>, fault: ResumeFault) -> fmt::Result
-    ensures { DisplaysOnOk W.write_str_gives f.old result (Some (texts.resume_text fault)) f.new }
-{
-    match fault {
-        ResumeFault::Sealed => f.write_str("1 Sealed"),
-        ResumeFault::Blank => f.write_str("2 Blank"),
-        ResumeFault::WrongKind => f.write_str("3 WrongKind"),
-        ResumeFault::BadSpec => f.write_str("4 BadSpec"),
-        ResumeFault::Recover(cause) => {
-            f.write_str("5 Recover ")?;
-            tell_recover(f, cause)
-        }
-    }
-}
-
-fn tell_hand<W: fmt::Write>(f: &mut fmt::Formatter<W>, refusal: HandRefusal) -> fmt::Result
-    ensures { DisplaysOnOk W.write_str_gives f.old result (Some (texts.hand_text refusal)) f.new }
-{
-    match refusal {
-        HandRefusal::Port { fault, moved } => {
-            let fault = port_text(fault);
-            write!(f, "1 Port {fault} moved {moved}")
-        }
-        HandRefusal::NoMemory => f.write_str("2 NoMemory"),
-        HandRefusal::Stranger => f.write_str("3 Stranger"),
-    }
-}
-
-fn crash_text(fault: CrashFault) -> &'static str
-    ensures { result.now ≡ texts.crash_text fault }
-{
-    match fault {
-        CrashFault::NotImage => "1 NotImage",
-        CrashFault::NoMemory => "2 NoMemory",
-    }
-}
-
-fn create_text(fault: CreateFault) -> &'static str
-    ensures { result.now ≡ texts.create_text fault }
-{
-    match fault {
-        CreateFault::NotBlank => "1 NotBlank",
-        CreateFault::BadSpec => "2 BadSpec",
-        CreateFault::Device => "3 Device",
-        CreateFault::NoMemory => "4 NoMemory",
-    }
-}
-
 fn port_text(fault: PortFault) -> &'static str
     ensures { result.now ≡ texts.port_text fault }
 {
@@ -202,25 +164,5 @@ fn port_text(fault: PortFault) -> &'static str
         PortFault::Sealed => "3 Sealed",
         PortFault::CountFull => "4 CountFull",
         PortFault::FileFull => "5 FileFull",
-    }
-}
-
-fn tracee_text(fault: TraceeFault) -> &'static str
-    ensures { result.now ≡ texts.tracee_text fault }
-{
-    match fault {
-        TraceeFault::BadSpec => "1 BadSpec",
-        TraceeFault::NoMemory => "2 NoMemory",
-    }
-}
-
-fn emit_text(fault: EmitFault) -> &'static str
-    ensures { result.now ≡ texts.emit_text fault }
-{
-    match fault {
-        EmitFault::TooLong => "1 TooLong",
-        EmitFault::TooDeep => "2 TooDeep",
-        EmitFault::CountFull => "3 CountFull",
-        EmitFault::NoMemory => "4 NoMemory",
     }
 }

@@ -1,13 +1,23 @@
 -- What comes of a line of a script while no port is held.
-use Rattle.std.proofs.Common.{◌≡◌, ℕ, Bool, false, Option, List, [], replicate, Result, Ok, Err, OnOk, OnErr, IfErr, inl, refl, sym, subst}
+use Rattle.std.proofs.Common.{◌≡◌, ℕ, Bool, false, Option, None, List, [], replicate, Result, Ok, Err, IsErr, OnOk, OnErr, IfOk, IfErr, ◌↔◌, inl, inr, refl, sym, subst}
 use Rattle.std.specs.Io.KnownBytes.{Appends, Keeps}
 use Rattle.std.proofs.KnownBytes.{Appends-nil}
 use Rattle.trace_client.specs.Output.{AppendsPrefix}
 use Rattle.stores.specs.declared.mem_store.MemStore.{MemStore}
-use Rattle.segment.specs.Specification.{Spec}
+use Rattle.segment.specs.Specification.{Spec, File}
 use Rattle.recovery.specs.CallCounts.{most_in}
 use Rattle.trace_port.specs.Openings.{IsKept}
 use Rattle.trace_port.proofs.Leaving.{weaker}
+use Rattle.trace_port.specs.Limits.{greatest_limit}
+use Rattle.trace_port.specs.declared.create.CreateFault.TheVariants as creating
+use Rattle.wrap_port.specs.WrapSpecs.{wrap_seen}
+use Rattle.wrap_port.specs.declared.spec.WrapSpec.{WrapSpec}
+use Rattle.wrap_port.specs.declared.spec.BadSpec.{BadSpec}
+use Rattle.script_runner.specs.PortOpenings.{IsNoSpec}
+use Rattle.script_runner.specs.declared.opening.AnyOpening.{AnyOpening}
+use Rattle.script_runner.specs.declared.refusal.Refusal.{Refusal}
+use Rattle.script_runner.specs.declared.refusal.Refusal.TheVariants as refusals
+use Rattle.script_runner.specs.declared.reply.Origin.{Origin}
 use Rattle.stores.specs.MemStore.{reads_of, failures_of}
 use Rattle.script_lines.specs.Reading.{Progress}
 use Rattle.std.specs.declared.vec.Vec.{Vec}
@@ -15,27 +25,15 @@ use Rattle.std.specs.declared.alloc.Global.{Global}
 use Rattle.script_lines.specs.declared.line.Unsynced.{Unsynced}
 use Rattle.script_lines.specs.declared.line.Line.{Line}
 use Rattle.script_lines.specs.declared.line.Line.TheVariants as lines
-use Rattle.script_runner.specs.Read.{Stretch, stretch, first_lines}
-use Rattle.simulator.specs.Simulated.{device, IsNew, IsOfStore, Does, lists, Fails, answers_in_part, lists_in_part, DoesOrFails, IsOver, IsFinished, told, not_told, failed, LooksBy, IsRunWhole, LeavesSo, WasRun, ComesOf, SaysWhyNot, ended_so, Simulates, IsRun, runs, not_written_out, first_of}
+use Rattle.script_runner.specs.Read.{stretch, first_lines}
+use Rattle.simulator.specs.Simulated.{device, IsNew, IsOfStore, Does, lists, Fails, answers_in_part, lists_in_part, DoesOrFails, IsOver, IsFinished, told, not_told, failed, LooksBy, IsRunWhole, LeavesSo, ComesOf, opens, opens_not, Begins, BeginsWrap, Opens, Simulates, IsRun, runs, not_written_out, first_of}
 use Rattle.simulator.specs.Stored.{IsListed}
 use Rattle.script_runner.specs.declared.fault.SimFault.TheVariants as faults
 use Rattle.script_runner.specs.declared.fault.SimFault.{SimFault}
-use Rattle.script_runner.specs.declared.refusal.Refusal.{Refusal}
 use Rattle.script_runner.specs.declared.reply.Leave.{Leave}
 use Rattle.script_runner.specs.declared.reply.Stop.{Stop}
 use Rattle.script_runner.specs.declared.reply.Stop.TheVariants as stops
-use Rattle.script_runner.specs.declared.reply.Origin.{Origin}
 use Rattle.script_runner.specs.declared.reply.Origin.TheVariants.{Resumed}
-
--- its port was run
-pub was_run : (origin : Origin) (spec : Spec) (limit : ℕ) (old new : MemStore) (over : Stretch) (left : Result (Option Leave) SimFault) (Writes : List ℕ → Type 0) → WasRun origin spec limit old new over left Writes → ComesOf origin spec limit old new over (ended_so left) Writes
-was_run origin spec limit old new over (Ok left) Writes run = run
-was_run origin spec limit old new over (Err fault) Writes run = run
-
--- and it wasn't refused
-pub not_refused : {Fault : Type 0} (name : Fault → Refusal) (Tells : ℕ → ℕ → Fault → Type 0) (Why : MemStore → MemStore → Fault → Type 0) (old new : MemStore) (left : Result (Option Leave) SimFault) → SaysWhyNot name Tells Why old new (ended_so left)
-not_refused name Tells Why old new (Ok leave) = tt
-not_refused name Tells Why old new (Err fault) = tt
 
 -- a line was run whole, in a script of the same kind
 pub whole_so : (of_desk here : Bool) (line : Line) (old new : MemStore) (behind to : Progress) (result : Result Unit SimFault) (was now : Option (List ℕ)) → here ≡ of_desk → IsRunWhole line old new (stretch here behind to) result was now
@@ -45,6 +43,28 @@ whole_so of_desk here line old new behind to result was now same run = subst (λ
 -- nothing was written to make it
 pub only_kept : (spec : Spec) (old new : MemStore) → IsKept (device old) (device new) → LeavesSo Resumed spec old new
 only_kept spec old new kept = weaker (device old) (device new) (device old).images _ (λ image was. inl was) (kept.moments tt)
+
+-- a wrap was begun, where there is one
+pub begins_wrap : (made : Result WrapSpec BadSpec) (spec : Spec) (old new : MemStore) (result : Result (Option (AnyOpening × Origin)) Refusal) → (IsErr made ↔ IsNoSpec spec) → IfOk made (λ wrap. wrap_seen wrap ≡ spec) → IfOk made (λ wrap. Begins (wrap_seen wrap) greatest_limit old new result)
+    → OnErr made ((new ≡ old) × (result ≡ Err (refusals.Create creating.BadSpec))) → BeginsWrap spec old new result
+begins_wrap (Ok wrap) spec old new result refused is begins none = inl (subst (λ (s : Spec). Begins s greatest_limit old new result) is begins)
+begins_wrap (Err bad) spec old new result refused is begins none = inr (refused.0 refl, none.0, none.1)
+
+-- no port is opened where there is neither one nor a refusal
+is_some : {Fault : Type 0} {name : Fault → Refusal} {Tells : ℕ → ℕ → Fault → Type 0} {Why : MemStore → MemStore → Fault → Type 0} {origin : Origin} {spec : Spec} {limit : ℕ} {old new : MemStore} {result : Result (Option (AnyOpening × Origin)) Refusal} → ComesOf name Tells Why origin spec limit old new result → result ≡ Ok None → ⊥
+is_some (opens found moments failures) none = absurd (cc)
+is_some (opens_not moments why failures) none = absurd (cc)
+
+-- a line that opens no port leaves the store
+pub left_alone : (line : Line) (old new : MemStore) (result : Result (Option (AnyOpening × Origin)) Refusal) → Opens line old new result → result ≡ Ok None → new ≡ old
+left_alone (lines.CreateFile limit) old new result comes none = absurd (is_some comes none)
+left_alone (lines.ResumeFile limit) old new result comes none = absurd (is_some comes none)
+left_alone (lines.CreateWrap size count) old new result (inl comes) none = absurd (is_some comes none)
+left_alone (lines.CreateWrap size count) old new result (inr left) none = left.1
+left_alone (lines.CreateTime millis count) old new result (inl comes) none = absurd (is_some comes none)
+left_alone (lines.CreateTime millis count) old new result (inr left) none = left.1
+left_alone lines.ResumeWrap old new result comes none = absurd (is_some (comes File) none)
+left_alone _ old new result comes none = comes.0
 
 -- a line that is none of those for a store
 pub not_of_store : (line : Line) → ((files : ℕ) → line ≡ lines.Store files → ⊥) → ((file : ℕ) (bytes : Vec ℕ Global) → line ≡ lines.Bytes file bytes → ⊥) → ((calls : ℕ) → line ≡ lines.Fuse calls → ⊥) → ((calls : ℕ) → line ≡ lines.FailOnce calls → ⊥)

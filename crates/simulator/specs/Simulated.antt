@@ -22,12 +22,7 @@ use Rattle.trace_port.specs.declared.create.CreateFault.TheVariants.{BadSpec}
 use Rattle.trace_port.specs.Openings.{ReadsAlike, TellsCreate, TellsResume}
 use Rattle.trace_port.specs.Creations.{IsNotCreated}
 use Rattle.trace_port.specs.Resumptions.{IsNotResumed}
-use Rattle.trace_port.specs.Opened.{opened_told}
 use Rattle.trace_port.specs.Sound.{ReadsAs}
-use Rattle.trace_port.specs.FilePort.{file_told}
-use Rattle.trace_port.specs.contracts.pending.PendingRoom.TheImpl as pending
-use Rattle.wrap_port.specs.WrapOpened.{wrap_opened_told}
-use Rattle.wrap_port.specs.WrapPort.{wrap_told}
 use Rattle.wrap_port.specs.Resumptions.{IsNotResumed as IsNoWrapResumed}
 use Rattle.script_lines.specs.declared.line.Line.{Line}
 use Rattle.script_lines.specs.declared.line.Line.TheVariants as lines
@@ -36,7 +31,7 @@ use Rattle.script_lines.specs.Lines.{pick_of, IsOfFiles}
 use Rattle.script_lines.specs.Reading.{Progress, HasNext, HasEnded}
 use Rattle.script_runner.specs.Sides.{Alone}
 use Rattle.script_runner.specs.Read.{Stretch, stretch, first_lines, ReadsNothing, IsNoLine}
-use Rattle.script_runner.specs.Held.{WasHeld}
+use Rattle.script_runner.specs.Held.{WasHeldOver}
 use Rattle.trace_port.specs.Limits.{greatest_limit}
 use Rattle.script_runner.specs.PortOpenings.{first_told, GoesOnOrBegins, IsNoSpec}
 use Rattle.simulator.specs.Stored.{TellsStore, TellsFiles, TellsRefusal, BeginsSo, IsListedInPart}
@@ -45,7 +40,6 @@ use Rattle.script_runner.specs.declared.answer.Answer.TheVariants as answers
 use Rattle.script_runner.specs.declared.fault.SimFault.{SimFault}
 use Rattle.script_runner.specs.declared.fault.SimFault.TheVariants as faults
 use Rattle.script_runner.specs.declared.opening.AnyOpening.{AnyOpening}
-use Rattle.script_runner.specs.declared.opening.AnyOpening.TheVariants as openings
 use Rattle.script_runner.specs.declared.refusal.Refusal.{Refusal}
 use Rattle.script_runner.specs.declared.refusal.Refusal.TheVariants as refusals
 use Rattle.script_runner.specs.declared.reply.Leave.{Leave}
@@ -72,32 +66,10 @@ LeavesSo Created spec old new =
     Leaves (device old) (device new) (λ image. (device old).images image ⊎ ReadsAs spec empty false image) × ((IsBlank (readings (reads_of old)) → ⊥) → Leaves (device old) (device new) (device old).images)
 LeavesSo Resumed spec old new = Leaves (device old) (device new) (λ image. (device old).images image ⊎ ReadsAlike (reads_of old) image)
 
--- the lines of a stretch of a script were run on a port over this opening, which then was dropped
-abbrev pub RanOn : AnyOpening → Origin → MemStore → MemStore → Stretch → Result (Option Leave) SimFault → (List ℕ → Type 0) → Type 0
-RanOn (openings.File opening) origin old new over left Writes =
-    WasHeld (file_told mem.ghosts pending.ghosts) Alone (opened_told pending.ghosts opening (device old)) (greeting origin) (length (reads_of old)) over left (device new) Writes
-RanOn (openings.Wrap opening) origin old new over left Writes =
-    WasHeld (wrap_told mem.ghosts pending.ghosts) Alone (wrap_opened_told pending.ghosts opening (device old)) (greeting origin) (length (reads_of old)) over left (device new) Writes
-
--- a port was made over the store, with no device call that failed, and the lines after this one were run on it until it was given up
-pub record WasRun (origin : Origin) (spec : Spec) (limit : ℕ) (old new : MemStore) (over : Stretch) (left : Result (Option Leave) SimFault) (Writes : List ℕ → Type 0) : Type 0 where
-  pub mid : MemStore
-  pub opening : AnyOpening
-  pub opens : GoesOnOrBegins (reads_of old) (first_told opening (device mid)) spec limit origin
-  pub moments : LeavesSo origin spec old mid
-  pub no_failure : failures_of mid ≡ failures_of old
-  pub ran : RanOn opening origin mid new over left Writes
-
 -- a run that a fault ended, as what came of its line
 abbrev pub ended_so : Result (Option Leave) SimFault → Result (Option Leave) Stop
 ended_so (Ok left) = Ok left
 ended_so (Err fault) = Err (stops.Failed fault)
-
--- what comes of a line that makes a port, and of the stretch of the script after it: it was run so, or there is no port
-abbrev pub ComesOf : Origin → Spec → ℕ → MemStore → MemStore → Stretch → Result (Option Leave) Stop → (List ℕ → Type 0) → Type 0
-ComesOf origin spec limit old new over (Ok left) Writes = WasRun origin spec limit old new over (Ok left) Writes
-ComesOf origin spec limit old new over (Err (stops.Failed fault)) Writes = WasRun origin spec limit old new over (Err fault) Writes
-ComesOf origin spec limit old new over (Err (stops.Refused refusal)) Writes = LeavesSo origin spec old new × ReadsNothing over × Writes []
 
 -- a crash left what was picked of the store and is answered of, or it can't leave that and the store stays as it is
 pub data Crashes (unsynced : Unsynced) (old new : MemStore) : List ℕ → Type 0 where
@@ -170,47 +142,43 @@ abbrev pub DoesOrFails : Line → MemStore → MemStore → Result Unit SimFault
 DoesOrFails line old new (Ok done) Writes = (text : List ℕ) × Does old new line text × Writes text
 DoesOrFails line old new (Err fault) Writes = Fails old new Writes line fault
 
--- the same, as of a line whose port is no more
-abbrev pub DoesAlone : Line → MemStore → MemStore → Result (Option Leave) Stop → (List ℕ → Type 0) → Type 0
-DoesAlone line old new (Ok left) Writes = (left ≡ None) × DoesOrFails line old new (Ok tt) Writes
-DoesAlone line old new (Err (stops.Failed fault)) Writes = DoesOrFails line old new (Err fault) Writes
-DoesAlone line old new (Err (stops.Refused refusal)) Writes = ⊥
+-- what comes of opening a port, with no device call that failed: there is one; or it is refused by such a fault, and what that says of the store and of the device calls that failed holds
+pub data ComesOf {Fault : Type 0} (name : Fault → Refusal) (Tells : ℕ → ℕ → Fault → Type 0) (Why : MemStore → MemStore → Fault → Type 0) (origin : Origin) (spec : Spec) (limit : ℕ) (old new : MemStore) : Result (Option (AnyOpening × Origin)) Refusal → Type 0 where
+  opens : {opening : AnyOpening} → GoesOnOrBegins (reads_of old) (first_told opening (device new)) spec limit origin → LeavesSo origin spec old new → failures_of new ≡ failures_of old
+      → ComesOf name Tells Why origin spec limit old new (Ok (Some (opening, origin)))
+  opens_not : {fault : Fault} → LeavesSo origin spec old new → Why old new fault → Tells (failures_of old) (failures_of new) fault → ComesOf name Tells Why origin spec limit old new (Err (name fault))
 
--- there is no such wrap, and nothing was done
-abbrev pub IsNoWrap : MemStore → MemStore → Result (Option Leave) Stop → (List ℕ → Type 0) → Type 0
-IsNoWrap old new result Writes = (new ≡ old) × (result ≡ Err (stops.Refused (refusals.Create BadSpec))) × Writes []
+-- of a creation
+abbrev pub Begins : Spec → ℕ → MemStore → MemStore → Result (Option (AnyOpening × Origin)) Refusal → Type 0
+Begins = ComesOf refusals.Create TellsCreate (IsNotCreated mem.ghosts) Created
 
--- a line that makes a port, and is refused, is told why: by such a fault, and what that says of the store and of the device calls that failed holds
-abbrev pub SaysWhyNot : {Fault : Type 0} → (Fault → Refusal) → (ℕ → ℕ → Fault → Type 0) → (MemStore → MemStore → Fault → Type 0) → MemStore → MemStore → Result (Option Leave) Stop → Type 0
-SaysWhyNot name Tells Why old new (Ok left) = Unit {0}
-SaysWhyNot name Tells Why old new (Err (stops.Failed fault)) = Unit {0}
-SaysWhyNot {Fault} name Tells Why old new (Err (stops.Refused refusal)) = (fault : Fault) × (refusal ≡ name fault) × Why old new fault × Tells (failures_of old) (failures_of new) fault
+-- of one of a wrap, of which there may be none, and then nothing was done
+abbrev pub BeginsWrap : Spec → MemStore → MemStore → Result (Option (AnyOpening × Origin)) Refusal → Type 0
+BeginsWrap spec old new result = Begins spec greatest_limit old new result ⊎ (IsNoSpec spec × (new ≡ old) × (result ≡ Err (refusals.Create BadSpec)))
 
--- of a creation, and of a resumption of a file or of a wrap
-abbrev pub SaysWhyNotCreated : MemStore → MemStore → Result (Option Leave) Stop → Type 0
-SaysWhyNotCreated = SaysWhyNot refusals.Create TellsCreate (IsNotCreated mem.ghosts)
+-- what comes of a line where it opens a port; no other line does anything then
+abbrev pub Opens : Line → MemStore → MemStore → Result (Option (AnyOpening × Origin)) Refusal → Type 0
+Opens (lines.CreateFile limit) old new result = Begins File limit old new result
+Opens (lines.ResumeFile limit) old new result = ComesOf refusals.Resume TellsResume (IsNotResumed mem.ghosts) Resumed File limit old new result
+Opens (lines.CreateWrap size count) old new result = BeginsWrap (Wrap size count) old new result
+Opens (lines.CreateTime millis count) old new result = BeginsWrap (Timed millis count) old new result
+Opens lines.ResumeWrap old new result = (spec : Spec) → ComesOf refusals.Resume TellsResume (IsNoWrapResumed mem.ghosts) Resumed spec greatest_limit old new result
+Opens line old new result = (new ≡ old) × (result ≡ Ok None)
 
-abbrev pub SaysWhyNotResumed : MemStore → MemStore → Result (Option Leave) Stop → Type 0
-SaysWhyNotResumed = SaysWhyNot refusals.Resume TellsResume (IsNotResumed mem.ghosts)
-
-abbrev pub SaysWhyNoWrap : MemStore → MemStore → Result (Option Leave) Stop → Type 0
-SaysWhyNoWrap = SaysWhyNot refusals.Resume TellsResume (IsNoWrapResumed mem.ghosts)
-
--- what comes of a line, and of the stretch of the script after it that its port takes
-abbrev pub Runs : Line → MemStore → MemStore → Stretch → Result (Option Leave) Stop → (List ℕ → Type 0) → Type 0
-Runs (lines.CreateFile limit) old new over result Writes = ComesOf Created File limit old new over result Writes × SaysWhyNotCreated old new result
-Runs (lines.ResumeFile limit) old new over result Writes = ComesOf Resumed File limit old new over result Writes × SaysWhyNotResumed old new result
-Runs (lines.CreateWrap size count) old new over result Writes = (ComesOf Created (Wrap size count) greatest_limit old new over result Writes × SaysWhyNotCreated old new result) ⊎ (IsNoSpec (Wrap size count) × IsNoWrap old new result Writes × ReadsNothing over)
-Runs (lines.CreateTime millis count) old new over result Writes = (ComesOf Created (Timed millis count) greatest_limit old new over result Writes × SaysWhyNotCreated old new result) ⊎ (IsNoSpec (Timed millis count) × IsNoWrap old new result Writes × ReadsNothing over)
-Runs lines.ResumeWrap old new over result Writes = ((spec : Spec) → ComesOf Resumed spec greatest_limit old new over result Writes) × SaysWhyNoWrap old new result
-Runs line old new over result Writes = DoesAlone line old new result Writes × ReadsNothing over
+-- what comes of a line, and of the stretch of the script after it that its port takes: that was run on the port, or there is none, or the line makes none
+pub data Runs (line : Line) (old new : MemStore) (over : Stretch) (Writes : List ℕ → Type 0) : Result (Option Leave) Stop → Type 0 where
+  on_port : (mid : MemStore) (opening : AnyOpening) (origin : Origin) (left : Result (Option Leave) SimFault) → Opens line old mid (Ok (Some (opening, origin)))
+      → WasHeldOver mem.ghosts opening (λ _. Alone) (greeting origin) (length (reads_of mid)) mid new over left Writes → Runs line old new over Writes (ended_so left)
+  no_port : {refusal : Refusal} → Opens line old new (Err refusal) → ReadsNothing over → Writes [] → Runs line old new over Writes (Err (stops.Refused refusal))
+  alone : (mid : MemStore) → Opens line old mid (Ok None) → DoesOrFails line mid new (Ok tt) Writes → ReadsNothing over → Runs line old new over Writes (Ok None)
+  fails : (mid : MemStore) {fault : SimFault} → Opens line old mid (Ok None) → DoesOrFails line mid new (Err fault) Writes → ReadsNothing over → Runs line old new over Writes (Err (stops.Failed fault))
 
 -- a line was run whole: with its port, if it made one, the stretch of the script that this took, and what is answered once that is no more
 pub record IsRunWhole (line : Line) (old new : MemStore) (taken : Stretch) (result : Result Unit SimFault) (was now : Option (List ℕ)) : Type 0 where
   pub mid : MemStore
   pub between : Option (List ℕ)
   pub left : Result (Option Leave) Stop
-  pub runs : Runs line old mid taken left (λ text. Appends was between text)
+  pub runs : Runs line old mid taken (λ text. Appends was between text) left
   pub over : IsFinished mid new (λ text. Appends between now text) left result
 
 -- lines were run whole one after another, each on the store that the one before it left, and each was the next one of the script, after all that was read for the one before it

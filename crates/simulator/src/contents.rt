@@ -47,7 +47,10 @@ fn contents_of<S: Store>(alloc: Global, store: &mut S) -> Result<Vec<Vec<u8>>, R
 {
     let mut contents = Vec::new(alloc);
     for file in 0..store.files() {
-        contents.push(bytes_of(alloc, store, file)?)?;
+        let bytes = bytes_of(alloc, store, file)?;
+        if contents.push(bytes).is_err() {
+            return Err(Refusal::NoMemory);
+        }
     }
     Ok(contents)
 }

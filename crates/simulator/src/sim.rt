@@ -1,26 +1,22 @@
 //! A script over a store in memory.
-ghost use Rattle.std.specs.Prelude.{◌≡◌, ◌≢◌, ◌<◌, ◌≤◌, ℕ, Option, List, Result, length, false};
+ghost use Rattle.std.specs.Prelude.{◌≡◌, ◌<◌, ◌≤◌, IfOk, IfSome, OnErr, Err, length, false};
 ghost use Rattle.std.specs.Io.KnownBytes.{Appends};
 ghost use Rattle.stores.specs.MemStore.{reads_of};
 ghost use Rattle.script_lines.specs.Lines.{IsWithinLimits, IsOfFiles};
-ghost use Rattle.segment.specs.Specification.{Spec, File};
 ghost use Rattle.wrap_port.specs.WrapSpecs.{wrap_seen};
 ghost use Rattle.script_runner.specs.{LinesRun.Answering, LinesRun.RunsLines, PortOpenings.FitsStore, Texts.line_of};
 ghost use Rattle.trace_port.specs.Limits.{greatest_limit};
-ghost use Rattle.simulator.specs.Simulated.{ended_so, RanOn, ComesOf, SaysWhyNotCreated, SaysWhyNotResumed, SaysWhyNoWrap, Crashes, Does, DoesAlone, DoesOrFails, Runs, IsRunWhole, Simulates, IsFinished, IsRun, first_of as first_told};
+ghost use Rattle.simulator.specs.Simulated.{Begins, Opens, Crashes, Does, DoesOrFails, Runs, IsRunWhole, Simulates, IsFinished, IsRun, first_of as first_told};
 ghost use Rattle.trace_port.specs.declared.create.CreateFault.TheVariants as creating;
 ghost use Rattle.script_runner.specs.declared.refusal.Refusal.TheVariants as refusals;
-ghost use Rattle.script_runner.specs.declared.reply.Stop.TheVariants as stops;
 ghost use Rattle.script_lines.specs.declared.line.Line.TheVariants as lines;
-ghost use Rattle.script_runner.specs.declared.reply.Origin.TheVariants.{Created, Resumed};
 
 use crate::contents::with_bytes;
 use crate::store_lines::{list, list_files};
 use recovery::wipe;
 use script_lines::{Line, Script, Unsynced};
 use script_runner::{
-    Answer, Answers, AnyOpening, Leave, Origin, Refusal, SimFault, Stop, hold_file, hold_wrap,
-    next_line,
+    Answer, Answers, AnyOpening, Leave, Origin, Refusal, SimFault, Stop, hold, next_line,
 };
 use std::alloc::Global;
 use std::io::{BufRead, Write};
@@ -128,174 +124,74 @@ fn run_line<R: BufRead, W: Write>(
     requires sound { IsWithinLimits line.now }
     requires file { IsOfFiles (length (reads_of store.old)) line.now }
     ensures runs { RunsLines R.Read W.Write script.old script.new answers.old answers.new
-        (λ over was now. Runs line.now store.old store.new over result
-        (λ text. Appends was now text)) }
+        (λ over was now. Runs line.now store.old store.new over
+        (λ text. Appends was now text) result) }
 {
-    match line {
-        Line::CreateFile(limit) => create_file(alloc, store, *limit, script, answers),
-        Line::ResumeFile(limit) => resume_file(alloc, store, *limit, script, answers),
-        Line::CreateWrap { size, count } => {
-            match WrapSpec::new(*size, *count) {
-                Ok(spec) => create_wrap(alloc, store, spec, script, answers),
-                Err(BadSpec) => Err(no_wrap()),
+    match open(alloc, &mut *store, line) {
+        Ok(Some((opening, origin))) => {
+            match hold(alloc, store, opening, origin, script, answers) {
+                Ok(leave) => Ok(leave),
+                Err(fault) => Err(Stop::Failed(fault)),
             }
         }
-        Line::CreateTime { millis, count } => {
-            match WrapSpec::timed(*millis, *count) {
-                Ok(spec) => create_wrap(alloc, store, spec, script, answers),
-                Err(BadSpec) => Err(no_wrap()),
-            }
-        }
-        Line::ResumeWrap => resume_wrap(alloc, store, script, answers),
-        line => run_alone(alloc, store, line, answers),
+        Ok(None) => match run_store_line(alloc, store, line, answers) {
+            Ok(()) => Ok(None),
+            Err(fault) => Err(Stop::Failed(fault)),
+        },
+        Err(refusal) => Err(Stop::Refused(refusal)),
     }
 }
 
-/// The refusal of a wrap that can't be.
-fn no_wrap() -> Stop
-    ensures { result ≡ stops.Refused (refusals.Create creating.BadSpec) }
-{
-    Stop::Refused(Refusal::Create(CreateFault::BadSpec))
-}
-
-/// Runs a line that makes no port, and answers None; Err where that ends the run.
-fn run_alone<W: Write>(
+/// Opens a port as a line says: over a blank store, or one that goes on with the trace that is there. None where it makes none.
+fn open(
     alloc: Global,
     store: &mut MemStore,
     line: &Line,
-    answers: &mut Answers<'_, W>,
-) -> Result<Option<Leave>, Stop>
-    requires sound { IsWithinLimits line.now }
-    requires file { IsOfFiles (length (reads_of store.old)) line.now }
-    ensures does { Answering W.Write answers.old answers.new
-        (λ was now. DoesAlone line.now store.old store.new result (λ text. Appends was now text)) }
+) -> Result<Option<(AnyOpening, Origin)>, Refusal>
+    ensures fits { IfOk result (λ found. IfSome found
+        (λ r. FitsStore ⟦<MemStore as Store>⟧ r.0 store.new)) }
+    ensures opens { Opens line.now store.old store.new result }
 {
-    match run_store_line(alloc, store, line, &mut *answers) {
-        Ok(()) => Ok(None),
-        Err(fault) => Err(Stop::Failed(fault)),
+    match line {
+        Line::CreateFile(limit) => match begin_create(alloc, store, *limit) {
+            Ok(opening) => Ok(Some((AnyOpening::File(opening), Origin::Created))),
+            Err(fault) => Err(Refusal::Create(fault)),
+        },
+        Line::ResumeFile(limit) => match begin_resume(alloc, store, *limit) {
+            Ok(opening) => Ok(Some((AnyOpening::File(opening), Origin::Resumed))),
+            Err(fault) => Err(Refusal::Resume(fault)),
+        },
+        Line::CreateWrap { size, count } => create_wrap(alloc, store, WrapSpec::new(*size, *count)),
+        Line::CreateTime { millis, count } => {
+            create_wrap(alloc, store, WrapSpec::timed(*millis, *count))
+        }
+        Line::ResumeWrap => match wrap_port::begin_resume(alloc, store) {
+            Ok(opening) => Ok(Some((AnyOpening::Wrap(opening), Origin::Resumed))),
+            Err(fault) => Err(Refusal::Resume(fault)),
+        },
+        _ => Ok(None),
     }
 }
 
-/// How a line's port was left; a fault of its run stops the script.
-fn ended(left: Result<Option<Leave>, SimFault>) -> Result<Option<Leave>, Stop>
-    ensures { result ≡ ended_so left }
-{
-    match left {
-        Ok(leave) => Ok(leave),
-        Err(fault) => Err(Stop::Failed(fault)),
-    }
-}
-
-/// Runs lines on a port over an opening, until that is given up.
-fn hold<R: BufRead, W: Write>(
+/// Opens a wrap port over a blank store, where there is such a wrap.
+fn create_wrap(
     alloc: Global,
     store: &mut MemStore,
-    opening: AnyOpening,
-    origin: Origin,
-    script: &mut Script<'_, R>,
-    answers: &mut Answers<'_, W>,
-) -> Result<Option<Leave>, Stop>
-    requires fits { FitsStore ⟦<MemStore as Store>⟧ opening store.old }
-    ensures held { RunsLines R.Read W.Write script.old script.new answers.old answers.new
-        (λ over was now. (left : Result (Option Leave) SimFault) × (result ≡ ended_so left)
-        × RanOn opening origin store.old store.new over left (λ text. Appends was now text)) }
+    spec: Result<WrapSpec, BadSpec>,
+) -> Result<Option<(AnyOpening, Origin)>, Refusal>
+    ensures fits { IfOk result (λ found. IfSome found
+        (λ r. FitsStore ⟦<MemStore as Store>⟧ r.0 store.new)) }
+    ensures opens { IfOk spec (λ spec. Begins (wrap_seen spec) greatest_limit store.old store.new
+        result) }
+    ensures no_wrap { OnErr spec ((store.new ≡ store.old)
+        × (result ≡ Err (refusals.Create creating.BadSpec))) }
 {
-    match opening {
-        AnyOpening::File(opening) => {
-            ended(hold_file(alloc, store, opening, origin, script, answers))
-        }
-        AnyOpening::Wrap(opening) => {
-            ended(hold_wrap(alloc, store, opening, origin, script, answers))
-        }
-    }
-}
-
-/// Makes a file port over a blank store, and runs lines until it is given up.
-fn create_file<R: BufRead, W: Write>(
-    alloc: Global,
-    store: &mut MemStore,
-    limit: u64,
-    script: &mut Script<'_, R>,
-    answers: &mut Answers<'_, W>,
-) -> Result<Option<Leave>, Stop>
-    ensures comes { RunsLines R.Read W.Write script.old script.new answers.old answers.new
-        (λ over was now. ComesOf Created File limit store.old store.new over result
-        (λ text. Appends was now text)) }
-    ensures why_not { SaysWhyNotCreated store.old store.new result }
-{
-    match begin_create(alloc, &mut *store, limit) {
-        Ok(opening) => {
-            let opening = AnyOpening::File(opening);
-            hold(alloc, store, opening, Origin::Created, script, answers)
-        }
-        Err(fault) => Err(Stop::Refused(Refusal::Create(fault))),
-    }
-}
-
-/// Makes a file port that goes on with the trace that is there, and runs lines until it is given up.
-fn resume_file<R: BufRead, W: Write>(
-    alloc: Global,
-    store: &mut MemStore,
-    limit: u64,
-    script: &mut Script<'_, R>,
-    answers: &mut Answers<'_, W>,
-) -> Result<Option<Leave>, Stop>
-    ensures comes { RunsLines R.Read W.Write script.old script.new answers.old answers.new
-        (λ over was now. ComesOf Resumed File limit store.old store.new over result
-        (λ text. Appends was now text)) }
-    ensures why_not { SaysWhyNotResumed store.old store.new result }
-{
-    match begin_resume(alloc, &mut *store, limit) {
-        Ok(opening) => {
-            let opening = AnyOpening::File(opening);
-            hold(alloc, store, opening, Origin::Resumed, script, answers)
-        }
-        Err(fault) => Err(Stop::Refused(Refusal::Resume(fault))),
-    }
-}
-
-/// Makes a wrap port that goes on with the trace that is there, and runs lines until it is given up.
-fn resume_wrap<R: BufRead, W: Write>(
-    alloc: Global,
-    store: &mut MemStore,
-    script: &mut Script<'_, R>,
-    answers: &mut Answers<'_, W>,
-) -> Result<Option<Leave>, Stop>
-    ensures comes { RunsLines R.Read W.Write script.old script.new answers.old answers.new
-        (λ over was now. (spec : Spec)
-        → ComesOf Resumed spec greatest_limit store.old store.new over result
-        (λ text. Appends was now text)) }
-    ensures why_not { SaysWhyNoWrap store.old store.new result }
-{
-    match wrap_port::begin_resume(alloc, &mut *store) {
-        Ok(opening) => {
-            let opening = AnyOpening::Wrap(opening);
-            hold(alloc, store, opening, Origin::Resumed, script, answers)
-        }
-        Err(fault) => Err(Stop::Refused(Refusal::Resume(fault))),
-    }
-}
-
-/// Makes a wrap port over a blank store, and runs lines until it is given up.
-fn create_wrap<R: BufRead, W: Write>(
-    alloc: Global,
-    store: &mut MemStore,
-    spec: WrapSpec,
-    script: &mut Script<'_, R>,
-    answers: &mut Answers<'_, W>,
-) -> Result<Option<Leave>, Stop>
-    ensures comes { RunsLines R.Read W.Write script.old script.new answers.old answers.new
-        (λ over was now. ComesOf Created
-        (wrap_seen spec) greatest_limit store.old store.new over result
-        (λ text. Appends was now text)) }
-    ensures why_not { SaysWhyNotCreated store.old store.new result }
-{
-    match wrap_port::begin_create(alloc, &mut *store, spec) {
-        Ok(opening) => {
-            let opening = AnyOpening::Wrap(opening);
-            hold(alloc, store, opening, Origin::Created, script, answers)
-        }
-        Err(fault) => Err(Stop::Refused(Refusal::Create(fault))),
+    let Ok(spec) = spec else {
+        return Err(Refusal::Create(CreateFault::BadSpec));
+    };
+    match wrap_port::begin_create(alloc, store, spec) {
+        Ok(opening) => Ok(Some((AnyOpening::Wrap(opening), Origin::Created))),
+        Err(fault) => Err(Refusal::Create(fault)),
     }
 }
 

@@ -1,32 +1,18 @@
 use Rattle.std.proofs.Common.{ap}
 use Rattle.recovery.specs.Stores.{is_blank}
 use Rattle.wrap_port.specs.WrapSpecs.{wrap_seen}
-use Rattle.stores.specs.contracts.mem_store.MemStoreStore.TheImpl as mem
-use Rattle.trace_port.specs.Creations.{IsNotCreated}
-use Rattle.trace_port.specs.Openings.{TellsCreate}
 use Rattle.script_runner.specs.PortOpenings.{begins}
-use Rattle.script_runner.specs.declared.opening.AnyOpening.TheVariants as openings
-use Rattle.script_runner.specs.declared.refusal.Refusal.TheVariants as refusals
-use Rattle.script_runner.specs.declared.reply.Origin.TheVariants.{Created}
-use Rattle.simulator.proofs.Simulating.{was_run, not_refused}
+use Rattle.simulator.specs.Simulated.{opens, opens_not}
 use Rattle.simulator.proofs.sim.create_wrap.Goals as goal
 
-pub returns-in-Ok : goal.returns-in-Ok
-returns-in-Ok g c =
-    record {
-      comes = let e = c.in-Ok.ensures in
-          record {
-            name = c.hold.ensures.held.name;
-            of_desk = c.hold.ensures.held.of_desk;
-            reader = c.hold.ensures.held.reader;
-            did = rw c.hold.ensures.held.did.1 (was_run Created _ _ c.args.store.now c.hold.new.store _ c.hold.ensures.held.did.0 _ (record {
-              mid = c.begin_create.new.store;
-              opening = openings.Wrap c.in-Ok.opening;
-              opens = begins (is_blank (e.created.blank tt)) (ap wrap_seen e.spec) c.in-Ok.opening.longest (e.fits tt);
-              moments = (c.begin_create.ensures.creates.any_moment tt, c.begin_create.ensures.creates.not_blank_stays tt);
-              no_failure = e.device.no_failure;
-              ran = c.hold.ensures.held.did.2;
-            }));
-          };
-      why_not = rw c.hold.ensures.held.did.1 (not_refused refusals.Create TellsCreate (IsNotCreated mem.ghosts) c.args.store.now c.hold.new.store c.hold.ensures.held.did.0);
-    }
+pub returns-in-Ok-begin_create-clause-opens : goal.returns-in-Ok-begin_create-clause-opens
+returns-in-Ok-begin_create-clause-opens c =
+    let e = c.in-Ok-begin_create.ensures in
+    let made = c.begin_create.ensures.creates in
+    rw c.in-Ok.is (opens (begins (is_blank (e.created.blank tt)) (ap wrap_seen e.spec) c.in-Ok-begin_create.opening.longest (e.fits tt)) (made.any_moment tt, made.not_blank_stays tt) e.device.no_failure)
+
+pub returns-in-Err-clause-opens : goal.returns-in-Err-clause-opens
+returns-in-Err-clause-opens c =
+    let e = c.in-Err.ensures in
+    let made = c.begin_create.ensures.creates in
+    rw c.in-Ok.is (opens_not (made.any_moment tt, made.not_blank_stays tt) e.refused e.device.failures)
