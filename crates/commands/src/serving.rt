@@ -200,7 +200,15 @@ fn show_near_end<'a, R: Wait, W: Output>(
         result.1.observed.notes) result.0 (W.contents output.old) (W.contents output.new) }
 {
     let listing = listing_of(rt, request, files, false);
-    show_from(rt, waiter, listing, &near.later, near.first, io::empty(), output)
+    show_from(
+        rt,
+        waiter,
+        listing,
+        &near.later,
+        near.first,
+        io::empty(),
+        output,
+    )
 }
 
 /// Shows the last rows of a trace: its listing begins near the end where enough of them come from there on, and else at the
