@@ -320,8 +320,8 @@ def the_answers_to_an_import_that_nobody_reads_end_it_at_the_end_of_its_stream(p
 @case
 def a_listing_onto_a_full_device_is_a_fault(program):
     (program.folder / "t").write_bytes(STORED)
-    for command in ("list", "export"):
+    for words in (["list"], ["export"], ["show"], ["show", "--last", "1"], ["show", "--to", "1", "--last", "1"]):
         with open("/dev/full", "wb") as full:
-            ran = subprocess.run([program.path, command, "t"], cwd=program.folder, stdout=full, stderr=subprocess.PIPE, check=False)
+            ran = subprocess.run([program.path, *words, "t"], cwd=program.folder, stdout=full, stderr=subprocess.PIPE, check=False)
         why = b"standard output can't be written: No space left on device (os error 28)\n"
         same((ran.returncode, ran.stderr), (1, b"dbgrec: refused 2 Write\n" + why))

@@ -2,7 +2,7 @@
 use Rattle.std.proofs.Common.{◌≡◌, ◌≤◌, ◌+◌, ℕ, Option, Some, None, List, Result, Ok, Err, inr, refl, sym, subst, ap, ◌∙◌, arith}
 use Rattle.trace_store.specs.Disk.{Image}
 use Rattle.stores.specs.Events.{IsHonest}
-use Rattle.stores.specs.FolderStore.{honest_of, reads_of, clock_of, IsSame}
+use Rattle.stores.specs.FolderStore.{honest_of, reads_of, clock_of, IsSame, IsClosedAnew}
 use Rattle.stores.specs.declared.folder_store.FolderStore.{FolderStore}
 use Rattle.recovery.specs.CallCounts.{most_in}
 use Rattle.faults.specs.declared.complaint.Complaint.{Complaint}
@@ -43,12 +43,12 @@ looked _ shown old new saw observed list was = absurd list
 
 -- and then they were listed, and opened anew
 pub ahead-twice : (request : TraceRequest) (shown : Shown) (old mid new anew : Files) (saw : Outside) (observed : Observations) → IsList request → LooksUpTo most_in old mid → WasListed (ServesTrace request shown mid saw new observed)
-    → anew.place ≡ new.place → IsSame new.store anew.store → LooksAhead old anew
-ahead-twice request shown old mid new anew saw observed list looks was again same =
+    → anew.place ≡ new.place → IsSame new.store anew.store → IsClosedAnew new.store anew.store → LooksAhead old anew
+ahead-twice request shown old mid new anew saw observed list looks was again same closed =
     let listed = looked request shown mid new saw observed list was in
     record {
       place = again ∙ listed.place ∙ looks.place;
-      only_reads = looks_same old.store new.store anew.store (looks_both old.store mid.store new.store (inr looks.only_reads) listed.only_reads) same;
+      only_reads = looks_same old.store new.store anew.store (looks_both old.store mid.store new.store (inr looks.only_reads) listed.only_reads) same closed;
       at_most = λ h.
           let after : honest_of new.store = subst IsHonest same.past h in
           let before = listed.only_reads.was_honest after in

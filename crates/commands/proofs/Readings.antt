@@ -4,8 +4,8 @@ use Rattle.std.specs.Io.KnownBytes.{Appends}
 use Rattle.std.specs.Prelude.{Result, Ok, Err, OnOk, IfErr, MatchResult}
 use Rattle.std.proofs.Math.Nat.{suc-mul, mul-le-mul_right}
 use Rattle.trace_store.specs.Disk.{Image}
-use Rattle.stores.specs.Events.{IsHonest}
-use Rattle.stores.specs.FolderStore.{honest_of, reads_of, images_of, moments_of, clock_of, failures_of, IsSame}
+use Rattle.stores.specs.Events.{IsHonest, as_made}
+use Rattle.stores.specs.FolderStore.{made_of, honest_of, reads_of, images_of, moments_of, clock_of, failures_of, IsSame, IsClosedAnew}
 use Rattle.stores.specs.declared.folder_store.FolderStore.{FolderStore}
 use Rattle.segment.proofs.Taking.{reads_both}
 use Rattle.trace_client.specs.Forms.{Form}
@@ -27,10 +27,11 @@ looks_both old mid new before read = elim before [
 ]
 
 -- after one that looked anew for files
-pub looks_same : (old mid new : FolderStore) → OnlyLooks old mid → IsSame mid new → OnlyLooks old new
-looks_same old mid new looks same =
+pub looks_same : (old mid new : FolderStore) → OnlyLooks old mid → IsSame mid new → IsClosedAnew mid new → OnlyLooks old new
+looks_same old mid new looks same closed =
     let behind : honest_of new → honest_of mid = λ h. subst IsHonest same.past h in
     record {
+      same_made = let made : made_of new ≡ made_of mid = λ i. (as_made (same.past i), closed.locked i) in made ∙ looks.same_made;
       was_honest = λ h. looks.was_honest (behind h);
       count = ap (λ (i : Image). length i) same.idle.same_reads ∙ looks.count;
       same_reads = λ h. same.idle.same_reads ∙ looks.same_reads (behind h);

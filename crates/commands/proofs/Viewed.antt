@@ -47,7 +47,7 @@ read_so asks image old now (Err failure) wrote there why_not = why_not
 pub bytes_read : (store : FolderStore) → honest_of store → AreBytes (reads_of store)
 bytes_read store h =
     let past = past_of store in
-    images_are_bytes (files_after past) (reads_of store) (reads_may_stay (files_after past) (sound_events past.world past.count past.events h))
+    images_are_bytes (files_after past) (reads_of store) (reads_may_stay (files_after past) (sound_events past.world past.count past.events h.0))
 
 -- a view that had seen nothing was given an export
 pub exported : (asks : Option Asks) (image : Image) (first : List Entry) (held : List ℕ) (seen : List Entry) (pending : List ℕ) (taken : List Entry) → AreBytes image → first ≡ [] → held ≡ [] → IsStanding standings.Ours image

@@ -225,7 +225,7 @@ Serves (requests.Import asked rules) shown old new saw observed was now result =
 
 -- no device call was made yet on the files of a trace, whatever the world that they are part of
 abbrev pub IsUntouched : World → Files → Type 0
-IsUntouched world files = past_of files.store ≡ record { world = world; names = (past_of files.store).names; count = file_count files.place.kind; events = [] }
+IsUntouched world files = past_of files.store ≡ record { world = world; names = (past_of files.store).names; count = file_count files.place.kind; events = []; earlier = [] }
 
 -- and they aren't locked: who writes them may take the lock
 pub record IsFree (world : World) (files : Files) : Type 0 where

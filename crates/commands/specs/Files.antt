@@ -5,22 +5,18 @@ use Rattle.segment.specs.DeviceCalls.{DeviceReads}
 use Rattle.segment.specs.Pieces.{pieces_to}
 use Rattle.recovery.specs.Wiping.{wiping_calls}
 use Rattle.commands.specs.Openings.{most_to_begin}
-use Rattle.trace_store.specs.Device.{OnlyReads, device_of}
+use Rattle.trace_store.specs.Device.{OnlyReads}
 use Rattle.trace_store.specs.Moments.{Rose}
-use Rattle.stores.specs.FolderStore.{honest_of, reads_of, images_of, moments_of, clock_of, failures_of}
+use Rattle.stores.specs.FolderStore.{made_of, honest_of, reads_of, images_of, moments_of, clock_of, failures_of}
 use Rattle.stores.specs.declared.folder_store.FolderStore.{FolderStore}
 use Rattle.stores.specs.contracts.folder_store.FolderStoreStore.TheImpl as folder
-use Rattle.trace_port.specs.Opened.{opened_told}
-use Rattle.trace_port.specs.FilePort.{file_told}
-use Rattle.trace_port.specs.contracts.pending.PendingRoom.TheImpl as pending
-use Rattle.wrap_port.specs.WrapOpened.{wrap_opened_told}
-use Rattle.wrap_port.specs.WrapPort.{wrap_told}
 use Rattle.script_runner.specs.Answers.{opened_answer}
 use Rattle.script_runner.specs.Faults.{IsFaultOfDevice}
+use Rattle.faults.specs.Faults.{IsFaultOfSeveral}
 use Rattle.script_runner.specs.Sides.{in_desk}
 use Rattle.script_runner.specs.Texts.{line_of}
-use Rattle.script_runner.specs.Read.{Stretch, first_lines}
-use Rattle.script_runner.specs.Held.{WasHeld}
+use Rattle.script_runner.specs.Read.{first_lines}
+use Rattle.script_runner.specs.Held.{WasHeldOver}
 use Rattle.import.specs.Marks.{HasMark, HasTotal, KeepsFirst}
 use Rattle.import.specs.declared.incoming.Incoming.{Incoming}
 use Rattle.trace_store.specs.Disk.{Image}
@@ -36,13 +32,12 @@ use Rattle.script_runner.specs.declared.fault.SimFault.{SimFault}
 use Rattle.script_runner.specs.declared.fault.SimFault.TheVariants as faults
 use Rattle.trace_client.specs.Output.{AppendsPrefix}
 use Rattle.script_runner.specs.declared.opening.AnyOpening.{AnyOpening}
-use Rattle.script_runner.specs.declared.opening.AnyOpening.TheVariants as openings
 use Rattle.script_runner.specs.declared.reply.Leave.{Leave}
 use Rattle.script_runner.specs.declared.reply.Origin.{Origin}
 
 -- the files were read at most
 abbrev pub OnlyLooks : FolderStore → FolderStore → Type 0
-OnlyLooks old new = OnlyReads honest_of clock_of reads_of images_of moments_of old new
+OnlyLooks old new = OnlyReads made_of honest_of clock_of reads_of images_of moments_of old new
 
 -- the failure count after some device calls, of which any may have failed
 pub data MayFail (before : ℕ) : ℕ → Type 0 where
@@ -99,6 +94,8 @@ pub record LooksBehind (fault : SimFault) (old new : FolderStore) : Type 0 where
   pub only_reads : OnlyLooks old new
   pub failures : MayFail (failures_of old) (failures_of new)
   pub of_device : IsFaultOfDevice fault → new ≡ old
+  -- but for files that disagree none is looked at
+  pub alone : (IsFaultOfSeveral fault → ⊥) → new ≡ old
   pub at_most : CallsToTell old new
 
 -- the files were read at most, by at most so many device calls, and this was told of them, where they are honest
@@ -110,13 +107,6 @@ pub record LooksOver (old new : FolderStore) (most : ℕ) (Told : Type 0) : Type
 -- the same of a call that answers this, with the failures that its fault tells of and at most so many device calls
 abbrev pub FolderReads : {T E : Type 0} → (ℕ → ℕ → E → Type 0) → FolderStore → FolderStore → Result T E → Type 0 → Type 0
 FolderReads Tells old new result Most = DeviceReads folder.ghosts Tells old new result Most
-
--- the first lines of a script, each for a desk, were run at the desk of a port over this opening, which then was dropped
-abbrev pub RanAtDesk : AnyOpening → Origin → FolderStore → FolderStore → Stretch → Result (Option Leave) SimFault → (List ℕ → Type 0) → Type 0
-RanAtDesk (openings.File opening) origin old new over left Writes =
-    WasHeld (file_told folder.ghosts pending.ghosts) in_desk (opened_told pending.ghosts opening (device_of folder.ghosts old)) (opened_answer origin) 0 over left (device_of folder.ghosts new) Writes
-RanAtDesk (openings.Wrap opening) origin old new over left Writes =
-    WasHeld (wrap_told folder.ghosts pending.ghosts) in_desk (wrap_opened_told pending.ghosts opening (device_of folder.ghosts old)) (opened_answer origin) 0 over left (device_of folder.ghosts new) Writes
 
 -- what is answered after the lines: one line more where the port was given up, of which a failed writer has a part
 abbrev pub IsAnswered : Result (Option Leave) SimFault → Result Unit SimFault → Option (List ℕ) → Option (List ℕ) → Type 0
@@ -130,7 +120,8 @@ pub record WasRecorded (opened : AnyOpening) (origin : Origin) (old new : Folder
   pub left : Result (Option Leave) SimFault
   pub count : ℕ
   pub mid : Option (List ℕ)
-  pub ran : RanAtDesk opened origin old new (first_lines true count had has) left (λ text. Appends was mid text)
+  -- its first lines were run at the desk of a port over the opening, which then was dropped
+  pub ran : WasHeldOver folder.ghosts opened (λ _. in_desk) (opened_answer origin) 0 old new (first_lines true count had has) left (λ text. Appends was mid text)
   pub answered : IsAnswered left result mid now
 
 -- so much was counted: the entries that a store has more than before, where their end is known, after the bytes that were passed over

@@ -1,9 +1,11 @@
 -- A trace that is followed, look by look.
-use Rattle.std.specs.Prelude.{◌≡◌, ◌⊎◌, ℕ, ◌+◌, ◌≤◌, Bool, Option, None, List, Result, Ok, Err, IfSome}
+use Rattle.std.specs.Prelude.{◌≡◌, ℕ, ◌+◌, ◌≤◌, Bool, Option, None, Some, List, [], ◌∷◌, Result, Ok, Err, IfSome}
+use Rattle.std.proofs.Common.{◌∙◌, ap, arith, subst}
+use Rattle.std.proofs.lemmas.List.Elements.{All-tail}
 use Rattle.std.specs.Io.KnownBytes.{Keeps}
 use Rattle.trace_store.specs.Disk.{Image}
 use Rattle.stores.specs.CallRecords.{bytes_of}
-use Rattle.stores.specs.Events.{files_after, made_anew}
+use Rattle.stores.specs.Events.{AreHonest, Calls, Past, IsHonest, files_after, made_anew}
 use Rattle.stores.specs.FolderStore.{past_of, honest_of}
 use Rattle.stores.specs.declared.folder_store.FolderStore.{FolderStore}
 use Rattle.trace_text.specs.declared.style.Style.{Style}
@@ -22,7 +24,7 @@ use Rattle.commands.specs.Commands.{IsStyleOf}
 use Rattle.commands.specs.Naming.{IsToldAt}
 use Rattle.commands.specs.Telling.{IsOfWriter}
 use Rattle.trace_lookup.specs.declared.place.Place.{Place}
-use Rattle.commands.specs.Files.{OnlyLooks}
+use Rattle.commands.specs.Files.{OnlyLooks, LooksBehind}
 use Rattle.commands.specs.Live.{MayHaveChanged}
 use Rattle.faults.specs.declared.complaint.Complaint.{Complaint}
 use Rattle.commands.specs.declared.files.Files.{Files}
@@ -56,6 +58,27 @@ pub record LooksAnew (old new : FolderStore) : Type 0 where
   pub start : FolderStore
   pub anew : past_of start ≡ made_anew (past_of old)
   pub only_looks : OnlyLooks start new
+
+-- the past of files with these names until a store over them was last made anew
+abbrev pub before_in : List (List ℕ) → ℕ → List Calls → Option Past
+before_in names count [] = None
+before_in names count (calls ∷ earlier) = Some (record { world = calls.world; names = names; count = count; events = calls.events; earlier = earlier })
+
+-- the past of a store until it was last made anew
+abbrev pub past_before : Past → Option Past
+past_before p = before_in p.names p.count p.earlier
+
+-- after such a look a store tells all of its past before it
+pub tells_before : (old new : FolderStore) → LooksAnew old new → past_before (past_of new) ≡ Some (past_of old)
+tells_before old new look = ap (λ m. past_before m.0) look.only_looks.same_made ∙ ap past_before look.anew
+
+-- and it follows the disk model only where it did so then
+pub was_honest : (old new : FolderStore) → LooksAnew old new → honest_of new → honest_of old
+was_honest old new look h =
+    let p = past_of old in
+    let before : Calls = record { world = p.world; events = p.events } in
+    let each = (subst IsHonest look.anew (look.only_looks.was_honest h)).1 in
+    (each 0 before (omega arith), All-tail (λ c. AreHonest c.world p.count c.events) before p.earlier each)
 
 -- what a store that is made anew finds
 abbrev pub found_anew : FolderStore → Image
@@ -117,6 +140,18 @@ pub data Looks (first : Stand) : ℕ → Stand → Type 0 where
   more : (n : ℕ) (mid last : Stand) (came : Seen) (now : Option (List ℕ)) → Looks first n mid → Sees mid last came → GoesOn came
       → refusals_after came n ≤ 31 → Keeps last.holds now → Looks first (refusals_after came n) (record last { holds = now })
 
+-- each look was by a store that was made anew
+looked_anew : (old new : Stand) (came : Seen) → Sees old new came → LooksAnew old.files new.files
+looked_anew old new seen.Waits look = look.anew
+looked_anew old new seen.Sealed look = look.anew
+looked_anew old new seen.Changed look = look.anew
+
+-- where the last store follows the disk model, so did that of each look: what is said of honest files is said of each
+pub were_honest : (first : Stand) (n : ℕ) (last : Stand) → Looks first n last → honest_of last.files → honest_of first.files
+were_honest first n last none h = h
+were_honest first n last (more before mid end came now earlier sees goes few keeps) h =
+    were_honest first before mid earlier (was_honest mid.files end.files (looked_anew mid end came sees) h)
+
 -- where a fault says that there is no trace, the last look found none, or none of which so much was told
 abbrev pub IsGone : Stand → FolderStore → ReadFault → Type 0
 IsGone mid files fault = honest_of files → IsWhyGone (found_anew mid.files) (number_in mid.follower) fault
@@ -139,7 +174,12 @@ pub record HasFollowed (first : Stand) (files : FolderStore) (now : Option (List
   pub looks : Looks first refusals last
   pub ends : Ends last files now result
 
--- a trace was followed from its first entry on, and what was told is written out; then its files were read at most
+-- after the last look nothing was asked of the device, or where a fault ended it no more than to tell of that
+abbrev pub LooksAfter : Result Unit ReadFault → FolderStore → FolderStore → Type 0
+LooksAfter (Ok out) left new = new ≡ left
+LooksAfter (Err fault) left new = LooksBehind (read_fault fault) left new
+
+-- a trace was followed from its first entry on, and what was told is written out
 pub record FollowsTrace (place : Place) (style : Style) (old new : FolderStore) (was now : Option (List ℕ)) (result : Result Unit Complaint) : Type 0 where
   pub first : Follower
   pub is_new : IsNew style first
@@ -149,7 +189,7 @@ pub record FollowsTrace (place : Place) (style : Style) (old new : FolderStore) 
   pub followed : HasFollowed (record { files = old; follower = first; holds = was }) left mid done
   pub out : Keeps mid now
   pub told : IsToldSo place new done result
-  pub only_looks : (new ≡ left) ⊎ OnlyLooks left new
+  pub behind : LooksAfter done left new
 
 -- the trace of these files was followed, in the style that was asked for
 abbrev pub Follows : Bool → Shown → Files → Files → Option (List ℕ) → Option (List ℕ) → Result Unit Complaint → Type 0

@@ -2,7 +2,7 @@
 use Rattle.std.specs.Prelude.{◌≡◌, ◌⊎◌, ℕ, Bool, true, false, Option, Some, None, List, [], Result, Ok, Err, IfSome}
 use Rattle.std.specs.Io.KnownBytes.{Appends, Keeps}
 use Rattle.stores.specs.Events.{World}
-use Rattle.stores.specs.FolderStore.{locked_of, IsSame}
+use Rattle.stores.specs.FolderStore.{locked_of, IsSame, IsClosedAnew}
 use Rattle.command_line.specs.declared.request.Asked.{Asked}
 use Rattle.command_line.specs.declared.request.Shown.{Shown}
 use Rattle.command_line.specs.declared.request.TraceRequest.{TraceRequest}
@@ -71,6 +71,7 @@ pub record HasLast (request : TraceRequest) (shown : Shown) (first : ℕ) (old n
   pub shows : ShowsFrom first shown.layout (ServesTrace request shown old (outside (Some []) 0 []) left.files left.observed.notes) (Some (Ok tt)) (Some []) rows
   pub place : new.place ≡ left.files.place
   pub same : IsSame left.files.store new.store
+  pub closed : IsClosedAnew left.files.store new.store
 
 -- What is shown of a trace that is followed: what is asked, perhaps after a look ahead; or the same from an entry near the end on, where
 -- that is what comes from now on, or the last rows, and these came from there on.

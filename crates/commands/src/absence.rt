@@ -15,7 +15,7 @@ pub fn is_absent<S: Store>(store: &mut S, salvaged: u64) -> bool
     ensures other { S.honest store.new → result ≡ false → salvaged ≡ 0
         → IsStanding standings.Absent (S.reads store.old)
         → Rose (S.failures_of store.old) (S.failures_of store.new) }
-    ensures only_reads { OnlyReads S.honest S.clock_of S.reads S.images S.moments store.old
+    ensures only_reads { OnlyReads S.made S.honest S.clock_of S.reads S.images S.moments store.old
         store.new }
     ensures at_most { S.clock_of store.new ≤ S.clock_of store.old + 2 * length (S.reads store.old) }
 {

@@ -14,7 +14,7 @@ ghost use Rattle.faults.specs.Kept.{kept_told, fault_past};
 ghost use Rattle.import.specs.{Incoming.Outside, Incoming.outside, Beginning.HasCome};
 ghost use Rattle.commands.specs.{Commands.IsExplained, Naming.IsToldAt, Importing.WasFed};
 ghost use Rattle.commands.specs.Openings.{wanted, most_to_begin, TellsFault, KeepsTrace, IsWhyNotOpened, OpensOn};
-ghost use Rattle.commands.specs.Files.{CallsToEnd, CallsToLook, CallsToKeep, CallsToClear, CallsToTryClearing, OnlyLooks, MayFail, FolderReads, RanAtDesk, WasRecorded, IsCounted, IsCount};
+ghost use Rattle.commands.specs.Files.{CallsToEnd, CallsToLook, CallsToKeep, CallsToClear, CallsToTryClearing, OnlyLooks, MayFail, FolderReads, WasRecorded, IsCounted, IsCount};
 
 use crate::counting::{count_kept, is_of_memory};
 use crate::files::Files;
@@ -26,9 +26,7 @@ use command_line::Rules;
 use faults::{Complaint, Kept, fault_in_input};
 use import::{Incoming, Source};
 use recovery::look_over;
-use script_runner::{
-    Answer, Answers, AnyOpening, Leave, Origin, SimFault, record_file, record_wrap,
-};
+use script_runner::{Answer, Answers, AnyOpening, Origin, SimFault, record_script};
 use std::alloc::AllocError;
 use std::io::{BufRead, Write};
 use stores::FolderStore;
@@ -109,26 +107,6 @@ impl Files<'_> {
         open_store(self.alloc(), &mut self.store, self.place.kind, run_end)
     }
 
-    /// Runs a script's lines at the desk of a port over an opening.
-    fn run_at_desk<R: BufRead, W: Write>(
-        &mut self,
-        opened: AnyOpening,
-        origin: Origin,
-        reader: &mut R,
-        writer: &mut W,
-    ) -> Result<Option<Leave>, SimFault>
-        requires { FitsStore ⟦<FolderStore as Store>⟧ opened self.old.store }
-        ensures { (count : ℕ) × RanAtDesk opened origin self.old.store self.new.store
-            (first_lines true count (R.remaining reader.old) (R.remaining reader.new)) result
-            (λ text. Appends (W.contents writer.old) (W.contents writer.new) text) }
-    {
-        let (alloc, store) = (self.alloc(), &mut self.store);
-        match opened {
-            AnyOpening::File(opening) => record_file(alloc, store, opening, origin, reader, writer),
-            AnyOpening::Wrap(opening) => record_wrap(alloc, store, opening, origin, reader, writer),
-        }
-    }
-
     /// Records what a script says.
     pub fn record<R: BufRead, W: Write>(
         &mut self,
@@ -141,7 +119,8 @@ impl Files<'_> {
         ensures { WasRecorded opened origin self.old.store self.new.store (R.remaining reader.old)
             (R.remaining reader.new) result (W.contents writer.old) (W.contents writer.new) }
     {
-        let left = self.run_at_desk(opened, origin, reader, &mut *writer)?;
+        let (alloc, store) = (self.alloc(), &mut self.store);
+        let left = record_script(alloc, store, opened, origin, reader, &mut *writer)?;
         match left {
             Some(_) => Answers::at_once(writer).tell(Answer::Done),
             None => Ok(()),

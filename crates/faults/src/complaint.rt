@@ -1,6 +1,6 @@
 //! What is told of a fault on standard error: a line, and after it what to do next.
-ghost use Rattle.std.specs.Prelude.{◌≡◌, Option, None, IsTrue};
-ghost use Rattle.faults.specs.Complaints.{status_told, IsToldAs};
+ghost use Rattle.std.specs.Prelude.{◌≡◌, ◌↔◌, Option, None, IsTrue};
+ghost use Rattle.faults.specs.{Complaints.status_told, Complaints.IsToldAs, Faults.IsOfSeveral};
 ghost use Rattle.faults.specs.declared.complaint.Advice.{Advice};
 ghost use Rattle.faults.specs.declared.complaint.Complaint.TheVariants as complaints;
 ghost use Rattle.script_runner.specs.declared.fault.SimFault.TheVariants as faults;
@@ -515,7 +515,9 @@ pub fn damaged_file(refusal: Refusal) -> Option<u32> {
 }
 
 /// Whether files disagree with one another.
-pub fn is_of_several(refusal: Refusal) -> bool {
+pub fn is_of_several(refusal: Refusal) -> bool
+    ensures { IsTrue result ↔ IsOfSeveral refusal }
+{
     matches!(
         refusal,
         Refusal::Recover(RecoverFault::Mixed | RecoverFault::Sequence)

@@ -6,10 +6,11 @@ use Rattle.trace_store.specs.Moments.{started, goes_on}
 use Rattle.trace_store.specs.Device.{OnlyReads}
 
 -- one device call that writes nothing
-pub reads_once : {D T E : Type 0} (honest : D → Type 0) (clock_of failures_of : D → ℕ) (reads : D → Image) (images : D → Image → Type 0) (moments : D → ℕ → Image → Type 0)
+pub reads_once : {D M T E : Type 0} {made : D → M} (honest : D → Type 0) (clock_of failures_of : D → ℕ) (reads : D → Image) (images : D → Image → Type 0) (moments : D → ℕ → Image → Type 0)
     → ((s : D) (t : ℕ) (c : Image) → honest s → t ≤ clock_of s → images s c → moments s t c) → ((s : D) (c : Image) → honest s → moments s (clock_of s) c → images s c) → (old new : D) (r : Result T E)
-    → IsDeviceCall honest clock_of failures_of reads images moments old new r → (honest new → reads new ≡ reads old) → (honest new → SameImages (images old) (images new)) → OnlyReads honest clock_of reads images moments old new
+    → IsDeviceCall made honest clock_of failures_of reads images moments old new r → (honest new → reads new ≡ reads old) → (honest new → SameImages (images old) (images new)) → OnlyReads made honest clock_of reads images moments old new
 reads_once honest clock_of failures_of reads images moments counts_now only_now old new r call same_reads same_images = record {
+  same_made = call.same_made;
   was_honest = call.was_honest;
   count = call.count;
   same_reads = same_reads;

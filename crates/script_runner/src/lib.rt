@@ -2,7 +2,7 @@
 //!
 //! A port takes the entries of one trace and keeps them in a store. `hold` makes one over an opening, which says what was found
 //! or begun in the store, of a trace in one file or in several used in turn, a wrap; it runs lines on it until it is given up,
-//! and drops it (`WasHeldOver`). `record_file` and `record_wrap` do so at a desk, where traced processes hand it their messages,
+//! and drops it (`WasHeldOver`). `record_script` does so at a desk, where traced processes hand it their messages,
 //! `run_desk` at a desk that is there. Each line that the script gives is done once, in order (`AreTheLines`); it asks what it
 //! says and nothing else (`IsAsked`), and what is written tells how that was answered (`Tells`). Where the store follows the disk
 //! model, a crash at any moment leaves a prefix of what was accepted, of a wrap the last files of one, with all that was flushed
@@ -29,6 +29,6 @@ pub use fault::SimFault;
 pub use opening::AnyOpening;
 pub use port_lines::hold;
 pub use reading::next_line;
-pub use record::{record_file, record_wrap};
+pub use record::record_script;
 pub use refusal::{HandRefusal, Refusal};
 pub use reply::{Leave, Origin, Stop};

@@ -30,7 +30,16 @@ pub enum RowsEnd {
     NoMemory,
 }
 
-/// How rows ended, by whether there was memory for each and by how the last were sent.
+/// Has a writer write out what it was given, unless that failed.
+fn written_out<W: Write>(sent: io::Result<()>, out: &mut W) -> io::Result<()>
+    ensures well { IsOk result → IsOk sent }
+    ensures kept { Keeps (W.contents out.old) (W.contents out.new) }
+{
+    sent?;
+    out.flush()
+}
+
+/// How rows ended, by whether there was memory for each and by how the last were written out.
 fn end_of(is_out_of_memory: bool, sent: io::Result<()>) -> RowsEnd
     ensures written { result ≡ RowsEnd.Written → IsOk sent }
     ensures memory { is_out_of_memory ≡ true → result ≡ RowsEnd.NoMemory }
@@ -117,7 +126,7 @@ impl<W: Write> LaidOut<W> {
         self.most.is_some() && self.look.rule.first.is_some()
     }
 
-    /// Writes what is left of the rows, and tells how they ended. Those that are withheld aren't written.
+    /// Writes out what is left of the rows, and tells how they ended. Those that are withheld aren't written.
     pub fn end(self) -> (RowsEnd, W)
         ensures { ShowsRows self.look.rule (result.0 ≡ RowsEnd.Written) self.lines.items
             self.written.start (W.contents result.1) }
@@ -136,7 +145,8 @@ impl<W: Write> LaidOut<W> {
             return (RowsEnd::Unwritten, out);
         }
         let sent = send_held(&mut out, &mut unsent, &mut held, &mut written, &mut laid);
-        let end = end_of(is_over, sent);
+        let flushed = written_out(sent, &mut out);
+        let end = end_of(is_over, flushed);
         (end, out)
     }
 

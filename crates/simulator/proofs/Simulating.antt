@@ -1,5 +1,5 @@
 -- What comes of a line of a script while no port is held.
-use Rattle.std.proofs.Common.{◌≡◌, ℕ, Bool, false, Option, None, List, [], replicate, Result, Ok, Err, IsErr, OnOk, OnErr, IfOk, IfErr, ◌↔◌, inl, inr, refl, sym, subst}
+use Rattle.std.proofs.Common.{◌≡◌, ◌<◌, ℕ, length, Bool, false, Option, None, List, [], replicate, Result, Ok, Err, IsErr, OnOk, OnErr, IfOk, IfErr, ◌↔◌, inl, inr, refl, sym, subst}
 use Rattle.std.specs.Io.KnownBytes.{Appends, Keeps}
 use Rattle.std.proofs.KnownBytes.{Appends-nil}
 use Rattle.trace_client.specs.Output.{AppendsPrefix}
@@ -18,6 +18,7 @@ use Rattle.script_runner.specs.declared.opening.AnyOpening.{AnyOpening}
 use Rattle.script_runner.specs.declared.refusal.Refusal.{Refusal}
 use Rattle.script_runner.specs.declared.refusal.Refusal.TheVariants as refusals
 use Rattle.script_runner.specs.declared.reply.Origin.{Origin}
+use Rattle.recovery.specs.Stores.{turns}
 use Rattle.stores.specs.MemStore.{reads_of, failures_of}
 use Rattle.script_lines.specs.Reading.{Progress}
 use Rattle.std.specs.declared.vec.Vec.{Vec}
@@ -45,14 +46,14 @@ pub only_kept : (spec : Spec) (old new : MemStore) → IsKept (device old) (devi
 only_kept spec old new kept = weaker (device old) (device new) (device old).images _ (λ image was. inl was) (kept.moments tt)
 
 -- a wrap was begun, where there is one
-pub begins_wrap : (made : Result WrapSpec BadSpec) (spec : Spec) (old new : MemStore) (result : Result (Option (AnyOpening × Origin)) Refusal) → (IsErr made ↔ IsNoSpec spec) → IfOk made (λ wrap. wrap_seen wrap ≡ spec) → IfOk made (λ wrap. Begins (wrap_seen wrap) greatest_limit old new result)
+pub begins_wrap : (made : Result WrapSpec BadSpec) (spec : Spec) (old new : MemStore) (result : Result (Option (AnyOpening × Origin)) Refusal) → (IsErr made ↔ IsNoSpec spec) → IfOk made (λ wrap. wrap_seen wrap ≡ spec) → IfOk made (λ wrap. Begins (length (reads_of old) < turns (wrap_seen wrap)) (wrap_seen wrap) greatest_limit old new result)
     → OnErr made ((new ≡ old) × (result ≡ Err (refusals.Create creating.BadSpec))) → BeginsWrap spec old new result
-begins_wrap (Ok wrap) spec old new result refused is begins none = inl (subst (λ (s : Spec). Begins s greatest_limit old new result) is begins)
+begins_wrap (Ok wrap) spec old new result refused is begins none = inl (subst (λ (s : Spec). Begins (length (reads_of old) < turns s) s greatest_limit old new result) is begins)
 begins_wrap (Err bad) spec old new result refused is begins none = inr (refused.0 refl, none.0, none.1)
 
 -- no port is opened where there is neither one nor a refusal
-is_some : {Fault : Type 0} {name : Fault → Refusal} {Tells : ℕ → ℕ → Fault → Type 0} {Why : MemStore → MemStore → Fault → Type 0} {origin : Origin} {spec : Spec} {limit : ℕ} {old new : MemStore} {result : Result (Option (AnyOpening × Origin)) Refusal} → ComesOf name Tells Why origin spec limit old new result → result ≡ Ok None → ⊥
-is_some (opens found moments failures) none = absurd (cc)
+is_some : {Fault : Type 0} {name : Fault → Refusal} {Tells : ℕ → ℕ → Fault → Type 0} {Why : Fault → Type 0} {Calls : Type 0} {origin : Origin} {spec : Spec} {limit : ℕ} {old new : MemStore} {result : Result (Option (AnyOpening × Origin)) Refusal} → ComesOf name Tells Why Calls origin spec limit old new result → result ≡ Ok None → ⊥
+is_some (opens found moments failures calls) none = absurd (cc)
 is_some (opens_not moments why failures) none = absurd (cc)
 
 -- a line that opens no port leaves the store

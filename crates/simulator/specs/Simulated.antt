@@ -1,11 +1,11 @@
 -- What a line of a script does to the store in memory while no port is held.
-use Rattle.std.specs.Prelude.{◌≡◌, ◌⊎◌, ◌≤◌, ◌+◌, ◌-◌, ◌*◌, ◌^◌, min, ℕ, Bool, Option, Some, None, List, [], ◌∷◌, ◌++◌, length, set, replicate, Result, Ok, Err, false}
+use Rattle.std.specs.Prelude.{◌≡◌, ◌⊎◌, ◌≤◌, ◌<◌, ◌+◌, ◌-◌, ◌*◌, ◌^◌, min, ℕ, Bool, Option, Some, None, List, [], ◌∷◌, ◌++◌, length, set, replicate, Result, Ok, Err, false}
 use Rattle.std.specs.Io.KnownBytes.{Appends, Keeps}
 use Rattle.std.specs.declared.vec.Vec.{Vec}
 use Rattle.std.specs.declared.alloc.Global.{Global}
 use Rattle.trace_store.specs.Disk.{Image}
 use Rattle.trace_store.specs.Moments.{Rose, LeavesOnly}
-use Rattle.stores.specs.MemStore.{honest_of, disk_of, reads_of, images_of, moments_of, clock_of, failures_of, fuse_of, SameButFuse, IsPossible, IsSettled}
+use Rattle.stores.specs.MemStore.{made_of, honest_of, disk_of, reads_of, images_of, moments_of, clock_of, failures_of, fuse_of, SameButFuse, IsPossible, IsSettled}
 use Rattle.stores.specs.Crashes.{image_of}
 use Rattle.stores.specs.declared.fuse.Fuse.TheVariants.{Whole, After, Once}
 use Rattle.stores.specs.declared.mem_store.MemStore.{MemStore}
@@ -15,15 +15,17 @@ use Rattle.stores.specs.contracts.mem_store.MemStoreStore.TheImpl as mem
 use Rattle.trace_store.specs.Device.{OnlyReads, Device, device_of, Leaves}
 use Rattle.segment.specs.Specification.{Spec, File, Wrap, Timed}
 use Rattle.recovery.specs.Views.{empty}
-use Rattle.recovery.specs.Stores.{readings, IsBlank}
-use Rattle.recovery.specs.CallCounts.{most_in}
+use Rattle.recovery.specs.Stores.{Chain, readings, turns, IsBlank, IsStore}
+use Rattle.recovery.specs.CallCounts.{calls_in, most_in}
 use Rattle.recovery.specs.Wiping.{IsWiped, IsWiping, wiping_calls}
 use Rattle.trace_port.specs.declared.create.CreateFault.TheVariants.{BadSpec}
-use Rattle.trace_port.specs.Openings.{ReadsAlike, TellsCreate, TellsResume}
+use Rattle.trace_port.specs.declared.resume.ResumeFault.TheVariants as resuming
+use Rattle.trace_port.specs.Openings.{ReadsAlike, TellsCreate, TellsResume, IsBadLimit, looks_in}
 use Rattle.trace_port.specs.Creations.{IsNotCreated}
 use Rattle.trace_port.specs.Resumptions.{IsNotResumed}
 use Rattle.trace_port.specs.Sound.{ReadsAs}
 use Rattle.wrap_port.specs.Resumptions.{IsNotResumed as IsNoWrapResumed}
+use Rattle.wrap_port.specs.HalfDone.{finishing_calls, clock_finished}
 use Rattle.script_lines.specs.declared.line.Line.{Line}
 use Rattle.script_lines.specs.declared.line.Line.TheVariants as lines
 use Rattle.script_lines.specs.declared.line.Unsynced.{Unsynced}
@@ -93,7 +95,7 @@ pub data IsFinished (old new : MemStore) (Writes : List ℕ → Type 0) : Result
 
 -- the calls of a look at its files changed nothing
 abbrev pub OnlyLooked : MemStore → MemStore → Type 0
-OnlyLooked old new = OnlyReads honest_of clock_of reads_of images_of moments_of old new
+OnlyLooked old new = OnlyReads made_of honest_of clock_of reads_of images_of moments_of old new
 
 -- those of a line are at most so many
 pub record LooksBy (most : ℕ) (old new : MemStore) : Type 0 where
@@ -122,7 +124,7 @@ pub data Does (old new : MemStore) : Line → List ℕ → Type 0 where
   blanks : {files : ℕ} → IsNew new (replicate files []) → Does old new (lines.Store files) (line_of answers.Done)
   no_memory : {files : ℕ} → new ≡ old → Does old new (lines.Store files) (line_of (answers.Refused refusals.NoMemory))
   holds : {file : ℕ} {bytes : Vec ℕ Global} → IsNew new (set (reads_of old) file bytes.items) → Does old new (lines.Bytes file bytes) (line_of answers.Done)
-  holds_not : {file : ℕ} {bytes : Vec ℕ Global} (refusal : Refusal) → OnlyLooked old new → TellsRefusal (failures_of old) (failures_of new) refusal → Does old new (lines.Bytes file bytes) (line_of (answers.Refused refusal))
+  holds_not : {file : ℕ} {bytes : Vec ℕ Global} (refusal : Refusal) → LooksBy (2 * length (reads_of old)) old new → TellsRefusal (failures_of old) (failures_of new) refusal → Does old new (lines.Bytes file bytes) (line_of (answers.Refused refusal))
   fuses : {calls : ℕ} → fuse_of new ≡ After (clock_of old) calls → SameButFuse old new → Does old new (lines.Fuse calls) (line_of answers.Done)
   fails_once : {calls : ℕ} → fuse_of new ≡ Once (clock_of old) calls → SameButFuse old new → Does old new (lines.FailOnce calls) (line_of answers.Done)
   crashes : {unsynced : Unsynced} {text : List ℕ} → Crashes unsynced old new text → Does old new (lines.Crash unsynced) text
@@ -142,27 +144,33 @@ abbrev pub DoesOrFails : Line → MemStore → MemStore → Result Unit SimFault
 DoesOrFails line old new (Ok done) Writes = (text : List ℕ) × Does old new line text × Writes text
 DoesOrFails line old new (Err fault) Writes = Fails old new Writes line fault
 
--- what comes of opening a port, with no device call that failed: there is one; or it is refused by such a fault, and what that says of the store and of the device calls that failed holds
-pub data ComesOf {Fault : Type 0} (name : Fault → Refusal) (Tells : ℕ → ℕ → Fault → Type 0) (Why : MemStore → MemStore → Fault → Type 0) (origin : Origin) (spec : Spec) (limit : ℕ) (old new : MemStore) : Result (Option (AnyOpening × Origin)) Refusal → Type 0 where
-  opens : {opening : AnyOpening} → GoesOnOrBegins (reads_of old) (first_told opening (device new)) spec limit origin → LeavesSo origin spec old new → failures_of new ≡ failures_of old
-      → ComesOf name Tells Why origin spec limit old new (Ok (Some (opening, origin)))
-  opens_not : {fault : Fault} → LeavesSo origin spec old new → Why old new fault → Tells (failures_of old) (failures_of new) fault → ComesOf name Tells Why origin spec limit old new (Err (name fault))
+-- what comes of opening a port: there is one, by so many device calls, none of which failed; or it is refused by such a fault, and what that says of the store and of the device calls that failed holds
+pub data ComesOf {Fault : Type 0} (name : Fault → Refusal) (Tells : ℕ → ℕ → Fault → Type 0) (Why : Fault → Type 0) (Calls : Type 0) (origin : Origin) (spec : Spec) (limit : ℕ) (old new : MemStore) : Result (Option (AnyOpening × Origin)) Refusal → Type 0 where
+  opens : {opening : AnyOpening} → GoesOnOrBegins (reads_of old) (first_told opening (device new)) spec limit origin → LeavesSo origin spec old new → failures_of new ≡ failures_of old → Calls
+      → ComesOf name Tells Why Calls origin spec limit old new (Ok (Some (opening, origin)))
+  opens_not : {fault : Fault} → LeavesSo origin spec old new → Why fault → Tells (failures_of old) (failures_of new) fault → ComesOf name Tells Why Calls origin spec limit old new (Err (name fault))
 
--- of a creation
-abbrev pub Begins : Spec → ℕ → MemStore → MemStore → Result (Option (AnyOpening × Origin)) Refusal → Type 0
-Begins = ComesOf refusals.Create TellsCreate (IsNotCreated mem.ghosts) Created
+-- of a creation, which is refused for what is asked only where that is bad
+abbrev pub Begins : Type 0 → Spec → ℕ → MemStore → MemStore → Result (Option (AnyOpening × Origin)) Refusal → Type 0
+Begins IsBad spec limit old new =
+    ComesOf refusals.Create TellsCreate (λ fault. IsNotCreated mem.ghosts old new fault × (fault ≡ BadSpec → IsBad))
+    (clock_of new ≡ min (clock_of old + looks_in (reads_of old) + 8) (2 ^ 64 - 1)) Created spec limit old new
 
 -- of one of a wrap, of which there may be none, and then nothing was done
 abbrev pub BeginsWrap : Spec → MemStore → MemStore → Result (Option (AnyOpening × Origin)) Refusal → Type 0
-BeginsWrap spec old new result = Begins spec greatest_limit old new result ⊎ (IsNoSpec spec × (new ≡ old) × (result ≡ Err (refusals.Create BadSpec)))
+BeginsWrap spec old new result = Begins (length (reads_of old) < turns spec) spec greatest_limit old new result ⊎ (IsNoSpec spec × (new ≡ old) × (result ≡ Err (refusals.Create BadSpec)))
 
 -- what comes of a line where it opens a port; no other line does anything then
 abbrev pub Opens : Line → MemStore → MemStore → Result (Option (AnyOpening × Origin)) Refusal → Type 0
-Opens (lines.CreateFile limit) old new result = Begins File limit old new result
-Opens (lines.ResumeFile limit) old new result = ComesOf refusals.Resume TellsResume (IsNotResumed mem.ghosts) Resumed File limit old new result
+Opens (lines.CreateFile limit) old new result = Begins (IsBadLimit limit ⊎ (length (reads_of old) ≡ 0)) File limit old new result
+Opens (lines.ResumeFile limit) old new result =
+    ComesOf refusals.Resume TellsResume (λ fault. IsNotResumed mem.ghosts old new fault × (fault ≡ resuming.BadSpec → IsBadLimit limit))
+    (clock_of new ≡ clock_of old + length (reads_of old) + calls_in (reads_of old)) Resumed File limit old new result
 Opens (lines.CreateWrap size count) old new result = BeginsWrap (Wrap size count) old new result
 Opens (lines.CreateTime millis count) old new result = BeginsWrap (Timed millis count) old new result
-Opens lines.ResumeWrap old new result = (spec : Spec) → ComesOf refusals.Resume TellsResume (IsNoWrapResumed mem.ghosts) Resumed spec greatest_limit old new result
+Opens lines.ResumeWrap old new result = (spec : Spec) →
+    ComesOf refusals.Resume TellsResume (IsNoWrapResumed mem.ghosts old new)
+    ((spec : Spec) (c : Chain) → IsStore spec c (readings (reads_of old)) → clock_of new ≡ clock_finished (clock_of old + length (reads_of old) + calls_in (reads_of old)) (finishing_calls spec c)) Resumed spec greatest_limit old new result
 Opens line old new result = (new ≡ old) × (result ≡ Ok None)
 
 -- what comes of a line, and of the stretch of the script after it that its port takes: that was run on the port, or there is none, or the line makes none

@@ -2,7 +2,7 @@
 ghost use Rattle.std.specs.Prelude.{◌≡◌, ◌+◌, ◌*◌, ◌<◌, ◌≤◌, IfOk, IfErr, length, set};
 ghost use Rattle.trace_store.specs.Disk.{file_of};
 ghost use Rattle.stores.specs.{CallRecords.contents_of, MemStore.reads_of, MemStore.failures_of};
-ghost use Rattle.simulator.specs.{Simulated.IsNew, Simulated.OnlyLooked, Stored.TellsRefusal};
+ghost use Rattle.simulator.specs.{Simulated.IsNew, Simulated.LooksBy, Stored.TellsRefusal};
 ghost use Rattle.segment.specs.DeviceCalls.{DeviceReads};
 
 use script_runner::Refusal;
@@ -18,7 +18,7 @@ pub fn with_bytes(
     bytes: &[u8],
 ) -> Result<MemStore, Refusal>
     requires { file < length (reads_of store.old) }
-    ensures only_reads { OnlyLooked store.old store.new }
+    ensures looks { LooksBy (2 * length (reads_of store.old)) store.old store.new }
     ensures refused { IfErr result (TellsRefusal (failures_of store.old) (failures_of store.new)) }
     ensures made { IfOk result (λ made. IsNew made (set (reads_of store.old) file bytes.now)) }
 {

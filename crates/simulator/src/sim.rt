@@ -4,6 +4,7 @@ ghost use Rattle.std.specs.Io.KnownBytes.{Appends};
 ghost use Rattle.stores.specs.MemStore.{reads_of};
 ghost use Rattle.script_lines.specs.Lines.{IsWithinLimits, IsOfFiles};
 ghost use Rattle.wrap_port.specs.WrapSpecs.{wrap_seen};
+ghost use Rattle.recovery.specs.Stores.{turns};
 ghost use Rattle.script_runner.specs.{LinesRun.Answering, LinesRun.RunsLines, PortOpenings.FitsStore, Texts.line_of};
 ghost use Rattle.trace_port.specs.Limits.{greatest_limit};
 ghost use Rattle.simulator.specs.Simulated.{Begins, Opens, Crashes, Does, DoesOrFails, Runs, IsRunWhole, Simulates, IsFinished, IsRun, first_of as first_told};
@@ -181,8 +182,8 @@ fn create_wrap(
 ) -> Result<Option<(AnyOpening, Origin)>, Refusal>
     ensures fits { IfOk result (λ found. IfSome found
         (λ r. FitsStore ⟦<MemStore as Store>⟧ r.0 store.new)) }
-    ensures opens { IfOk spec (λ spec. Begins (wrap_seen spec) greatest_limit store.old store.new
-        result) }
+    ensures opens { IfOk spec (λ spec. Begins (length (reads_of store.old) < turns (wrap_seen spec))
+        (wrap_seen spec) greatest_limit store.old store.new result) }
     ensures no_wrap { OnErr spec ((store.new ≡ store.old)
         × (result ≡ Err (refusals.Create creating.BadSpec))) }
 {

@@ -8,7 +8,7 @@ use Rattle.stores.specs.declared.named_files.NamedFiles.{NamedFiles}
 
 -- these files, and the calls on them so far
 abbrev pub past : NamedFiles → CallRecord → Past
-past files calls = record { world = calls.world; names = calls.names; count = count files; events = calls.events }
+past files calls = record { world = calls.world; names = calls.names; count = count files; events = calls.events; earlier = calls.earlier }
 
 -- the file of a refusal
 abbrev pub told_file : Option FileFault → Option ℕ

@@ -140,6 +140,10 @@ fn cut(files: &mut [FixedFile], file: u32, n: u64) -> Option<()> {
 impl Store for FixedStore {
     ghost honest = { λ _. ⊥ };
 
+    ghost Made = { Unit {0} };
+
+    ghost made = { λ _. tt };
+
     ghost reads = { λ _. replicate 3 [] };
 
     ghost images = { λ _ _. ⊤ };

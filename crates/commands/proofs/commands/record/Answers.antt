@@ -24,4 +24,4 @@ returns g c =
     not_opened c.in-Err.fault c.explained.result
     (subst (λ (run_end : RunEnd). IsNotOpened (wanted c.args.files.now.place.kind run_end) c.args.files.now.store c.open.new.self.store c.in-Err.fault) c.of.ensures
     (record { why = c.in-Err.ensures.why_not; failed = c.in-Err.ensures.device.device; untouched = c.open.ensures.untouched; moments = c.open.ensures.any_moment; was_honest = c.open.ensures.device.was_honest; at_most = c.open.ensures.device.at_most }))
-    (record { only_reads = told.only_reads; failures = told.failures; of_device = told.of_device; at_most = told.at_most }) (Keeps-refl _) (told_moved c.args.files.now.place c.open.new.self.place c.explained.new.self.store c.in-Err.fault c.in-Err.fault c.explained.result c.open.ensures.place refl told.named)
+    (record { only_reads = told.only_reads; failures = told.failures; of_device = told.of_device; alone = told.alone; at_most = told.at_most }) (Keeps-refl _) (told_moved c.args.files.now.place c.open.new.self.place c.explained.new.self.store c.in-Err.fault c.in-Err.fault c.explained.result c.open.ensures.place refl told.named)

@@ -1,5 +1,6 @@
-use Rattle.std.proofs.Common.{Ok, Err, inl, inr, refl}
-use Rattle.faults.specs.Faults.{read_fault}
+use Rattle.std.proofs.Common.{Ok, Err, refl, subst, sym}
+use Rattle.faults.specs.Faults.{read_fault, IsFaultOfSeveral}
+use Rattle.script_runner.specs.Faults.{IsFaultOfDevice}
 use Rattle.commands.proofs.Followed.{told_well}
 use Rattle.commands.proofs.Naming.{told_moved}
 use Rattle.commands.proofs.following.serve_following.Goals as goal
@@ -18,7 +19,7 @@ returns-in-Ok g c =
         followed = c.in-Ok.ensures.followed;
         out = c.flush-flushed.ensures.bytes;
         told = told_well c.args.files.now.place c.follow-done.new.files.store c.written_out.result c.written_out.ensures.err;
-        only_looks = inl refl;
+        behind = refl;
       },
     )
 
@@ -36,6 +37,12 @@ returns-in-Err g c =
         followed = c.in-Err.ensures.followed;
         out = c.flush-flushed.ensures.bytes;
         told = told_moved c.args.files.now.place c.follow-done.new.files.place c.explained.new.self.store c.fault_of_reading.result (read_fault c.in-Err.fault) c.explained.result c.follow-done.ensures.place c.fault_of_reading.ensures c.explained.ensures.named;
-        only_looks = inr c.explained.ensures.only_reads;
+        behind = record {
+          only_reads = c.explained.ensures.only_reads;
+          failures = c.explained.ensures.failures;
+          of_device = λ of. c.explained.ensures.of_device (subst IsFaultOfDevice (sym c.fault_of_reading.ensures) of);
+          alone = λ not. c.explained.ensures.alone (λ of. not (subst IsFaultOfSeveral c.fault_of_reading.ensures of));
+          at_most = c.explained.ensures.at_most;
+        };
       },
     )

@@ -38,7 +38,7 @@ readings-preserved c = record {
       let same = same_behind c.args.files.now.store c.readings.files.store c.readings.invariant.only_reads h1 in
       let err : IsErr c.in_ok-info.info.outlined = search rules in
       inr (subst NotWhole same (not_whole (reads_of c.readings.files.store) c.in_ok-info.info.outlined err (c.in_ok-info.ensures.found.told h2).1));
-  only_reads = inr (looks_same c.args.files.now.store c.look_once.new.files.store c.reopen.new.self.store (looks_both c.args.files.now.store c.readings.files.store c.look_once.new.files.store c.readings.invariant.only_reads c.look_once.ensures.found.only_reads) c.reopen.ensures.same);
+  only_reads = inr (looks_same c.args.files.now.store c.look_once.new.files.store c.reopen.new.self.store (looks_both c.args.files.now.store c.readings.files.store c.look_once.new.files.store c.readings.invariant.only_reads c.look_once.ensures.found.only_reads) c.reopen.ensures.same c.reopen.ensures.closed);
 }
 
 pub returns-in_err-info-clause-found : goal.returns-in_err-info-clause-found

@@ -61,7 +61,7 @@ openings-preserved c =
     record {
       few = omega arith;
       place = c.reopen.ensures.place ∙ (c.open_trace-opened.ensures.place ∙ inv.place);
-      only_reads = inr (looks_same s0 s2 s3 (looks_both s0 s1 s2 inv.only_reads read.device.only_reads) anew);
+      only_reads = inr (looks_same s0 s2 s3 (looks_both s0 s1 s2 inv.only_reads read.device.only_reads) anew c.reopen.ensures.closed);
       openings = more c.openings.made s1 s2 s3 c.open_trace-opened.result inv.openings torn
           (opened_tells (failures_of s1) (failures_of s2) c.open_trace-opened.result read.device.no_failure read.device.failures) anew c.reopen.ensures.closed;
       calls = λ h.

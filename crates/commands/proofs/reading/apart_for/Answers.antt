@@ -13,7 +13,7 @@ pub returns-in_default-2-clause-failures : goal.returns-in_default-2-clause-fail
 returns-in_default-2-clause-failures g c = none
 
 pub returns-in_default-3 : goal.returns-in_default-3
-returns-in_default-3 g c = record { only_reads = search rules; failures = none; of_device = rw c.in_default.is (λ of. refl); at_most = omega arith; none = λ _. refl }
+returns-in_default-3 g c = record { only_reads = search rules; failures = none; of_device = rw c.in_default.is (λ of. refl); alone = rw c.in_default.is (λ not. refl); at_most = omega arith; none = λ _. refl }
 
 pub returns-in_default-4-clause-failures : goal.returns-in_default-4-clause-failures
 returns-in_default-4-clause-failures g c = none

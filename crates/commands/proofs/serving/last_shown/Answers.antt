@@ -26,7 +26,7 @@ returns-then-ended_well g c =
     let well : call.result.0 ≡ Some (Ok tt) = c.ended_well.ensures c.if-ended_well.true in
     let P : Option (Result Unit Complaint) → Option (List ℕ) → Type 0 = λ told was. ShowsFrom near.first near.later.layout lists told was rows in
     let shows : P (Some (Ok tt)) (Some []) = subst (λ told. P told (Some [])) well (subst (λ was. P call.result.0 was) (ap (λ l. Some l) c.new-rows.ensures.items) call.ensures) in
-    last_rows mid near.first near.later c.requires is.shows (record { left = left; rows = rows; shows = shows; place = c.reopen.ensures.place; same = c.reopen.ensures.same })
+    last_rows mid near.first near.later c.requires is.shows (record { left = left; rows = rows; shows = shows; place = c.reopen.ensures.place; same = c.reopen.ensures.same; closed = c.reopen.ensures.closed })
 
 pub returns : goal.returns
 returns g c =
@@ -38,6 +38,6 @@ returns g c =
     let anew = c.reopen.new.self in
     let again = c.shown_as_asked.result in
     let listed = was-listed near.first near.later.layout (ServesTrace c.args.request near.later mid (outside (Some []) 0 []) left.files left.observed.notes) call.result.0 _ _ call.ensures in
-    let ahead : LooksAhead c.args.files anew = ahead-twice c.args.request near.later c.args.files mid left.files anew (outside (Some []) 0 []) left.observed.notes c.requires.list is.shows.ahead listed c.reopen.ensures.place c.reopen.ensures.same in
+    let ahead : LooksAhead c.args.files anew = ahead-twice c.args.request near.later c.args.files mid left.files anew (outside (Some []) 0 []) left.observed.notes c.requires.list is.shows.ahead listed c.reopen.ensures.place c.reopen.ensures.same c.reopen.ensures.closed in
     let same : again ≡ c.args.shown = shown-before near.first c.args.shown near.later again near.start is.start is.shows.begun c.shown_as_asked.ensures in
     subst (λ s. IsShownOf c.args.request c.args.files anew c.args.shown s) (sym same) (as_asked (inr (inl c.requires, ahead)))

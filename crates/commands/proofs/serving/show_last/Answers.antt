@@ -43,7 +43,7 @@ returns g c =
     let again = c.shown_as_asked-shown.result in
     let last = c.show_all-2 in
     let told = subst (λ told. ShowsFrom near.first near.later.layout (ServesTrace c.args.request near.later mid (outside (Some []) 0 []) left.files left.observed.notes) told (contents c.args.output.now) (contents call.new.output)) c.in_default.is call.ensures in
-    let ahead : LooksAhead c.args.files anew = ahead-twice c.args.request near.later c.args.files mid left.files anew (outside (Some []) 0 []) left.observed.notes c.requires.list is.shows.ahead told.1 c.reopen.ensures.place c.reopen.ensures.same in
+    let ahead : LooksAhead c.args.files anew = ahead-twice c.args.request near.later c.args.files mid left.files anew (outside (Some []) 0 []) left.observed.notes c.requires.list is.shows.ahead told.1 c.reopen.ensures.place c.reopen.ensures.same c.reopen.ensures.closed in
     let same : again ≡ c.args.shown = shown-before near.first c.args.shown near.later again near.start is.start is.shows.begun c.shown_as_asked-shown.ensures in
     let Q : Shown → Option (List ℕ) → Type 0 = λ s was. Shows s (ServesTrace c.args.request s anew (outside had 0 []) last.result.1.files last.result.1.observed.notes) last.result.0 was (contents last.new.output) in
     shown_all anew (inr (c.requires, ahead)) (subst (λ s. Q s (contents c.args.output.now)) same (subst (Q again) told.0 last.ensures))

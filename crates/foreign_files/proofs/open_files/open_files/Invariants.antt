@@ -9,7 +9,7 @@ use Rattle.foreign_files.proofs.open_files.open_files.Given as goal
 
 abbrev pub invariant-loop-file : goal.invariant-loop-file
 invariant-loop-file g l = record {
-  only_reads : OnlyReads g.S.Store.honest g.S.Store.clock_of g.S.Store.reads g.S.Store.images g.S.Store.moments l.initial.store l.store;
+  only_reads : OnlyReads g.S.Store.made g.S.Store.honest g.S.Store.clock_of g.S.Store.reads g.S.Store.images g.S.Store.moments l.initial.store l.store;
   most : g.S.Store.clock_of l.store ≤ g.S.Store.clock_of l.initial.store + 2 * l.file;
   failures : g.S.Store.failures_of l.store ≡ g.S.Store.failures_of l.initial.store;
   within : AreWithin (length (g.S.Store.reads l.initial.store)) l.files.items;

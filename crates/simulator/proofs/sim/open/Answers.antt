@@ -1,4 +1,4 @@
-use Rattle.std.proofs.Common.{refl}
+use Rattle.std.proofs.Common.{Err, ◌∙◌, ap, refl}
 use Rattle.segment.specs.Specification.{File}
 use Rattle.recovery.specs.Stores.{is_blank}
 use Rattle.script_runner.specs.PortOpenings.{begins, goes_on}
@@ -10,24 +10,24 @@ pub returns-in-Ok-clause-opens : goal.returns-in-Ok-clause-opens
 returns-in-Ok-clause-opens c =
     let e = c.in-Ok.ensures in
     let made = c.begin_create.ensures.creates in
-    rw c.in-CreateFile.is (opens (begins (is_blank (e.created.blank tt)) refl e.limit (e.fits tt)) (made.any_moment tt, made.not_blank_stays tt) e.device.no_failure)
+    rw c.in-CreateFile.is (opens (begins (is_blank (e.created.blank tt)) refl e.limit (e.fits tt)) (made.any_moment tt, made.not_blank_stays tt) e.device.no_failure (e.created.calls tt))
 
 pub returns-in-Err-clause-opens : goal.returns-in-Err-clause-opens
 returns-in-Err-clause-opens c =
     let e = c.in-Err.ensures in
     let made = c.begin_create.ensures.creates in
-    rw c.in-CreateFile.is (opens_not (made.any_moment tt, made.not_blank_stays tt) e.refused e.device.failures)
+    rw c.in-CreateFile.is (opens_not (made.any_moment tt, made.not_blank_stays tt) (e.refused, λ bad. c.begin_create.ensures.bad_spec.0 (c.in-Err.is ∙ ap Err bad)) e.device.failures)
 
 pub returns-in-Ok-begin_resume-clause-opens : goal.returns-in-Ok-begin_resume-clause-opens
 returns-in-Ok-begin_resume-clause-opens c =
     let e = c.in-Ok-begin_resume.ensures in
     let found = e.fits tt in
-    rw c.in-ResumeFile.is (opens (goes_on found.0 found.1 e.limit found.2) (only_kept File c.args.store.now c.begin_resume.new.store c.begin_resume.ensures.device.kept) e.device.no_failure)
+    rw c.in-ResumeFile.is (opens (goes_on found.0 found.1 e.limit found.2) (only_kept File c.args.store.now c.begin_resume.new.store c.begin_resume.ensures.device.kept) e.device.no_failure (e.calls tt))
 
 pub returns-in-Err-begin_resume-clause-opens : goal.returns-in-Err-begin_resume-clause-opens
 returns-in-Err-begin_resume-clause-opens c =
     let e = c.in-Err-begin_resume.ensures in
-    rw c.in-ResumeFile.is (opens_not (only_kept File c.args.store.now c.begin_resume.new.store c.begin_resume.ensures.device.kept) e.refused e.device.failures)
+    rw c.in-ResumeFile.is (opens_not (only_kept File c.args.store.now c.begin_resume.new.store c.begin_resume.ensures.device.kept) (e.refused, λ bad. c.begin_resume.ensures.bad_spec.0 (c.in-Err-begin_resume.is ∙ ap Err bad)) e.device.failures)
 
 pub returns-in-CreateWrap-clause-opens : goal.returns-in-CreateWrap-clause-opens
 returns-in-CreateWrap-clause-opens c =
@@ -45,7 +45,7 @@ pub returns-in-Ok-begin_resume-2-clause-opens : goal.returns-in-Ok-begin_resume-
 returns-in-Ok-begin_resume-2-clause-opens c =
     let e = c.in-Ok-begin_resume-2.ensures in
     let found = e.fits tt in
-    rw c.in-ResumeWrap.is (λ spec. opens (goes_on found.0 found.1 c.in-Ok-begin_resume-2.opening.longest found.2) (c.begin_resume-in-ResumeWrap.ensures.any_moment tt) e.device.no_failure)
+    rw c.in-ResumeWrap.is (λ spec. opens (goes_on found.0 found.1 c.in-Ok-begin_resume-2.opening.longest found.2) (c.begin_resume-in-ResumeWrap.ensures.any_moment tt) e.device.no_failure (e.calls tt))
 
 pub returns-in-Err-begin_resume-2-clause-opens : goal.returns-in-Err-begin_resume-2-clause-opens
 returns-in-Err-begin_resume-2-clause-opens c =

@@ -8,4 +8,4 @@ returns-in-Ok c =
     holds (subst (λ (own : List ℕ). IsNew c.in-Ok.changed (set (reads_of c.args.store.now) c.args.file own)) c.deref.ensures.value c.in-Ok.ensures.made)
 
 pub returns-in-Err : goal.returns-in-Err
-returns-in-Err c = holds_not {bytes = c.args.bytes.now} c.in-Err.refusal c.in-Err.ensures.only_reads c.in-Err.ensures.refused
+returns-in-Err c = holds_not {bytes = c.args.bytes.now} c.in-Err.refusal c.in-Err.ensures.looks c.in-Err.ensures.refused

@@ -24,6 +24,6 @@ returns-clause-looks c =
     let same = c.reopen.ensures.same in
     record {
       place = c.reopen.ensures.place;
-      only_reads = looks_same c.args.self.now.store c.look_over-found.new.store c.reopen.new.self.store c.look_over-found.ensures.device.only_reads same;
+      only_reads = looks_same c.args.self.now.store c.look_over-found.new.store c.reopen.new.self.store c.look_over-found.ensures.device.only_reads same c.reopen.ensures.closed;
       at_most = λ h. omega (arith, same.clock, c.look_over-found.ensures.at_most (subst IsHonest same.past h));
     }

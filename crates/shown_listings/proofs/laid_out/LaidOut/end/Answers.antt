@@ -1,6 +1,7 @@
 use Rattle.std.proofs.Common.{◌≡◌, ◌≤◌, ◌++◌, [], ℕ, List, Option, drop, length, append_assoc, ◌∙◌, ap, subst, sym}
 use Rattle.std.specs.Prelude.{Result, Ok, Err, IsOk, OnOk}
 use Rattle.std.specs.Io.KnownBytes.{Appends}
+use Rattle.std.proofs.KnownBytes.{Appends-kept}
 use Rattle.std.proofs.lemmas.List.{drop_all}
 use Rattle.shown_listings.specs.Rows.{AreHeld, Sends, rows_in, text_of_rows}
 use Rattle.std.proofs.Math.Logic.{∥∥₁_map}
@@ -48,8 +49,8 @@ returns g c =
       left = last ++ more;
       front = sym (append_assoc now.written.bytes last more) ∙ ap (λ l. l ++ more) sends.is ∙ sym (text_of_rows-append now.laid.items (rows_in now.held.items));
       all = λ whole.
-          let all : Sent = at_ok c.send_held-sent.result Sent (c.end_of-end.ensures.written whole) sent.all in
+          let all : Sent = at_ok c.send_held-sent.result Sent (c.written_out-flushed.ensures.well (c.end_of-end.ensures.written whole)) sent.all in
           ap (λ l. l ++ more) (drop_all now.unsent.taken now.unsent.bytes.items all.0) ∙ ap (λ rows. text_of_rows rows) all.1;
       none = not-withheld was.most was.look.rule.first now.written.bytes (sym c.is_withheld-is_withheld.ensures ∙ c.if-is_withheld.false);
-      shown = subst Q sent.start sends.held;
+      shown = Appends-kept was.written.start (g.W.Write.contents now.out) (g.W.Write.contents c.written_out-flushed.new.out) now.written.bytes (subst Q sent.start sends.held) c.written_out-flushed.ensures.kept;
     }

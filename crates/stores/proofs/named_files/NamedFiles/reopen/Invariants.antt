@@ -1,4 +1,4 @@
-use Rattle.std.proofs.Common.{◌≡◌, take, length}
+use Rattle.std.proofs.Common.{take}
 use Rattle.std.specs.List.{All}
 use Rattle.stores.specs.Standing.{IsUnseen}
 use Rattle.stores.proofs.named_files.NamedFiles.reopen.Given as goal
