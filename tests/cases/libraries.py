@@ -1,7 +1,7 @@
 """Cases of library calls that the program doesn't make: memory is refused to each growth alone, and to each with all behind it.
 
-The calls are those of the modules of tests whose names begin with `refused_memory`, which make each one again that was
-refused. No run may end by a signal or with a status other than 0."""
+The calls are those of the modules of tests whose names begin with `refused_memory`, which begin anew what was refused.
+No run may end by a signal or with a status other than 0."""
 
 from cases import REPOSITORY, Skipped, group
 from program import Program, same

@@ -71,6 +71,13 @@ def a_ring_that_goes_round_keeps_each_message(program):
     answers(program, [*script, "counts 0"], [*wanted, "offered 1002 waiting 2 unsent 0 handed 1000 lost 0"])
 
 
+@case
+def a_tracee_has_room_for_65536_messages(program):
+    script = [f"create file {GREATEST_LIMIT}", "desk", "tracee 0 65536 1 r", *[EMIT] * 65_538, "counts 0"]
+    told = ["dropped", "refused 3 CountFull", "offered 65537 waiting 65536 unsent 1 handed 0 lost 0"]
+    answers(program, script, [*["ok"] * 3, *["kept"] * 65_536, *told])
+
+
 # Calls 0 to 9 are those of a creation. A message of 40,000 bytes waits in the port until the next one comes, and is
 # committed then by four calls.
 @case

@@ -31,65 +31,32 @@ fn receipt(rt: &impl Abort, alloc: Global, first: u64, parts: &[u32], covered: u
 }
 
 /// A window of three entries, after two.
-fn window(rt: &impl Abort, alloc: Global) -> Recovered {
-    let kept = entries(rt, alloc, &[0, 0, 0]);
-    Recovered::new(None, 2, 0, kept, false).expect(rt, "a lawful window")
-}
-
-/// The number at which receipts don't agree with a window, and 0 where they do.
-fn mismatch(window: &Recovered, receipts: &[Receipt]) -> u64 {
-    match audit(window, receipts) {
-        Ok(()) => 0,
-        Err(Mismatch { number }) => number,
-    }
-}
-
-/// The same of one receipt.
-fn mismatch_of_one(
-    rt: &impl Abort,
-    alloc: Global,
-    window: &Recovered,
-    first: u64,
-    parts: &[u32],
-    covered: u64,
-) -> u64 {
-    let receipts = [receipt(rt, alloc, first, parts, covered)];
-    let number = mismatch(window, &receipts);
-    drop(receipts);
-    number
-}
-
 #[test]
-fn a_receipt_is_held_against_the_window(rt: HostRuntime) {
-    let window = window(&rt, rt.alloc());
-    let table: [(u64, &[u32], u64, u64); 7] = [
-        (3, &[0], 5, 0),
+fn receipts_are_held_against_the_window(rt: HostRuntime) {
+    let alloc = rt.alloc();
+    let kept = entries(&rt, alloc, &[0, 0, 0]);
+    let window = Recovered::new(None, 2, 0, kept, false).expect(&rt, "a lawful window");
+    let table: [(u64, &[u32], u64, Result<(), Mismatch>); 7] = [
+        (3, &[0], 5, Ok(())),
         // Number 1 fell out.
-        (1, &[0], 5, 0),
-        (1, &[1, 0], 5, 0),
-        (4, &[1], 5, 4),
+        (1, &[0], 5, Ok(())),
+        (1, &[1, 0], 5, Ok(())),
+        (4, &[1], 5, Err(Mismatch { number: 4 })),
         // Number 5 is after the end.
-        (5, &[0], 5, 0),
-        (5, &[0], 6, 5),
+        (5, &[0], 5, Ok(())),
+        (5, &[0], 6, Err(Mismatch { number: 5 })),
         // The number of the second has no value.
-        (u64::MAX, &[0, 0], u64::MAX, 0),
+        (u64::MAX, &[0, 0], u64::MAX, Ok(())),
     ];
-    for (first, parts, covered, number) in table {
-        let found = mismatch_of_one(&rt, rt.alloc(), &window, first, parts, covered);
-        assert!(rt; found == number);
+    for (first, parts, covered, answer) in table {
+        let receipts = [receipt(&rt, alloc, first, parts, covered)];
+        assert!(rt; audit(&window, &receipts) == answer);
+        drop(receipts);
     }
-    drop(window);
-}
-
-#[test]
-fn each_receipt_is_held_against_the_window(rt: HostRuntime) {
-    let window = window(&rt, rt.alloc());
-    let receipts = [
-        receipt(&rt, rt.alloc(), 2, &[0, 0], 5),
-        receipt(&rt, rt.alloc(), 4, &[7], 5),
-    ];
-    assert!(rt; mismatch(&window, &receipts) == 4);
+    let one = receipt(&rt, alloc, 2, &[0, 0], 5);
+    let receipts = [one, receipt(&rt, alloc, 4, &[7], 5)];
+    assert!(rt; audit(&window, &receipts) == Err(Mismatch { number: 4 }));
+    assert!(rt; audit(&window, &[]) == Ok(()));
     drop(receipts);
-    assert!(rt; mismatch(&window, &[]) == 0);
     drop(window);
 }

@@ -1,13 +1,10 @@
-//! What is done at a desk with a book of ledgers.
+//! Jobs at a desk with a book of ledgers.
 
 ghost use Rattle.std.specs.Prelude.{◌≡◌};
 ghost use Rattle.tracees.specs.Meanings.{KeepsMeaning};
-ghost use Rattle.tests_desks.specs.Beginnings.{Begins};
 
-use crate::refused_memory_threads::finished_by;
-use crate::scenes::GREATEST;
-use crate::settling_tests::settled_by;
-use crate::threads_tests::{End, Plan, Until, run_by, run_one_by};
+use crate::GREATEST;
+use crate::jobs::{End, Plan, run_by};
 use std::alloc::Global;
 use std::marker::Brand;
 use std::process::Abort;
@@ -16,56 +13,11 @@ use std::sync::ledger::{Blank, Ledger};
 use std::thread::Threads;
 use stores::MemStore;
 use trace_port::{FilePort, TracePort};
-use tracees::{JobState, LedgerBook, Numbered, PARTS, SharedBook, Totals};
+use tracees::{LedgerBook, Numbered, PARTS};
 use wrap_port::{WrapPort, WrapSpec};
 
-#[derive(Clone, Copy)]
-pub(crate) enum Work {
-    /// The jobs of a plan are run.
-    Run(Plan),
-    /// One job is run, at a desk that may be sealed.
-    RunOne { gate: Until, seals: bool },
-    /// The accounts of two tracees are settled, of which one may be missing.
-    Settle(bool),
-    /// Two jobs are run, and may be refused memory.
-    Finish,
-}
-
-/// What came of it.
-#[derive(Drop)]
-pub(crate) enum Told {
-    Ran(End),
-    /// How far the job came, and how many receipts it has.
-    RanOne(JobState, usize),
-    /// The sums, or how many accounts came back.
-    Settled(Result<Totals, usize>),
-    /// Whether the jobs finished.
-    Finished(bool),
-}
-
-/// Does the work at a desk with this book.
-fn work_by<P: TracePort, K: SharedBook, R: Threads + Wait + Abort + Sync>(
-    rt: &R,
-    alloc: Global,
-    port: &mut P,
-    book: K,
-    work: Work,
-) -> Told
-    requires begins { Begins P.TracePort K.Bookkeeping port.old book }
-{
-    match work {
-        Work::Run(plan) => Told::Ran(run_by(rt, alloc, port, book, plan)),
-        Work::RunOne { gate, seals } => {
-            let (state, receipts) = run_one_by(rt, alloc, port, book, &gate, seals);
-            Told::RanOne(state, receipts)
-        }
-        Work::Settle(all) => Told::Settled(settled_by(rt, alloc, port, book, all)),
-        Work::Finish => Told::Finished(finished_by(rt, alloc, port, book)),
-    }
-}
-
-/// Makes the book. Only its type is known where the work is done: so its parts, which are many, aren't looked at there.
-fn work_over<
+/// Makes the book. Only its type is known where the jobs are run: so its parts, which are many, aren't looked at there.
+fn run_with<
     F: Ledger + Send,
     U: Ledger + Send,
     D: Ledger + Send,
@@ -76,12 +28,12 @@ fn work_over<
     rt: &R,
     alloc: Global,
     port: &mut P,
-    work: Work,
+    plan: Plan,
     flushed: Blank,
     unflushed: Blank,
     drops: Blank,
     accounts: Blank,
-) -> Told
+) -> Option<End>
     requires flushed { (flushed.name ≡ F.name) × (flushed.parts ≡ F.parts)
         × (flushed.parts ≡ PARTS) }
     requires unflushed { (unflushed.name ≡ U.name) × (unflushed.parts ≡ U.parts)
@@ -93,23 +45,23 @@ fn work_over<
     requires fits { KeepsMeaning (P.told port.old) }
 {
     let book: LedgerBook<F, U, D, N> = LedgerBook::new(flushed, unflushed, drops, accounts);
-    work_by(rt, alloc, port, book, work)
+    run_by(rt, alloc, port, book, plan)
 }
 
-/// Does the work over a port.
+/// Runs the jobs of a plan over a port.
 fn over_a_port<P: TracePort, R: Threads + Wait + Abort + Sync>(
     rt: &R,
     alloc: Global,
     port: &mut P,
-    work: Work,
-) -> Told
+    plan: Plan,
+) -> Option<End>
     requires fits { KeepsMeaning (P.told port.old) }
 {
-    work_over::<Brand, Brand, Brand, Brand, _, _>(
+    run_with::<Brand, Brand, Brand, Brand, _, _>(
         rt,
         alloc,
         port,
-        work,
+        plan,
         Blank::new(PARTS),
         Blank::new(PARTS),
         Blank::new(PARTS),
@@ -117,32 +69,40 @@ fn over_a_port<P: TracePort, R: Threads + Wait + Abort + Sync>(
     )
 }
 
-/// Does the work over a new file port, and answers its store too.
+/// The same over a new file port, whose store comes back.
 pub(crate) fn over_a_file<R: Threads + Wait + Abort + Sync>(
     rt: &R,
     alloc: Global,
-    work: Work,
-) -> Option<(Told, MemStore)> {
+    plan: Plan,
+) -> Option<(End, MemStore)> {
     let mut store = MemStore::blank(alloc, 1).ok()?;
     let Ok(mut port) = FilePort::create(alloc, &mut store, GREATEST) else {
         return None;
     };
-    let told = over_a_port(rt, alloc, &mut port, work);
+    let end = over_a_port(rt, alloc, &mut port, plan);
     drop(port);
-    Some((told, store))
+    let Some(end) = end else {
+        drop(store);
+        return None;
+    };
+    Some((end, store))
 }
 
 /// The same over a new wrap port.
 pub(crate) fn over_a_wrap<R: Threads + Wait + Abort + Sync>(
     rt: &R,
     alloc: Global,
-    work: Work,
-) -> Option<(Told, MemStore)> {
+    plan: Plan,
+) -> Option<(End, MemStore)> {
     let mut store = MemStore::blank(alloc, 9).ok()?;
     let Ok(mut port) = WrapPort::create(alloc, &mut store, WrapSpec::standard()) else {
         return None;
     };
-    let told = over_a_port(rt, alloc, &mut port, work);
+    let end = over_a_port(rt, alloc, &mut port, plan);
     drop(port);
-    Some((told, store))
+    let Some(end) = end else {
+        drop(store);
+        return None;
+    };
+    Some((end, store))
 }

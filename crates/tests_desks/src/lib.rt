@@ -1,39 +1,29 @@
 //! Tests of ports and of the desks over them, through what each crate offers to others. They stand here, in a crate at the top,
 //! since a crate with tests is proved twice. `tests_values` and `tests_reading` have the tests of what lies below.
 //!
-//! In `refused_memory_*` calls are refused memory: one that is refused leaves all as it was and is made again; where it isn't
-//! refused any more it answers as one that never was. `tests/cases/libraries.py` refuses them each growth in turn.
+//! In `refused_memory_*` calls are refused memory: what one was refused for is begun anew, and where none is refused any more it
+//! comes to what it does with memory enough. `tests/cases/libraries.py` refuses them each growth in turn.
 #![tactic(auto)]
 
 #[cfg(test)]
 mod auditing_tests;
 #[cfg(test)]
-mod driving_tests;
+mod desk_tests;
 #[cfg(test)]
-mod either_tests;
-#[cfg(test)]
-mod fixed_store;
+mod jobs;
 #[cfg(test)]
 mod ledgers;
 #[cfg(test)]
-mod lending_tests;
+mod lent_port_tests;
 #[cfg(test)]
-mod memory_scenes;
+mod refused_memory_loans;
 #[cfg(test)]
-mod refused_memory_audits;
-#[cfg(test)]
-mod refused_memory_desks;
-#[cfg(test)]
-mod refused_memory_ports;
+mod refused_memory_steps;
 #[cfg(test)]
 mod refused_memory_threads;
 #[cfg(test)]
-mod scenes;
-#[cfg(test)]
-mod settling_tests;
-#[cfg(test)]
 mod threads_tests;
+
+/// The greatest limit of a file.
 #[cfg(test)]
-mod tracees_tests;
-#[cfg(test)]
-mod two_ports_tests;
+pub(crate) const GREATEST: u64 = 1_099_511_627_776;

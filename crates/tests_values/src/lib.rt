@@ -8,16 +8,11 @@ mod entry_codec_tests;
 #[cfg(test)]
 mod ext_format_tests;
 #[cfg(test)]
-mod intake_tests;
-#[cfg(test)]
 mod refused_memory_terms;
 #[cfg(test)]
-mod scenes;
-#[cfg(test)]
 mod trace_message_tests;
-#[cfg(test)]
-mod trace_terms_tests;
 
+use intake::Tracee;
 use std::alloc::Global;
 use trace_message::{Event, Flags, Stamp};
 use trace_terms::{Atom, Pid, Term};
@@ -34,7 +29,7 @@ pub const MOMENT: Stamp = Stamp {
     mono: 0,
 };
 
-/// So often a call is made that is refused memory.
+/// So often something is begun anew that was refused memory.
 pub const TRIES: u32 = 3;
 
 /// Messages received are asked for, and nothing else.
@@ -53,6 +48,7 @@ pub fn is_refused_for_good(alloc: Global) -> bool {
     asked.is_err()
 }
 
+/// The atom of this text, which is made once more where that was refused memory.
 fn atom(alloc: Global, text: &str) -> Option<Atom> {
     match Atom::new(alloc, text) {
         Ok(atom) => Some(atom),
@@ -74,4 +70,11 @@ pub fn pid(alloc: Global) -> Option<Pid> {
         serial: 0,
         creation: 0,
     })
+}
+
+/// A tracee with room for so many messages, which loses at most so many in a row. The process of number 0 is that of `pid`.
+pub fn tracee(alloc: Global, number: u32, capacity: u32, drop_limit: u32) -> Option<Tracee> {
+    let mut pid = pid(alloc)?;
+    pid.id = number.wrapping_add(80);
+    Tracee::new(alloc, number, pid, RECEIVE, capacity, drop_limit).ok()
 }
