@@ -41,4 +41,5 @@ abbrev pub fault_past : ℕ → SimFault → SimFault
 fault_past skip (faults.Truncated place) = faults.Truncated (place_past skip place)
 fault_past skip (faults.BadOp place) = faults.BadOp (place_past skip place)
 fault_past skip (faults.ZeroDrop place) = faults.ZeroDrop (place_past skip place)
+fault_past skip (faults.BadMessage place) = faults.BadMessage (place_past skip place)
 fault_past skip fault = fault

@@ -5,8 +5,9 @@ ghost use Rattle.faults.specs.declared.complaint.Advice.{Advice};
 ghost use Rattle.faults.specs.declared.complaint.Complaint.TheVariants as complaints;
 ghost use Rattle.script_runner.specs.declared.fault.SimFault.TheVariants as faults;
 
-use crate::kept::{Kept, tell_full, tell_going_on, tell_skipping};
+use crate::kept::{Kept, tell_failed_disk, tell_full, tell_going_on, tell_skipping};
 use crate::salvage::Salvage;
+use crate::sentence::{tell_about, tell_of, tell_two};
 use recovery::RecoverFault;
 use script_runner::{Refusal, SimFault};
 use std::alloc::AllocError;
@@ -39,6 +40,12 @@ pub enum Advice {
         entries: u64,
         done: &'static str,
         shown: u64,
+    },
+    /// The file is damaged; so many entries before that are counted, and so many of the trace's other files.
+    DamagedAmong {
+        name: String,
+        before: u64,
+        elsewhere: u64,
     },
     /// The file is damaged, and the trace isn't opened.
     DamagedToOpen {
@@ -103,18 +110,93 @@ pub enum Advice {
 impl fmt::Display for Advice {
     fn fmt<W: fmt::Write>(&self, f: &mut fmt::Formatter<W>) -> fmt::Result {
         match self {
-            Advice::Sealed { name } => {
-                let name = Shown(name.as_str());
-                write!(
+            Advice::Sealed { name } => tell_of(
+                f,
+                name,
+                " is sealed: export keeps its entries, wipe clears it",
+            ),
+            Advice::DamagedToOpen { name } => tell_of(
+                f,
+                name,
+                " is damaged there: list shows the entries before it, wipe clears the trace",
+            ),
+            Advice::IsWritten => f.write_str(
+                "another process writes this trace, and its files changed while they were read: try again",
+            ),
+            Advice::Apart { one, other } => tell_two(
+                f,
+                "",
+                one,
+                " and ",
+                other,
+                " don't belong together: list --salvage shows each",
+            ),
+            Advice::Misplaced { name } => tell_of(
+                f,
+                name,
+                " isn't in its place: list --salvage shows what it holds",
+            ),
+            Advice::NoStream => f.write_str(
+                "that is no entry stream, as a node writes it: list shows a stored trace",
+            ),
+            Advice::TooLong => f.write_str("-p lists it"),
+            _ => self.tell_absence(f),
+        }
+    }
+}
+
+impl Advice {
+    /// Tells why a trace isn't where it is asked for, or the advices that have a number or a choice in them.
+    fn tell_absence<W: fmt::Write>(&self, f: &mut fmt::Formatter<W>) -> fmt::Result {
+        match self {
+            Advice::NotThere { name, other: None } => {
+                tell_of(f, name, " isn't there: import begins a trace")
+            }
+            Advice::NotThere {
+                name,
+                other: Some(other),
+            } => tell_two(
+                f,
+                "neither ",
+                name,
+                " nor ",
+                other,
+                " is there: import begins a trace",
+            ),
+            Advice::IsEmpty { name } => {
+                tell_of(
                     f,
-                    "{name} is sealed: export keeps its entries, wipe clears it"
+                    name,
+                    " is there and holds nothing: import begins a trace",
                 )
             }
-            Advice::GoesOn { kept } => tell_going_on(f, *kept),
-            Advice::DiskFailed { kept } => {
-                tell_failed_disk(f)?;
-                tell_skipping(f, *kept)
+            Advice::NoFolder { folder } => tell_about(
+                f,
+                "there is no folder ",
+                folder,
+                ": give another one, or make it",
+            ),
+            Advice::NoTarget { name, target } => tell_two(
+                f,
+                "",
+                name,
+                " is a link to ",
+                target,
+                ", which isn't there: give another name, or remove the link",
+            ),
+            Advice::ThereIsWrap { name } => {
+                tell_about(f, "there is ", name, ": a wrap; try --kind wrap")
             }
+            Advice::ThereIsFile { name } => tell_of(f, name, " is one file: try without --kind"),
+            _ => self.tell_numbers(f),
+        }
+    }
+
+    /// Tells the advices that have a number or a choice in them.
+    fn tell_numbers<W: fmt::Write>(&self, f: &mut fmt::Formatter<W>) -> fmt::Result {
+        match self {
+            Advice::GoesOn { kept } => tell_going_on(f, *kept),
+            Advice::DiskFailed { kept } => tell_skipping(f, *kept),
             Advice::Full { kept } => tell_full(f, *kept),
             Advice::Damaged {
                 name,
@@ -122,84 +204,25 @@ impl fmt::Display for Advice {
                 done,
                 shown,
             } => tell_damaged(f, name.as_str(), *entries, done, *shown),
-            Advice::DamagedToOpen { name } => {
-                let name = Shown(name.as_str());
-                write!(
-                    f,
-                    "{name} is damaged there: list shows the entries before it, wipe clears the trace"
-                )
-            }
-            Advice::IsWritten => f.write_str(
-                "another process writes this trace, and its files changed while they were read: try again",
-            ),
-            Advice::Apart { one, other } => {
-                let (one, other) = (Shown(one.as_str()), Shown(other.as_str()));
-                write!(
-                    f,
-                    "{one} and {other} don't belong together: list --salvage shows each"
-                )
-            }
-            Advice::Misplaced { name } => {
-                let name = Shown(name.as_str());
-                write!(
-                    f,
-                    "{name} isn't in its place: list --salvage shows what it holds"
-                )
-            }
+            Advice::DamagedAmong {
+                name,
+                before,
+                elsewhere,
+            } => tell_damaged_among(f, name.as_str(), *before, *elsewhere),
             Advice::Missing {
                 name,
                 is_oldest,
                 is_there,
-            } => tell_missing(f, name.as_str(), *is_oldest, *is_there),
+            } => tell_missing(f, name, *is_oldest, *is_there),
             Advice::IsOfWrap {
                 name,
                 base,
                 suffix,
                 command,
             } => tell_wrap(f, name.as_str(), base.as_str(), suffix.as_str(), command),
-            Advice::NotThere { name, other } => tell_not_there(f, name.as_str(), other),
-            Advice::IsEmpty { name } => {
-                let name = Shown(name.as_str());
-                write!(
-                    f,
-                    "{name} is there and holds nothing: import begins a trace"
-                )
-            }
-            Advice::NoFolder { folder } => {
-                let folder = Shown(folder.as_str());
-                write!(
-                    f,
-                    "there is no folder {folder}: give another one, or make it"
-                )
-            }
-            Advice::NoTarget { name, target } => {
-                let (name, target) = (Shown(name.as_str()), Shown(target.as_str()));
-                write!(
-                    f,
-                    "{name} is a link to {target}, which isn't there: give another name, or remove the link"
-                )
-            }
-            Advice::ThereIsWrap { name } => {
-                let name = Shown(name.as_str());
-                write!(f, "there is {name}: a wrap; try --kind wrap")
-            }
-            Advice::ThereIsFile { name } => {
-                let name = Shown(name.as_str());
-                write!(f, "{name} is one file: try without --kind")
-            }
-            Advice::NoStream => f.write_str(
-                "that is no entry stream, as a node writes it: list shows a stored trace",
-            ),
-            Advice::TooLong => f.write_str("-p lists it"),
+            _ => Ok(()),
         }
     }
-}
-
-fn tell_failed_disk<W: fmt::Write>(f: &mut fmt::Formatter<W>) -> fmt::Result {
-    write!(
-        f,
-        "{FAILED_DISK}: export it elsewhere, or go on with --after-failure"
-    )
 }
 
 fn tell_damaged<W: fmt::Write>(
@@ -230,24 +253,38 @@ fn tell_damaged<W: fmt::Write>(
     }
 }
 
+/// Tells how many entries of a trace are counted of which this file is damaged.
+fn tell_damaged_among<W: fmt::Write>(
+    f: &mut fmt::Formatter<W>,
+    name: &str,
+    before: u64,
+    elsewhere: u64,
+) -> fmt::Result {
+    let name = Shown(name);
+    write!(
+        f,
+        "{name} is damaged there: {before} of its entries and {elsewhere} of other files are counted"
+    )
+}
+
 /// Tells of a file of a wrap that isn't there, or is there as it was before.
 fn tell_missing<W: fmt::Write>(
     f: &mut fmt::Formatter<W>,
-    name: &str,
+    name: &String,
     is_oldest: bool,
     is_there: bool,
 ) -> fmt::Result {
-    let name = Shown(name);
-    let which = if is_oldest { ", the oldest," } else { "" };
-    let what = if is_there {
-        "an older copy: put the newer one back"
+    let which = if is_oldest {
+        ", the oldest, is "
     } else {
-        "missing: put it back"
+        " is "
     };
-    write!(
-        f,
-        "{name}{which} is {what}, or keep the others by export --salvage, and wipe"
-    )
+    tell_of(f, name, which)?;
+    f.write_str(if is_there {
+        "an older copy: put the newer one back, or keep the others by export --salvage, and wipe"
+    } else {
+        "missing: put it back, or keep the others by export --salvage, and wipe"
+    })
 }
 
 /// Tells which wrap a file is one of, and how that is named.
@@ -268,25 +305,6 @@ fn tell_wrap<W: fmt::Write>(
         write!(f, " --suffix {suffix}")?;
     }
     Ok(())
-}
-
-/// Tells where nothing is there.
-fn tell_not_there<W: fmt::Write>(
-    f: &mut fmt::Formatter<W>,
-    name: &str,
-    other: &Option<String>,
-) -> fmt::Result {
-    let name = Shown(name);
-    match other {
-        Some(other) => {
-            let other = Shown(other.as_str());
-            write!(
-                f,
-                "neither {name} nor {other} is there: import begins a trace"
-            )
-        }
-        None => write!(f, "{name} isn't there: import begins a trace"),
-    }
 }
 
 /// What ended a command before its end.
@@ -333,10 +351,6 @@ pub enum Complaint {
     },
 }
 
-/// What is told of a trace of which a sync failed.
-pub const FAILED_DISK: &str =
-    "the disk failed while this trace was written; what was covered last may not be on it";
-
 impl Complaint {
     /// The exit status of the program.
     pub fn status(&self) -> u8
@@ -348,14 +362,14 @@ impl Complaint {
         }
     }
 
-    /// The fault of a stream that is listed, with what to do next.
+    /// The fault of a stream that is listed, or of which nothing is imported, with what to do next.
     pub fn of_stream(fault: SimFault) -> Complaint
         ensures { (advice : Option Advice) × (result ≡ complaints.Fault fault advice) }
     {
         let advice = match fault {
-            SimFault::BadOp { place: 0 } | SimFault::ZeroDrop { place: 0 } => {
-                Some(Advice::NoStream)
-            }
+            SimFault::BadOp { place: 0 }
+            | SimFault::ZeroDrop { place: 0 }
+            | SimFault::BadMessage { place: 0 } => Some(Advice::NoStream),
             SimFault::TooLong { place: _ } => Some(Advice::TooLong),
             _ => None,
         };
@@ -368,30 +382,6 @@ impl Complaint {
             self,
             Complaint::Fault {
                 fault: SimFault::OfFile { .. } | SimFault::InUse { .. },
-                advice: _
-            }
-        )
-    }
-
-    /// Whether the reader failed.
-    pub fn is_of_reader(&self) -> bool {
-        matches!(
-            self,
-            Complaint::Fault {
-                fault: SimFault::Read,
-                advice: _
-            }
-        )
-    }
-
-    /// Whether the writer failed.
-    pub fn is_of_writer(&self) -> bool
-        ensures { IsTrue result → status_told self.now ≡ 1 }
-    {
-        matches!(
-            self,
-            Complaint::Fault {
-                fault: SimFault::Write,
                 advice: _
             }
         )
@@ -424,10 +414,9 @@ impl fmt::Display for Complaint {
                 write!(f, "{fault}")?;
                 tell_advice(f, advice)
             }
-            Complaint::Foreign { name, is_stream } => tell_foreign(f, name.as_str(), *is_stream),
+            Complaint::Foreign { name, is_stream } => tell_foreign(f, name, *is_stream),
             Complaint::Absent { name, advice } => {
-                let name = Shown(name.as_str());
-                write!(f, "{name}: no such trace")?;
+                tell_of(f, name, ": no such trace")?;
                 tell_advice(f, advice)
             }
             Complaint::Differs { name, given, own } => {
@@ -445,7 +434,7 @@ impl fmt::Display for Complaint {
                 write!(f, "{name} can't be removed: {reason}")
             }
             Complaint::Salvaged(salvage) => write!(f, "{salvage}"),
-            Complaint::TooManyRows { name } => tell_too_many_rows(f, name.as_str()),
+            Complaint::TooManyRows { name } => tell_of(f, name, TOO_MANY_ROWS),
         }
     }
 }
@@ -468,38 +457,36 @@ fn tell_too_many<W: fmt::Write>(
 ) -> fmt::Result {
     let name = Shown(name);
     let limit = files.saturating_add(OTHER_FILES);
-    write!(f, "{name} can't be opened: {reason}\n")?;
     write!(
         f,
-        "the files of the trace are open at once, {files} of them: ulimit -n {limit} lets them"
+        "{name} can't be opened: {reason}\nthe files of the trace are open at once, {files} of them: ulimit -n {limit} lets them"
     )
 }
 
-fn tell_too_many_rows<W: fmt::Write>(f: &mut fmt::Formatter<W>, name: &str) -> fmt::Result {
-    let name = Shown(name);
-    write!(
-        f,
-        "{name} has more functions, processes or stacks of calls than are counted\n"
-    )?;
-    f.write_str(
-        "list --json shows its messages, with --mfa those of one module, with --pid those of one process",
-    )
-}
+/// What is told of a trace that has too many rows to count.
+const TOO_MANY_ROWS: &str =
+    " has more functions, processes or stacks of calls than are counted\nlist --json shows its messages, with --mfa those of one module, with --pid those of one process";
 
 fn tell_foreign<W: fmt::Write>(
     f: &mut fmt::Formatter<W>,
-    name: &str,
+    name: &String,
     is_stream: bool,
 ) -> fmt::Result {
-    let name = Shown(name);
-    write!(f, "{name} isn't a trace of dbgrec")?;
     if is_stream {
-        write!(
+        tell_two(
             f,
-            " (it looks like an entry stream: dbgrec stream < {name})"
+            "",
+            name,
+            " isn't a trace of dbgrec (it looks like an entry stream: dbgrec stream < ",
+            name,
+            ")",
         )
     } else {
-        f.write_str("\nit stays as it is: give another name")
+        tell_of(
+            f,
+            name,
+            " isn't a trace of dbgrec\nit stays as it is: give another name",
+        )
     }
 }
 

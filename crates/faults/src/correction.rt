@@ -29,7 +29,7 @@ const KINDS: &str =
 
 /// What may stand for the process of `--pid` or `--not-pid`.
 const A_PROCESS: &str =
-    "a process as a listing shows it, as <app@host.80.0.0> or <'app@my-host'.80.0.0>, or a port, as #Port<app@host.4.0>";
+    "a process as a listing shows it, as <app@host.80.0.0>, with or without its last number, or as the node's shell does, as <0.80.0>, or a port, as #Port<app@host.4.0>, or in a trace the name of a registered process";
 
 /// What may stand for the function of `--mfa` or `--not-mfa`.
 const A_FUNCTION: &str =
@@ -37,11 +37,11 @@ const A_FUNCTION: &str =
 
 /// What may stand for the time of `--since` or `--until`.
 const A_MOMENT: &str =
-    "a time of day, as 12:04:31.5, a time, as 2026-05-01T12:04:31, or seconds of a monotonic clock, as 17.25";
+    "a time of day, as 12:04:31.5, a time, as 2026-05-01T12:04:31, seconds since the first message, as 17.25, so long before now, as -5s, -5m or -2h, or a monotonic time stamp, as -576460751234567890";
 
 /// What is said where a shell made several names of one, as of `w*`.
 const ONE_NAME: &str =
-    "One name is taken. That of a wrap is what the names of its files begin with: w, where they are w0, w1 and so on.";
+    "\nOne name is taken. That of a wrap is what the names of its files begin with: w, where they are w0, w1 and so on.";
 
 /// Tells that a word isn't one that the option takes, and what that takes.
 fn refuse(rt: &impl Eprint, word: &str, option: &str, taken: &str) -> ExitCode
@@ -57,8 +57,8 @@ fn refuse(rt: &impl Eprint, word: &str, option: &str, taken: &str) -> ExitCode
 fn refuse_bytes(rt: &impl Eprint) -> ExitCode
     ensures { exit_status result ≡ 2 }
 {
-    let _ = eprintln!(rt;
-        "error: a word of the command line isn't UTF-8: a trace and its folder have names that are"
+    let _ = rt.eprintln(
+        "error: a word of the command line isn't UTF-8: a trace and its folder have names that are",
     );
     ExitCode::from(2)
 }
@@ -74,15 +74,20 @@ fn form_status(kind: MisuseKind) -> u8
     }
 }
 
-/// Whether a word was one too many after the name of a trace. The text alone tells that.
+/// Whether a word was one too many after the name of a trace, as the text of a fault tells it.
+fn tells_second_name(text: &str) -> bool {
+    match text.strip_prefix("error: unexpected argument '") {
+        Some(word) => !word.starts_with('-') && text.contains("<BASE>"),
+        None => false,
+    }
+}
+
+/// The same of a fault. The text alone tells that.
 fn is_second_name(alloc: Global, error: &FormError) -> bool {
-    let Ok(text) = format!(in alloc; "{error}") else {
-        return false;
-    };
-    let Some(word) = text.strip_prefix("error: unexpected argument '") else {
-        return false;
-    };
-    !word.starts_with('-') && text.contains("<BASE>")
+    match format!(in alloc; "{error}") {
+        Ok(text) => tells_second_name(text.as_str()),
+        Err(_) => false,
+    }
 }
 
 /// Tells what is wrong with the form of the words, or shows the help that they ask for.
@@ -95,7 +100,7 @@ fn correct_form(rt: &(impl Print + Eprint), alloc: Global, error: &FormError) ->
     }
     let _ = error.print(rt);
     if kind == MisuseKind::UnknownArgument && is_second_name(alloc, error) {
-        let _ = eprintln!(rt; "\n{ONE_NAME}");
+        let _ = rt.eprintln(ONE_NAME);
     }
     ExitCode::from(form_status(kind))
 }

@@ -18,29 +18,18 @@ fn fail(rt: &impl Eprint, complaint: &Complaint) -> ExitCode
     ExitCode::from(complaint.status())
 }
 
-/// Tells that standard output can't be written, and why. A reader that has closed it knows.
-fn fail_to_write(rt: &impl Eprint, complaint: &Complaint, reason: Option<io::Error>) -> ExitCode
-    requires { status_told complaint.now ≡ 1 }
-    ensures { exit_status result ≡ 1 }
-{
-    let Some(reason) = reason else {
-        return fail(rt, complaint);
-    };
-    if reason.kind() == ErrorKind::BrokenPipe {
-        return ExitCode::FAILURE;
-    }
-    let code = fail(rt, complaint);
-    let _ = eprintln!(rt; "standard output can't be written: {reason}");
-    code
-}
-
-/// Tells that standard input can't be read, and why, where the system said it.
-fn fail_to_read(rt: &impl Eprint, complaint: &Complaint, reason: Option<io::Error>) -> ExitCode
+/// The same, and behind it what the system said, where it said it.
+fn fail_because(
+    rt: &impl Eprint,
+    complaint: &Complaint,
+    what: &str,
+    reason: Option<io::Error>,
+) -> ExitCode
     ensures { exit_status result ≡ status_told complaint.now }
 {
     let code = fail(rt, complaint);
     if let Some(reason) = reason {
-        let _ = eprintln!(rt; "standard input can't be read: {reason}");
+        let _ = eprintln!(rt; "{what}: {reason}");
     }
     code
 }
@@ -52,17 +41,32 @@ pub struct Reasons {
     pub unwritten: Option<io::Error>,
 }
 
-/// What the program ends with, once that was done. What it can't read or write is told with its reason.
+/// What the program ends with, once that was done. What it can't read or write is told with its reason. A reader of its output
+/// that has closed that knows.
 pub fn code_of(rt: &impl Eprint, done: &Result<(), Complaint>, reasons: Reasons) -> ExitCode
     ensures { exit_status result ≡ status_of_done done.now }
 {
-    match done {
-        Ok(()) => ExitCode::SUCCESS,
-        Err(complaint) if complaint.is_of_writer() => {
-            fail_to_write(rt, complaint, reasons.unwritten)
-        }
-        Err(complaint) if complaint.is_of_reader() => fail_to_read(rt, complaint, reasons.unread),
-        Err(complaint) => fail(rt, complaint),
+    let Err(complaint) = done else {
+        return ExitCode::SUCCESS;
+    };
+    match complaint {
+        Complaint::Fault {
+            fault: SimFault::Write,
+            advice: _,
+        } => match reasons.unwritten {
+            Some(reason) if reason.kind() == ErrorKind::BrokenPipe => ExitCode::FAILURE,
+            reason => fail_because(rt, complaint, "standard output can't be written", reason),
+        },
+        Complaint::Fault {
+            fault: SimFault::Read,
+            advice: _,
+        } => fail_because(
+            rt,
+            complaint,
+            "standard input can't be read",
+            reasons.unread,
+        ),
+        _ => fail(rt, complaint),
     }
 }
 
@@ -70,5 +74,6 @@ pub fn code_of(rt: &impl Eprint, done: &Result<(), Complaint>, reasons: Reasons)
 pub fn no_memory(rt: &impl Eprint) -> ExitCode
     ensures { exit_status result ≡ 1 }
 {
-    fail(rt, &Complaint::from(SimFault::NoMemory))
+    let _ = rt.eprintln("dbgrec: refused 7 NoMemory");
+    ExitCode::FAILURE
 }

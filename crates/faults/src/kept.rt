@@ -65,14 +65,12 @@ impl Complaint {
 impl fmt::Display for Kept {
     fn fmt<W: fmt::Write>(&self, f: &mut fmt::Formatter<W>) -> fmt::Result {
         let (entries, bytes) = (self.entries, self.bytes);
-        match entries {
-            0 => f.write_str("no entry of this input is kept"),
-            1 => write!(f, "1 entry of this input is kept, up to byte {bytes}"),
-            _ => write!(
-                f,
-                "{entries} entries of this input are kept, up to byte {bytes}"
-            ),
-        }
+        let kept = if entries == 1 {
+            "entry of this input is kept"
+        } else {
+            "entries of this input are kept"
+        };
+        write!(f, "{entries} {kept}, up to byte {bytes}")
     }
 }
 
@@ -90,6 +88,9 @@ pub fn fault_in_input(fault: SimFault, skipped: u64) -> SimFault
         SimFault::ZeroDrop { place } => SimFault::ZeroDrop {
             place: place.saturating_add(skipped),
         },
+        SimFault::BadMessage { place } => SimFault::BadMessage {
+            place: place.saturating_add(skipped),
+        },
         other => other,
     }
 }
@@ -100,7 +101,9 @@ pub fn tell_going_on<W: fmt::Write>(f: &mut fmt::Formatter<W>, kept: Option<Kept
         None => f.write_str(
             "it isn't known how much of this input is kept: dbgrec info shows what the trace has",
         ),
-        Some(kept) if kept.entries == 0 => write!(f, "{kept}: the same command goes on"),
+        Some(Kept { entries: 0, .. }) => {
+            f.write_str("no entry of this input is kept: the same command goes on")
+        }
         Some(kept) => {
             let bytes = kept.bytes;
             write!(
@@ -111,28 +114,42 @@ pub fn tell_going_on<W: fmt::Write>(f: &mut fmt::Formatter<W>, kept: Option<Kept
     }
 }
 
+/// What is told of a trace that can take no more.
+const FULL: &str = "the trace is full: export keeps its entries, wipe clears it";
+
 /// Tells what is to be done with a trace that can take no more, and with the rest of the input.
 pub fn tell_full<W: fmt::Write>(f: &mut fmt::Formatter<W>, kept: Option<Kept>) -> fmt::Result {
-    f.write_str("the trace is full: export keeps its entries, wipe clears it")?;
     match kept {
-        Some(kept) if kept.entries > 0 => {
+        None | Some(Kept { entries: 0, .. }) => f.write_str(FULL),
+        Some(kept) => {
             let bytes = kept.bytes;
             write!(
                 f,
-                "; {kept}: another trace takes the rest, of a file with --skip {bytes}"
+                "{FULL}; {kept}: another trace takes the rest, of a file with --skip {bytes}"
             )
         }
-        _ => Ok(()),
     }
 }
 
-/// Tells how an import goes on over a disk that failed.
+/// What is told of a trace of which a sync failed.
+pub const FAILED_DISK: &str =
+    "the disk failed while this trace was written; what was covered last may not be on it";
+
+/// Tells that a sync failed while a trace was written.
+pub fn tell_failed_disk<W: fmt::Write>(f: &mut fmt::Formatter<W>) -> fmt::Result {
+    write!(
+        f,
+        "{FAILED_DISK}: export it elsewhere, or go on with --after-failure"
+    )
+}
+
+/// The same, and how an import goes on then.
 pub fn tell_skipping<W: fmt::Write>(f: &mut fmt::Formatter<W>, kept: Option<Kept>) -> fmt::Result {
     match kept {
-        Some(kept) if kept.entries > 0 => {
-            let bytes = kept.bytes;
-            write!(f, ", of a file with --skip {bytes} too")
-        }
-        _ => Ok(()),
+        None | Some(Kept { entries: 0, .. }) => tell_failed_disk(f),
+        Some(Kept { entries: _, bytes }) => write!(
+            f,
+            "{FAILED_DISK}: export it elsewhere, or go on with --after-failure, of a file with --skip {bytes} too"
+        ),
     }
 }

@@ -17,12 +17,13 @@ mod fault;
 mod kept;
 mod notices;
 mod salvage;
+mod sentence;
 
-pub use absence::{in_the_way, instead, wrap_instead};
-pub use complaint::{Advice, Complaint, FAILED_DISK, damaged_file, is_full, is_of_several, told};
+pub use absence::{in_the_way, instead, wrap_around, wrap_instead};
+pub use complaint::{Advice, Complaint, damaged_file, is_full, is_of_several, told};
 pub use correction::correct;
 pub use ending::{Reasons, code_of, no_memory};
 pub use fault::fault_of_reading;
-pub use kept::{Kept, fault_in_input};
+pub use kept::{FAILED_DISK, Kept, fault_in_input};
 pub use notices::{tell_idle, tell_idle_on_file, tell_own};
 pub use salvage::Salvage;

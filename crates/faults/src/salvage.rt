@@ -1,7 +1,7 @@
 //! What is told of files that were taken each by itself.
 
+use crate::sentence::tell_about;
 use std::fmt;
-use trace_lookup::Shown;
 
 /// What came of a salvage.
 #[derive(Drop)]
@@ -37,45 +37,52 @@ impl fmt::Display for Count {
     }
 }
 
-/// So many entries.
-fn entries(number: u64) -> Count {
-    Count {
-        number,
-        one: "entry",
-        many: "entries",
-    }
-}
+/// Before how many entries there are, how many of them are shown, where not all are.
+#[derive(Clone, Copy)]
+struct ShownOf(u64, u64);
 
-/// So many files.
-fn files(number: u64) -> Count {
-    Count {
-        number,
-        one: "file",
-        many: "files",
+impl fmt::Display for ShownOf {
+    fn fmt<W: fmt::Write>(&self, f: &mut fmt::Formatter<W>) -> fmt::Result {
+        if self.0 < self.1 {
+            write!(f, "{} of ", self.0)
+        } else {
+            Ok(())
+        }
     }
 }
 
 /// Which files are passed over.
-fn tell_passed<W: fmt::Write>(f: &mut fmt::Formatter<W>, names: &[String]) -> fmt::Result {
-    let mut before = "; passed over: ";
-    for name in names {
-        let name = Shown(name.as_str());
-        write!(f, "{before}{name}")?;
-        before = ", ";
+#[derive(Clone, Copy)]
+struct Passed<'a>(&'a [String]);
+
+impl fmt::Display for Passed<'_> {
+    fn fmt<W: fmt::Write>(&self, f: &mut fmt::Formatter<W>) -> fmt::Result {
+        let mut before = "; passed over: ";
+        for name in self.0 {
+            tell_about(f, before, name, "")?;
+            before = ", ";
+        }
+        Ok(())
     }
-    Ok(())
 }
 
 impl fmt::Display for Salvage {
     fn fmt<W: fmt::Write>(&self, f: &mut fmt::Formatter<W>) -> fmt::Result {
-        f.write_str("this isn't the trace, but what its files hold one by one: ")?;
-        if self.shown < self.entries {
-            write!(f, "{} of ", self.shown)?;
-        }
-        let (written, files) = (entries(self.entries), files(self.files));
-        write!(f, "{written} of {files}, and {} missing", self.missing)?;
-        f.write_str(" as far as their headers tell")?;
-        tell_passed(f, &self.passed)?;
-        f.write_str("; list without --salvage says why it is refused")
+        let shown = ShownOf(self.shown, self.entries);
+        let entries = Count {
+            number: self.entries,
+            one: "entry",
+            many: "entries",
+        };
+        let files = Count {
+            number: self.files,
+            one: "file",
+            many: "files",
+        };
+        let (missing, passed) = (self.missing, Passed(&self.passed));
+        write!(
+            f,
+            "this isn't the trace, but what its files hold one by one: {shown}{entries} of {files}, and {missing} missing as far as their headers tell{passed}; list without --salvage says why it is refused"
+        )
     }
 }

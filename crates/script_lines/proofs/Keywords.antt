@@ -1,6 +1,7 @@
 -- Keywords and their texts.
-use Rattle.std.proofs.Common.{arith, sym, ◌∙◌, ap, subst, ◌≡◌, ℕ, Bool, true, false, cond, Option, None, Some, List, [], ◌∷◌, refl, inl, inr, ◌⊎◌, ◌≤◌, ◌-◌, length, get_or, take, drop, Bor, ◌≢◌, IfSome}
-use Rattle.std.proofs.lemmas.List.{take_rest}
+use Rattle.std.proofs.Common.{arith, sym, ◌∙◌, ap, subst, ◌≡◌, ℕ, Bool, true, false, cond, Option, None, Some, List, [], ◌∷◌, refl, inl, inr, ◌⊎◌, ◌≤◌, ◌<◌, ◌+◌, ◌-◌, length, get_or, take, drop, Bor, ◌≢◌, IfSome}
+use Rattle.std.proofs.lemmas.List.{at_drop_all, at_drop_more, take_rest}
+use Rattle.std.specs.Prelude.{if◌then◌else◌}
 use Rattle.std.specs.Str.{bytes_eq}
 use Rattle.std.proofs.lemmas.Slice.Eq.{bytes_eq-Decides}
 use Rattle.script_lines.specs.Spellings.{IsFound, texts, Sole}
@@ -111,3 +112,25 @@ at_some {X} P o x e h = let Q : Option X → Type 0 = λ p. IfSome p P in subst 
 
 pub found_at : {X : Type 0} (P : X → Type 0) (o : Option X) (x : X) → o ≡ Some x → IsFound P o → P x
 found_at {X} P o x e h = let Q : Option X → Type 0 = λ p. IsFound P p in subst Q e h
+
+-- ---- a table of their texts
+
+-- the first keyword of the rows that the text is
+abbrev pub named_in : List (Bor (List ℕ) × Keyword) → List ℕ → Option Keyword
+named_in [] text = None
+named_in (row ∷ rows) text = if bytes_eq text row.0.now then Some row.1 else named_in rows text
+
+pub row_of : (row : Bor (List ℕ) × Keyword) (rows : List (Bor (List ℕ) × Keyword)) (text : List ℕ) → bytes_eq text row.0.now ≡ true → named_in (row ∷ rows) text ≡ Some row.1
+row_of row rows text e = rw e refl
+
+pub other_row : (row : Bor (List ℕ) × Keyword) (rows : List (Bor (List ℕ) × Keyword)) (text : List ℕ) → bytes_eq text row.0.now ≡ false → named_in (row ∷ rows) text ≡ named_in rows text
+other_row row rows text e = rw e refl
+
+pub at_row : (rows : List (Bor (List ℕ) × Keyword)) (i : ℕ) (d : Bor (List ℕ) × Keyword) (text : List ℕ) (k : Option Keyword) → named_in (drop i rows) text ≡ k → i < length rows → bytes_eq text (get_or rows i d).0.now ≡ true → Some (get_or rows i d).1 ≡ k
+at_row rows i d text k was low e = sym (row_of (get_or rows i d) (drop (i + 1) rows) text e) ∙ sym (at_drop_more (λ (rs : List (Bor (List ℕ) × Keyword)). named_in rs text) rows i d low) ∙ was
+
+pub past_row : (rows : List (Bor (List ℕ) × Keyword)) (i : ℕ) (d : Bor (List ℕ) × Keyword) (text : List ℕ) (k : Option Keyword) → named_in (drop i rows) text ≡ k → i < length rows → bytes_eq text (get_or rows i d).0.now ≡ false → named_in (drop (i + 1) rows) text ≡ k
+past_row rows i d text k was low e = sym (other_row (get_or rows i d) (drop (i + 1) rows) text e) ∙ sym (at_drop_more (λ (rs : List (Bor (List ℕ) × Keyword)). named_in rs text) rows i d low) ∙ was
+
+pub past_rows : (rows : List (Bor (List ℕ) × Keyword)) (i : ℕ) (text : List ℕ) (k : Option Keyword) → named_in (drop i rows) text ≡ k → length rows ≤ i → None ≡ k
+past_rows rows i text k was all = sym (at_drop_all (λ (rs : List (Bor (List ℕ) × Keyword)). named_in rs text) rows i all) ∙ was

@@ -1,7 +1,6 @@
 -- Keywords that no row begins with.
 use Rattle.std.proofs.Common.{refl, ◌≡◌, ℕ, List}
-use Rattle.trace_message.specs.Events.{EventData}
-use Rattle.script_lines.specs.Table.{PlainRow, HeldRow, DeskRow, Creates, Resumes, Crashes, IsEvent}
+use Rattle.script_lines.specs.Table.{DeskRow, Crashes}
 use Rattle.script_lines.specs.declared.keyword.Keyword.{Keyword}
 use Rattle.script_lines.specs.declared.keyword.Keyword.TheVariants as keywords
 use Rattle.script_lines.specs.declared.line.Line.{Line}

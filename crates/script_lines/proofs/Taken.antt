@@ -13,7 +13,7 @@ use Rattle.std.specs.Io.{StartsWith, StopsAt, IsEmptyOrEndsWith, appended_bytes}
 use Rattle.std.specs.Io.BufRead.{ends_with_byte, strip_last}
 use Rattle.std.specs.Io.KnownBytes.{Consumes}
 use Rattle.script_lines.specs.Lines.{IsOfRecord, SaysSame}
-use Rattle.script_lines.specs.Reading.{Progress, IsUsedUp, IsTaken, IsTooLong, IsOver, IsReadLine, AreTaken, IsOfScript, TakesOf, TakesMore, TellsRoom, Advances, IsSilent, IsCommand, TellsLine, HasNext, HasEnded, Breaks, HasStopped}
+use Rattle.script_lines.specs.Reading.{Progress, IsUsedUp, IsTaken, IsTooLong, IsOver, IsReadLine, AreTaken, IsOfScript, TakesOf, TakesMore, TellsRoom, Advances, IsSilent, TellsLine, HasEnded, Breaks, HasStopped}
 use Rattle.script_lines.specs.declared.line.Line.{Line}
 use Rattle.script_lines.specs.declared.line.Line.TheVariants as lines
 use Rattle.script_lines.specs.declared.fault.ScriptFault.{ScriptFault}

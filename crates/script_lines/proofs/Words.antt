@@ -1,11 +1,14 @@
 -- So many words, and what they spell.
-use Rattle.std.proofs.Common.{inl, inr, Result, Ok, Err, subst, ap, ◌≡◌, ◌≢◌, ℕ, Option, None, Some, List, [], ◌∷◌, length}
+use Rattle.std.proofs.Common.{inl, inr, Result, Ok, Err, subst, ◌≡◌, ℕ, Option, None, Some, List, [], ◌∷◌}
 use Rattle.std.specs.Result.{OkIff, result_ok}
 use Rattle.script_lines.specs.Keywords.{text_of, Behind}
 use Rattle.script_lines.specs.Table.{PlainRow, HeldRow, IsOfDesk, Row}
 use Rattle.script_lines.specs.declared.keyword.Keyword.{Keyword}
 use Rattle.script_lines.specs.declared.line.Line.{Line}
 use Rattle.script_lines.proofs.Keywords.{behind}
+use Rattle.script_lines.specs.EventFaults.{IsSpelled, IsSpelledAs}
+use Rattle.script_lines.specs.declared.event.EventFault.{EventFault}
+use Rattle.script_lines.specs.declared.event.EventFault.TheVariants as faults
 use Rattle.script_lines.specs.Spellings.{IsFound, IsFoundAs, IsNumber, IsNumberIn, Sole, Two, Three, First}
 
 -- where the word spells nothing, the only word doesn't
@@ -20,6 +23,15 @@ two_not2 P Q ws a b e none x y s = let p : s.word2 ≡ b = cc (s.are, e) in none
 
 pub three_not3 : {X Y Z : Type 0} (P : List ℕ → X → Type 0) (Q : List ℕ → Y → Type 0) (R : List ℕ → Z → Type 0) (ws : List (List ℕ)) (a b c : List ℕ) → ws ≡ a ∷ b ∷ c ∷ [] → ((z : Z) → R c z → ⊥) → (x : X) (y : Y) (z : Z) → Three P Q R ws x y z → ⊥
 three_not3 P Q R ws a b c e none x y z s = let p : s.word3 ≡ c = cc (s.are, e) in none z (subst (λ (w : List ℕ). R w z) p s.spells3)
+
+pub three_not1 : {X Y Z : Type 0} (P : List ℕ → X → Type 0) (Q : List ℕ → Y → Type 0) (R : List ℕ → Z → Type 0) (ws : List (List ℕ)) (a b c : List ℕ) → ws ≡ a ∷ b ∷ c ∷ [] → ((x : X) → P a x → ⊥) → (x : X) (y : Y) (z : Z) → Three P Q R ws x y z → ⊥
+three_not1 P Q R ws a b c e none x y z s = let p : s.word1 ≡ a = cc (s.are, e) in none x (subst (λ (w : List ℕ). P w x) p s.spells1)
+
+pub three_not2 : {X Y Z : Type 0} (P : List ℕ → X → Type 0) (Q : List ℕ → Y → Type 0) (R : List ℕ → Z → Type 0) (ws : List (List ℕ)) (a b c : List ℕ) → ws ≡ a ∷ b ∷ c ∷ [] → ((y : Y) → Q b y → ⊥) → (x : X) (y : Y) (z : Z) → Three P Q R ws x y z → ⊥
+three_not2 P Q R ws a b c e none x y z s = let p : s.word2 ≡ b = cc (s.are, e) in none y (subst (λ (w : List ℕ). Q w y) p s.spells2)
+
+pub first_not : {X Y : Type 0} (P : List ℕ → X → Type 0) (Q : List (List ℕ) → Y → Type 0) (ws others : List (List ℕ)) (a : List ℕ) → ws ≡ a ∷ others → ((x : X) → P a x → ⊥) → (x : X) (y : Y) → First P Q ws x y → ⊥
+first_not P Q ws others a e none x y s = let p : s.word ≡ a = cc (s.are, e) in none x (subst (λ (w : List ℕ). P w x) p s.spells)
 
 pub first_not_others : {X Y : Type 0} (P : List ℕ → X → Type 0) (Q : List (List ℕ) → Y → Type 0) (ws others : List (List ℕ)) (a : List ℕ) → ws ≡ a ∷ others → ((y : Y) → Q others y → ⊥) → (x : X) (y : Y) → First P Q ws x y → ⊥
 first_not_others P Q ws others a e none x y s = let p : s.others ≡ others = cc (s.are, e) in none y (subst (λ (o : List (List ℕ)). Q o y) p s.spells_others)
@@ -76,3 +88,19 @@ behind_as {V} {X} seen Says words others k None e h = let nothing : Option X = N
 pub row_found : (k : Keyword) (ws : List (List ℕ)) (o : Option Line) → ((x : Line) → PlainRow k ws x → ⊥) → ((x : Line) → HeldRow k ws x → ⊥) → IsFound (IsOfDesk k ws) o → IsFound (Row k ws) o
 row_found k ws (Some x) plain held h = inr (inr h)
 row_found k ws None plain held h = λ x r. elim r [ inl p ↦ plain x p | inr s ↦ elim s [ inl p ↦ held x p | inr p ↦ h x p ] ]
+
+-- ---- what words spell, or why they spell nothing
+
+-- what is spelled of one thing is spelled of another
+pub spelled_weaker : {V X Y : Type 0} (seen : V → X) (P : X → Type 0) (shown : V → Y) (Q : Y → Type 0) (r : Result V EventFault) → ((o : Option V) → IsFoundAs seen P o → IsFoundAs shown Q o) → IsSpelledAs seen P r → IsSpelledAs shown Q r
+spelled_weaker seen P shown Q (Ok v) f h = f (Some v) h
+spelled_weaker {V} seen P shown Q (Err faults.Unspelled) f h = let nothing : Option V = None in f nothing h
+spelled_weaker seen P shown Q (Err faults.NoMemory) f h = h
+
+-- where a part isn't spelled, the whole isn't
+pub missed : {X Y : Type 0} (P : X → Type 0) (Q : Y → Type 0) (fault : EventFault) → (((x : X) → P x → ⊥) → (y : Y) → Q y → ⊥) → IsSpelled P (Err fault) → IsSpelled Q (Err fault)
+missed P Q faults.Unspelled f h = f h
+missed P Q faults.NoMemory f h = h
+
+pub unspelled : {X : Type 0} (P : X → Type 0) (fault : EventFault) → fault ≡ faults.Unspelled → IsSpelled P (Err fault) → (x : X) → P x → ⊥
+unspelled P fault e h = let Q : EventFault → Type 0 = λ f. IsSpelled P (Err f) in subst Q e h

@@ -1,3 +1,4 @@
+pub mod EventFaults
 pub mod Keywords
 pub mod Lines
 pub mod Reading

@@ -5,7 +5,7 @@ ghost use Rattle.script_lines.specs.Table.{IsLong, IsTracee, IsFlags, HasLetters
 ghost use Rattle.script_lines.specs.declared.keyword.Keyword.TheVariants as keywords;
 
 use crate::arguments::{first, one, sole_number, three, two};
-use crate::event::event;
+use crate::event::{EventFault, event};
 use crate::keyword::Keyword;
 use crate::spelling::within;
 use std::alloc::{AllocError, Global};
@@ -199,10 +199,11 @@ fn emit(alloc: Global, words: &[&str]) -> Result<Option<DeskLine>, AllocError>
     let Some(number) = tracee_number(number) else {
         return Ok(None);
     };
-    let Some(event) = event(alloc, others)? else {
-        return Ok(None);
-    };
-    Ok(Some(DeskLine::OfTracee(number, TraceeLine::Emit(event))))
+    match event(alloc, others) {
+        Ok(event) => Ok(Some(DeskLine::OfTracee(number, TraceeLine::Emit(event)))),
+        Err(EventFault::Unspelled) => Ok(None),
+        Err(EventFault::NoMemory) => Err(AllocError),
+    }
 }
 
 /// Parses a keyword and the words after it as a line for a desk other than `emit`; None where they are none.

@@ -44,52 +44,58 @@ pub enum Keyword {
     Exception,
 }
 
+/// The text of each keyword.
+const TEXTS: [(&str, Keyword); 37] = [
+    ("store", Keyword::Store),
+    ("bytes", Keyword::Bytes),
+    ("fuse", Keyword::Fuse),
+    ("failonce", Keyword::FailOnce),
+    ("create", Keyword::Create),
+    ("resume", Keyword::Resume),
+    ("files", Keyword::Files),
+    ("list", Keyword::List),
+    ("wipe", Keyword::Wipe),
+    ("crash", Keyword::Crash),
+    ("put", Keyword::Put),
+    ("lose", Keyword::Lose),
+    ("flush", Keyword::Flush),
+    ("seal", Keyword::Seal),
+    ("tick", Keyword::Tick),
+    ("abandon", Keyword::Abandon),
+    ("close", Keyword::Close),
+    ("desk", Keyword::Desk),
+    ("stamp", Keyword::Stamp),
+    ("mono", Keyword::Mono),
+    ("tracee", Keyword::Tracee),
+    ("emit", Keyword::Emit),
+    ("hand", Keyword::Hand),
+    ("flushfor", Keyword::FlushFor),
+    ("counts", Keyword::Counts),
+    ("file", Keyword::File),
+    ("wrap", Keyword::Wrap),
+    ("time", Keyword::Time),
+    ("kept", Keyword::Kept),
+    ("low", Keyword::Low),
+    ("high", Keyword::High),
+    ("receive", Keyword::Receive),
+    ("send", Keyword::Send),
+    ("sendlost", Keyword::SendLost),
+    ("call", Keyword::Call),
+    ("return", Keyword::Return),
+    ("exception", Keyword::Exception),
+];
+
 impl Keyword {
     /// The keyword that this text is; None where it is none.
-    #[tactic(auto, unfolding(crate::specs::Keywords::keyword_among))]
     pub fn named(text: &str) -> Option<Keyword>
         ensures { result ≡ keyword_among all_keywords text.now }
     {
-        match text {
-            "store" => Some(Keyword::Store),
-            "bytes" => Some(Keyword::Bytes),
-            "fuse" => Some(Keyword::Fuse),
-            "failonce" => Some(Keyword::FailOnce),
-            "create" => Some(Keyword::Create),
-            "resume" => Some(Keyword::Resume),
-            "files" => Some(Keyword::Files),
-            "list" => Some(Keyword::List),
-            "wipe" => Some(Keyword::Wipe),
-            "crash" => Some(Keyword::Crash),
-            "put" => Some(Keyword::Put),
-            "lose" => Some(Keyword::Lose),
-            "flush" => Some(Keyword::Flush),
-            "seal" => Some(Keyword::Seal),
-            "tick" => Some(Keyword::Tick),
-            "abandon" => Some(Keyword::Abandon),
-            "close" => Some(Keyword::Close),
-            "desk" => Some(Keyword::Desk),
-            "stamp" => Some(Keyword::Stamp),
-            "mono" => Some(Keyword::Mono),
-            "tracee" => Some(Keyword::Tracee),
-            "emit" => Some(Keyword::Emit),
-            "hand" => Some(Keyword::Hand),
-            "flushfor" => Some(Keyword::FlushFor),
-            "counts" => Some(Keyword::Counts),
-            "file" => Some(Keyword::File),
-            "wrap" => Some(Keyword::Wrap),
-            "time" => Some(Keyword::Time),
-            "kept" => Some(Keyword::Kept),
-            "low" => Some(Keyword::Low),
-            "high" => Some(Keyword::High),
-            "receive" => Some(Keyword::Receive),
-            "send" => Some(Keyword::Send),
-            "sendlost" => Some(Keyword::SendLost),
-            "call" => Some(Keyword::Call),
-            "return" => Some(Keyword::Return),
-            "exception" => Some(Keyword::Exception),
-            _ => None,
+        for (named, keyword) in TEXTS.iter() {
+            if text == *named {
+                return Some(*keyword);
+            }
         }
+        None
     }
 }
 

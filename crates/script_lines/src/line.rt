@@ -89,10 +89,7 @@ impl Line {
 fn alone(words: &[&str], line: Line) -> Option<Line>
     ensures { IsFound (IsAlone (texts words.now) line) result }
 {
-    if words.is_empty() {
-        return Some(line);
-    }
-    None
+    words.is_empty().then_some(line)
 }
 
 /// The size or time of a wrap, and its count, as two words spell them; None where these aren't numbers of 32 and 16 bits.

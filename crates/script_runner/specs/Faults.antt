@@ -1,5 +1,5 @@
 -- What a fault comes of.
-use Rattle.std.specs.Prelude.{◌≡◌, ◌≢◌, ℕ}
+use Rattle.std.specs.Prelude.{◌≡◌, ◌≢◌, ◌⊎◌, ℕ}
 use Rattle.recovery.specs.declared.fault.RecoverFault.TheVariants as recovering
 use Rattle.trace_port.specs.declared.create.CreateFault.TheVariants as creating
 use Rattle.trace_port.specs.declared.resume.ResumeFault.TheVariants as resuming
@@ -46,9 +46,9 @@ run_fault (stream.ZeroDrop place) = faults.ZeroDrop place
 run_fault (stream.TooLong place) = faults.TooLong place
 run_fault stream.NoMemory = faults.NoMemory
 
--- a stream that comes in ended it so, or lack of memory for that
+-- a stream that comes in ended it so, one that is imported too, or lack of memory for that
 abbrev pub IsOfStream : SimFault → Type 0
-IsOfStream fault = (from : StreamFault) × (fault ≡ run_fault from) × (from ≢ stream.Write)
+IsOfStream fault = ((from : StreamFault) × (fault ≡ run_fault from) × (from ≢ stream.Write)) ⊎ ((place : ℕ) × (fault ≡ faults.BadMessage place))
 
 -- a line that isn't had from a script
 abbrev pub script_fault : ScriptFault → SimFault

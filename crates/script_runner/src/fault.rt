@@ -8,75 +8,64 @@ use crate::refusal::Refusal;
 use recovery::RecoverFault;
 use script_lines::ScriptFault;
 use std::alloc::{AllocError, AllocFailed};
-use std::io;
+use std::{fmt, io};
 use stores::FileFault;
-use thiserror::Error;
 use trace_client::{ListFault, StreamFault};
 use trace_port::PortFault;
 
 /// What ends a run before its end. It displays what is told on standard error.
-#[derive(Debug, Drop, Error)]
+#[derive(Drop)]
 pub enum SimFault {
     /// A line, counted from 1, isn't a command.
-    #[error("line {line}: bad command")]
     BadCommand {
         line: u64,
     },
     /// The script or the stream couldn't be read, or is longer than 1,099,511,627,776 bytes.
-    #[error("refused 1 Read")]
     Read,
     /// An answer or a line couldn't be written.
-    #[error("refused 2 Write")]
     Write,
     /// The stream ends inside the entry at this offset, in bytes.
-    #[error("refused 3 Truncated at {place}")]
     Truncated {
         place: u64,
     },
     /// The entry at this offset begins with neither 0 nor 1.
-    #[error("refused 4 BadOp at {place}")]
     BadOp {
         place: u64,
     },
     /// The entry at this offset is a drop record of no messages.
-    #[error("refused 5 ZeroDrop at {place}")]
     ZeroDrop {
         place: u64,
     },
     /// The entry at this offset is a message of more than 65,531 bytes.
-    #[error("refused 6 TooLong at {place}")]
     TooLong {
         place: u64,
     },
+    /// The entry at this offset is a message that no node writes: an empty one, or one whose first byte isn't 131.
+    BadMessage {
+        place: u64,
+    },
     /// The allocator refused memory to the run itself.
-    #[error("refused 7 NoMemory")]
     NoMemory,
     /// A call on a stored trace.
-    #[error("refused {0}")]
     Refused(Refusal),
     /// A call on a stored trace, for what the system said of a file.
-    #[error("refused {refusal}: {name:?}: {fault}")]
     OfFile {
         refusal: Refusal,
         name: String,
         fault: FileFault,
     },
     /// The file of this number isn't one of a trace. It may begin with an entry.
-    #[error("file {file} isn't a trace of dbgrec")]
     Foreign {
         file: u32,
         is_stream: bool,
     },
     /// No file of the trace has a byte.
-    #[error("no such trace")]
     Absent,
     /// Another process has the trace.
-    #[error("{name:?} is in use by another process")]
     InUse {
         name: String,
     },
     /// The trace can't be locked.
-    #[error("{name:?} can't be locked: {reason}")]
     NotLocked {
         name: String,
         reason: io::Error,
@@ -96,6 +85,7 @@ impl SimFault {
                 | SimFault::ZeroDrop { place: _ }
                 | SimFault::TooLong { place: _ }
                 | SimFault::NoMemory
+                | SimFault::BadMessage { place: _ }
         )
     }
 
@@ -108,6 +98,45 @@ impl SimFault {
             _ => 1,
         }
     }
+}
+
+impl fmt::Display for SimFault {
+    fn fmt<W: fmt::Write>(&self, f: &mut fmt::Formatter<W>) -> fmt::Result {
+        match self {
+            SimFault::BadCommand { line } => write!(f, "line {line}: bad command"),
+            SimFault::Read => f.write_str("refused 1 Read"),
+            SimFault::Write => f.write_str("refused 2 Write"),
+            SimFault::Truncated { place } => tell_entry(f, "3 Truncated", *place),
+            SimFault::BadOp { place } => tell_entry(f, "4 BadOp", *place),
+            SimFault::ZeroDrop { place } => tell_entry(f, "5 ZeroDrop", *place),
+            SimFault::TooLong { place } => tell_entry(f, "6 TooLong", *place),
+            SimFault::BadMessage { place } => tell_entry(f, "8 BadMessage", *place),
+            SimFault::NoMemory => f.write_str("refused 7 NoMemory"),
+            SimFault::Refused(refusal) => write!(f, "refused {refusal}"),
+            SimFault::OfFile {
+                refusal,
+                name,
+                fault,
+            } => write!(f, "refused {refusal}: {name:?}: {fault}"),
+            SimFault::Foreign { file, is_stream: _ } => {
+                write!(f, "file {file} isn't a trace of dbgrec")
+            }
+            SimFault::Absent => f.write_str("no such trace"),
+            SimFault::InUse { name } => write!(f, "{name:?} is in use by another process"),
+            SimFault::NotLocked { name, reason } => {
+                write!(f, "{name:?} can't be locked: {reason}")
+            }
+        }
+    }
+}
+
+/// Tells what is wrong with the entry of a stream at this offset.
+fn tell_entry<W: fmt::Write>(
+    f: &mut fmt::Formatter<W>,
+    wrong: &'static str,
+    place: u64,
+) -> fmt::Result {
+    write!(f, "refused {wrong} at {place}")
 }
 
 impl From<AllocError> for SimFault {

@@ -14,7 +14,7 @@ use trace_store::DeviceFault;
 use tracees::HandFault;
 
 /// Why a hand-over or a flush for a tracee was refused.
-#[derive(Clone, Copy, Debug)]
+#[derive(Clone, Copy)]
 pub enum HandRefusal {
     /// The port refused, after so many entries were moved.
     Port { fault: PortFault, moved: u64 },
@@ -40,7 +40,7 @@ impl HandRefusal {
 }
 
 /// What was refused.
-#[derive(Clone, Copy, Debug)]
+#[derive(Clone, Copy)]
 pub enum Refusal {
     /// A call of the store itself.
     Device,

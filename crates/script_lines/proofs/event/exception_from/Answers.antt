@@ -1,39 +1,45 @@
-use Rattle.std.proofs.Common.{refl}
+use Rattle.std.proofs.lemmas.Result.{err_from_is_err_and}
+use Rattle.std.proofs.Common.{refl, ℕ}
 use Rattle.trace_terms.specs.View.{view}
-use Rattle.script_lines.specs.Spellings.{texts}
-use Rattle.script_lines.proofs.Keywords.{found_at}
-use Rattle.std.proofs.Common.{ℕ}
-use Rattle.script_lines.specs.Spellings.{Three, First}
+use Rattle.script_lines.specs.Spellings.{texts, Three, First}
 use Rattle.script_lines.specs.Table.{IsAtom, IsArity, IsTerm}
-use Rattle.script_lines.proofs.Words.{found_as, none_found_as, first_not_others}
+use Rattle.script_lines.proofs.Words.{first_not, first_not_others, missed}
 use Rattle.script_lines.proofs.event.exception_from.Goals as goal
+
+pub returns-in_err-mod_name : goal.returns-in_err-mod_name
+returns-in_err-mod_name c =
+    let p = err_from_is_err_and c.from_residual.result c.from_residual.ensures.1 in
+    rw (p.1, p.2) (missed _ _ c.in_err-mod_name.field-0.0 (λ none x h. first_not IsAtom (λ ws (_ : ℕ). First IsAtom (λ vs (_ : ℕ). Three IsArity IsAtom IsTerm vs h.3 h.2 h.4) ws h.1 0) (texts c.args.words.now) _ _ c.in-Some.ensures none h.0 0 h.5) c.in_err-mod_name.ensures)
+
+pub returns-in_err-fun_name : goal.returns-in_err-fun_name
+returns-in_err-fun_name c =
+    let p = err_from_is_err_and c.from_residual-in_err-fun_name.result c.from_residual-in_err-fun_name.ensures.1 in
+    rw (p.1, p.2) (missed _ _ c.in_err-fun_name.field-0.0 (λ none x h. first_not_others IsAtom (λ ws (_ : ℕ). First IsAtom (λ vs (_ : ℕ). Three IsArity IsAtom IsTerm vs h.3 h.2 h.4) ws h.1 0) (texts c.args.words.now) _ _ c.in-Some.ensures (λ _ s. first_not IsAtom (λ vs (_ : ℕ). Three IsArity IsAtom IsTerm vs h.3 h.2 h.4) (texts c.in-Some.behind.now) _ _ c.in-Some-first.ensures none h.1 0 s) h.0 0 h.5) c.in_err-fun_name.ensures)
+
+pub returns-in_err-arity : goal.returns-in_err-arity
+returns-in_err-arity c =
+    let p = err_from_is_err_and c.from_residual-in_err-arity.result c.from_residual-in_err-arity.ensures.1 in
+    rw (p.1, p.2) (missed _ _ c.in_err-arity.field-0.0 (λ none x h. first_not_others IsAtom (λ ws (_ : ℕ). First IsAtom (λ vs (_ : ℕ). Three IsArity IsAtom IsTerm vs h.3 h.2 h.4) ws h.1 0) (texts c.args.words.now) _ _ c.in-Some.ensures (λ _ s. first_not_others IsAtom (λ vs (_ : ℕ). Three IsArity IsAtom IsTerm vs h.3 h.2 h.4) (texts c.in-Some.behind.now) _ _ c.in-Some-first.ensures (λ _ t. none (h.3, h.2, h.4) t) h.1 0 s) h.0 0 h.5) c.in_err-arity.ensures)
 
 pub returns : goal.returns
 returns c = (
-  c.in-Some-2.mod_name,
-  c.in-Some-3.fun_name,
-  c.in-Some-4.kind,
-  c.in-Some-4.arity,
-  view c.in-Some-4.value,
+  c.in_ok-mod_name.mod_name,
+  c.in_ok-fun_name.fun_name,
+  c.in_ok-arity.kind,
+  c.in_ok-arity.arity,
+  view c.in_ok-arity.value,
   record {
     word = c.in-Some.mod_name.now;
     others = texts c.in-Some.behind.now;
     are = c.in-Some.ensures;
-    spells = found_at _ _ _ c.in-Some-2.is c.in_ok-mod_name.ensures;
+    spells = c.in_ok-mod_name.ensures;
     spells_others = record {
       word = c.in-Some-first.fun_name.now;
       others = texts c.in-Some-first.others.now;
       are = c.in-Some-first.ensures;
-      spells = found_at _ _ _ c.in-Some-3.is c.in_ok-fun_name.ensures;
-      spells_others = found_as _ _ _ _ c.in-Some-4.is c.in_ok-arity.ensures;
+      spells = c.in_ok-fun_name.ensures;
+      spells_others = c.in_ok-arity.ensures;
     };
   },
   refl,
 )
-
-pub returns-in_default-4 : goal.returns-in_default-4
-returns-in_default-4 c x h =
-    first_not_others IsAtom (λ ws (_ : ℕ). First IsAtom (λ vs (_ : ℕ). Three IsArity IsAtom IsTerm vs h.3 h.2 h.4) ws h.1 0) (texts c.args.words.now) _ _ c.in-Some.ensures
-    (λ _ s. first_not_others IsAtom (λ vs (_ : ℕ). Three IsArity IsAtom IsTerm vs h.3 h.2 h.4) (texts c.in-Some.behind.now) _ _ c.in-Some-first.ensures
-    (λ _ t. none_found_as _ _ _ c.in_default-4.is c.in_ok-arity.ensures (h.3, h.2, h.4) t) h.1 0 s)
-    h.0 0 h.5

@@ -1,8 +1,10 @@
-use Rattle.trace_terms.specs.View.{view}
+use Rattle.std.proofs.lemmas.Result.{err_from_is_err_and}
 use Rattle.script_lines.specs.Spellings.{texts}
 use Rattle.script_lines.specs.Table.{IsTerm}
-use Rattle.script_lines.proofs.Words.{sole_not, none_found_as}
+use Rattle.script_lines.proofs.Words.{sole_not, missed}
 use Rattle.script_lines.proofs.event.receive.Goals as goal
 
-pub returns-in_default-2 : goal.returns-in_default-2
-returns-in_default-2 c x h = sole_not IsTerm (texts c.args.words.now) _ c.in-Some.ensures (none_found_as view (IsTerm c.in-Some.message.now) _ c.in_default-2.is c.in_ok-message.ensures) h.0 h.1
+pub returns-in_err-message : goal.returns-in_err-message
+returns-in_err-message c =
+    let p = err_from_is_err_and c.from_residual.result c.from_residual.ensures.1 in
+    rw (p.1, p.2) (missed _ _ c.in_err-message.field-0.0 (λ none x h. sole_not IsTerm (texts c.args.words.now) _ c.in-Some.ensures none h.0 h.1) c.in_err-message.ensures)
