@@ -1,9 +1,10 @@
 //! Records traces as `dbg` of Erlang does, and lists what a crash has left of them.
 //!
 //! The program hands each request of its command line to the crate that does it, and ends with an exit status. `serve` does what
-//! a request asks (`IsServed`): with the files of a trace (`ServesFiles`, `ListsFiles`, `FollowsFiles`), with a stream of entries
-//! as a node writes it (`ListsStream`), or with a script over a store in memory (`IsRun`). `run` does so for what the words ask,
-//! or tells that they are no command line (`Answers`). The exit status of `serve_words` is that of what was done, or of such
+//! a request asks (`IsServed`), of the processes that had the names in it (`IsPrepared`): with the files of a trace (`ServesFiles`,
+//! `ListsFiles`, `FollowsFiles`), a stream in their place (`ServesInput`) or one that is imported (`Imports`), with a stream of
+//! entries as a node writes it (`ListsStream`), or with a script over a store in memory (`IsRun`). `run` does so for what the words
+//! ask, or tells that they are no command line (`Answers`). The exit status of `serve_words` is that of what was done, or of such
 //! words, or 1 where there was no memory to ask (`Ends`). These contracts speak of some files, input and words: that they are the
 //! program's own is to be read in the code. Which words ask for what has no contract (`asked_for`), nor has `main`, which takes
 //! the system's words, input and output. docs/PROOFS.md has the way from each command to its clauses.
@@ -12,12 +13,15 @@
 ghost use Rattle.std.specs.Prelude.{◌≡◌, Result};
 ghost use Rattle.std.specs.Process.{exit_status};
 ghost use Rattle.stores.specs.Events.{World};
-ghost use Rattle.dbgrec.specs.Serving.{IsServed};
+ghost use Rattle.dbgrec.specs.Serving.{Imports, ServesAsked, IsDone, IsServed};
 ghost use Rattle.dbgrec.specs.Statuses.{EndsSo, Answers, Ends};
 
-use command_line::{Misuse, Request, asked_for};
+use command_line::{Misuse, Request, Rules, Shown, TraceRequest, Wanted, asked_for};
 use commands::{StreamListing, follow_files, list_files, serve_files};
 use faults::{Complaint, Reasons, code_of, correct, no_memory};
+use prepared_requests::{
+    begin_import, reads_input, serve_input, table_asked, tell_salvage, with_names,
+};
 use shown_listings::{Inlet, Outlet, Output, show};
 use simulator::serve_sim;
 use std::cell::Cell;
@@ -26,8 +30,51 @@ use std::process::ExitCode;
 use std::sync::Wait;
 use std::{env, io};
 
-/// Does what is asked for.
-fn serve<R: Wait, I: Read + Drop, W: Output>(
+/// Records an entry stream, from where entries begin in it.
+fn import<R: Wait, I: Read + Drop, W: Output>(
+    rt: &HostRuntime,
+    waiter: &R,
+    wanted: Wanted<'_>,
+    rules: Rules,
+    shown: Shown,
+    input: I,
+    output: &mut W,
+) -> Result<(), Complaint>
+    ghost world: { World }
+    ensures { Imports world wanted.entry rules shown (I.remaining input) (W.contents output.old)
+        (W.contents output.new) result }
+{
+    let (rules, input) = begin_import(rt, rules, input)?;
+    let request = TraceRequest::Import { wanted, rules };
+    serve_files(rt, waiter, request, shown, input, output).0
+}
+
+/// Does what is asked of a trace.
+fn serve_asked<R: Wait, I: Read + Drop, W: Output>(
+    rt: &HostRuntime,
+    waiter: &R,
+    request: TraceRequest<'_>,
+    shown: Shown,
+    input: I,
+    output: &mut W,
+) -> Result<(), Complaint>
+    ghost world: { World }
+    ensures { ServesAsked world request.entry shown (I.remaining input) (W.contents output.old)
+        (W.contents output.new) result }
+{
+    if reads_input(&request) {
+        return serve_input(rt, waiter, request, shown, input, output);
+    }
+    match request {
+        TraceRequest::Import { wanted, rules } => {
+            import(rt, waiter, wanted, rules, shown, input, output)
+        }
+        request => serve_files(rt, waiter, request, shown, input, output).0,
+    }
+}
+
+/// Does what is asked for, as it is.
+fn serve_prepared<R: Wait, I: Read + Drop, W: Output>(
     rt: &HostRuntime,
     waiter: &R,
     request: Request<'_>,
@@ -35,7 +82,7 @@ fn serve<R: Wait, I: Read + Drop, W: Output>(
     output: &mut W,
 ) -> Result<(), Complaint>
     ghost world: { World }
-    ensures { IsServed world request.entry (I.remaining input) (W.contents output.old)
+    ensures { IsDone world request.entry (I.remaining input) (W.contents output.old)
         (W.contents output.new) result }
 {
     match request {
@@ -58,12 +105,28 @@ fn serve<R: Wait, I: Read + Drop, W: Output>(
             show(rt, waiter, listing, shown, input, output).0
         }
         Request::OfTrace { request, shown } => {
-            serve_files(rt, waiter, request, shown, input, output).0
+            serve_asked(rt, waiter, request, shown, input, output)
         }
         Request::Listing { request, shown } => {
             list_files(rt, waiter, request, shown, input, output).0
         }
     }
+}
+
+/// Does what is asked for, of the processes that have the names in it.
+fn serve<R: Wait, I: Read + Drop, W: Output>(
+    rt: &HostRuntime,
+    waiter: &R,
+    request: Request<'_>,
+    input: I,
+    output: &mut W,
+) -> Result<(), Complaint>
+    ghost world: { World }
+    ensures { IsServed world request.entry (I.remaining input) (W.contents output.old)
+        (W.contents output.new) result }
+{
+    let request = with_names(rt, request)?;
+    serve_prepared(rt, waiter, request, input, output)
 }
 
 fn words(rt: &HostRuntime) -> io::Result<Vec<String>> {
@@ -81,12 +144,14 @@ fn answer<R: Wait>(
     ensures { EndsSo world request.entry (exit_status result) }
 {
     let unread = Cell::new(None);
+    let table = table_asked(&request);
     let done = serve(rt, waiter, request, Inlet::over(rt, &unread), output);
     let reasons = Reasons {
         unread: unread.get(),
         unwritten: output.reason(),
     };
     let code = code_of(rt, &done, reasons);
+    tell_salvage(rt, table, &done);
     drop(done);
     code
 }

@@ -1,0 +1,6 @@
+pub mod AheadBegins
+pub mod AheadSights
+pub mod AheadStays
+pub mod NamesLemmas
+pub mod NamesLooking
+pub mod Recorded

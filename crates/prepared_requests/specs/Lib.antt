@@ -1,0 +1,4 @@
+pub mod Ahead
+pub mod Input
+pub mod Names
+pub mod NamesLooked
