@@ -5,7 +5,7 @@ _dbgrec() {
     local commands="import list show export info top wipe stream record sim"
     local readers="--kind --suffix --count" new="--size --time --after-failure"
     local chosen="--from --to --only --pid --mfa --not --not-pid --not-mfa" laid="--relative --delta --utc --since --until --grep --last --color --full --width --longest-text"
-    local kinds="call return exception send send_lost receive other opaque drop seq_trace return_to spawn spawned exit" kind told=
+    local kinds="call return exception send send_lost receive other opaque drop part seq_trace return_to spawn spawned exit" kind told=
     kinds+=" register unregister link unlink getting_linked getting_unlinked in in_exiting out out_exiting out_exited"
     kinds+=" gc_minor_start gc_minor_end gc_major_start gc_major_end gc_max_heap_size open closed"
 

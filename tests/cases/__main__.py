@@ -21,6 +21,7 @@ import crashes
 import documents
 import emitting
 import faults
+import first_look
 import folding
 import following
 import foreign
@@ -57,7 +58,7 @@ import wording
 from cases import Skipped
 from program import Program
 
-GROUPS = (rows, scripts, emitting, readings, listing, pretty, long_messages, fragments, forms, choosing, json_listing, recording, importing, info, top, folding, perfetto, foreign, absent, keeping, telling, crashes, images, machine, faults, locking, replacing, live, following, showing, windows, salvage, large, wording, documents, installing, memory, libraries, reaching)
+GROUPS = (rows, scripts, emitting, readings, listing, pretty, long_messages, fragments, forms, choosing, json_listing, recording, importing, info, top, folding, perfetto, foreign, absent, keeping, telling, crashes, images, machine, faults, locking, replacing, live, following, showing, windows, salvage, large, wording, documents, installing, memory, libraries, reaching, first_look)
 
 
 def words():

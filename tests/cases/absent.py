@@ -91,6 +91,31 @@ def a_wrap_that_is_asked_for_as_one_file_is_named(program):
 
 
 @case
+def a_file_that_a_wrap_has_cleared_is_told_as_one_of_the_wrap(program):
+    for base, suffix in (("w", ""), ("w1", ""), ("w", ".trc1"), ("my 7", "")):
+        words = ("--suffix", suffix) if suffix else ()
+        program.good("import", base, *SMALL, *words, "--keep-open", stdin=drop(1) * 9)
+        before = stored(program.folder)
+        # the next file is cleared when a run begins
+        closed = [name for name, data in before.items() if data == b"\0"]
+        same(len(closed), 1)
+        name, asked = (f'"{closed[0]}"', f'"{base}"') if " " in base else (closed[0], base)
+        for command in ("list", "show", "export", "info", "top", "import", "record"):
+            shown = "list" if command == "show" else command
+            says = f"dbgrec: {name}: no such trace\n{name} is a file of the wrap {asked}: dbgrec {shown} {asked}" + (f" --suffix {suffix}" if suffix else "")
+            program.refused(command, closed[0], stdin=drop(1) if command == "import" else b"", says=says)
+        same(stored(program.folder), before)
+        for each in before:
+            (program.folder / each).unlink()
+    # a closed file that no wrap has is an empty trace
+    (program.folder / "w1").write_bytes(b"\0")
+    holds_nothing(program, "w1")
+    program.good("import", "w", *WRAP, "--count", "1", stdin=drop(1))
+    (program.folder / "w2").write_bytes(b"\0")
+    holds_nothing(program, "w2")
+
+
+@case
 def a_file_that_is_asked_for_as_a_wrap_is_named(program):
     (program.folder / "a").write_bytes(STORED)
     is_absent(program, "dbgrec: a: no such trace\na is one file: try without --kind", "a", *WRAP)

@@ -118,13 +118,16 @@ def chosen(listing, entries, asked):
 
 
 def exported(listing, entries, asked):
-    """The entries of an export that are asked for, by a whole readable listing; each part is a lost message."""
+    """The entries of an export that are asked for, by a whole readable listing; a message that isn't whole is a lost one, where
+    its first part stands."""
     found = []
     for line in listing.decode().splitlines():
         number, _, rest = line.partition(" ")
         if not number.isdigit():
             continue
         shown = rest.split(" ")[0]
+        if shown == "part" and rest.split(" ")[1] != "1":
+            continue
         entry = drop(1) if shown == "part" else entries[int(number)]
         told = Told() if shown in ("drop", "opaque", "part") else told_by(entry)
         if asked.lets(int(number), shown, told):
@@ -173,7 +176,7 @@ class Listed:
             for words, data, _ in self.listings(style):
                 listing, entries = self.whole_for(words, asked)
                 expected = chosen(listing, entries, asked)
-                same(self.program.good(*words, *options, stdin=data), expected)
+                same(self.program.chosen(*words, *options, stdin=data), expected)
                 lines += expected.count(b"\n")
         for trace in ("file", "wrap"):
             self.exports(trace, asked, *options)
@@ -213,9 +216,9 @@ def the_numbers_of_the_first_and_the_last_entry_are_chosen(program):
 def a_listing_ends_behind_the_last_entry_that_is_asked_for(program):
     data, place = damaged(drop(1), drop(2), drop(3))
     (program.folder / "t").write_bytes(data)
-    same(program.good("list", "t", "--to", "1"), b"0 drop 1\n1 drop 2\n")
-    same(program.good("list", "t", "--to", "1", "--from", "1", "--json"), b'{"n":0,"kind":"drop","count":1}\n{"n":1,"kind":"drop","count":2}\n')
-    same(program.good("list", "t", "--to", "2"), b"0 drop 1\n1 drop 2\n2 drop 3\n")
+    same(program.chosen("list", "t", "--to", "1"), b"0 drop 1\n1 drop 2\n")
+    same(program.chosen("list", "t", "--to", "1", "--from", "1", "--json"), b'{"n":0,"kind":"drop","count":1}\n{"n":1,"kind":"drop","count":2}\n')
+    same(program.chosen("list", "t", "--to", "2"), b"0 drop 1\n1 drop 2\n2 drop 3\n")
     outcome = program.run("list", "t", "--to", "3")
     same((outcome.status, outcome.output), (1, b"0 drop 1\n1 drop 2\n2 drop 3\n"))
     salvaged = program.run("list", "t", "--salvage", "--to", "1")
@@ -243,6 +246,8 @@ def each_kind_is_chosen_by_its_word(program):
         listed.shows(Asked(kinds=(word,)), "--only", word)
     listed.shows(Asked(kinds=("send", "receive", "call")), "--only", "send,receive,call")
     listed.shows(Asked(kinds=("spawn", "exit")), "--only=spawn,exit")
+    listed.shows(Asked(kinds=("spawn", "exit", "call")), "--only", "spawn", "--only=exit,call")
+    listed.shows(Asked(no_kinds=("spawn", "exit", "call")), "--not", "spawn", "--not=exit,call")
 
 
 @case
@@ -386,13 +391,13 @@ def what_is_shown_and_what_is_not_are_told_together(program):
         listed.shows(asked, *options)
         for words in (("list", "-p", "file"), ("list", "-p", "wrap")):
             expected = chosen(*listed.whole[words], asked)
-            same(program.good("list", "-f", words[2], *options), expected)
+            same(program.chosen("list", "-f", words[2], *options), expected)
 
 
 @case
 def what_cannot_be_read_is_passed_over_as_an_opaque_message(program):
     call = b"\x83\x68\x04" + short_atom("trace") + b"\x58" + short_atom("n@h") + bytes(12) + short_atom("call") + b"\x68\x03" + short_atom("m") + short_atom("f") + b"\x61\x02"
-    program.good("import", "t", stdin=message(call) + message(b"x") + drop(4))
+    program.good("import", "t", stdin=message(call) + message(b"\x83") + drop(4))
     told = f"0 call {text(AnyReader(call).whole())}\n".encode()
     opaque, lost, end = b"1 opaque 1\n", b"2 drop 4\n", b"end_of_trace\n"
     for options, shown in (
@@ -407,7 +412,7 @@ def what_cannot_be_read_is_passed_over_as_an_opaque_message(program):
         (("--only", "opaque", "--not", "call"), opaque + lost),
         (("--pid", "n@h.1.0.0", "--pid", "n@h.0.0.0", "--not", "opaque"), told + lost),
     ):
-        same(program.good("list", "t", *options), shown + end)
+        same(program.chosen("list", "t", *options), shown + end)
 
 
 @case
@@ -427,7 +432,7 @@ def drop_records_are_always_shown(program):
 @case
 def the_line_before_a_wraps_window_and_the_last_line_are_as_before(program):
     listed = Listed(program, stream_of("node"))
-    lines = program.good("list", "wrap", "--from", str(2**40)).decode().splitlines()
+    lines = program.chosen("list", "wrap", "--from", str(2**40)).decode().splitlines()
     assert lines[0].startswith("before entries "), lines
     same(lines[-1], "end_of_trace")
     same(listed.whole["list", "wrap"][0].decode().splitlines()[0], lines[0])
@@ -505,7 +510,107 @@ def what_no_listing_can_show_is_refused(program):
                 misused(program, *command, option, function, says=f"'{function}' for '--mfa or --not-mfa <M[:F[/A]]>'")
             misused(program, *command, option, "m", option, "m:", says="'m:'")
         for option in ("--pid", "--not-pid"):
-            for process in ("", "<>", "0.80.0", "<0.80.0>", "shell", ".1.0.0", "0.1.0.0", "a@b.1.0.x", "a@my-host.1.0.0", "a@b.1.0.0,a@b.2.0.0"):
+            for process in ("", "<>", "80.0.0", "Shell", "my-shell", ".1.0.0", "0.1.0.0", "a@b.1.0.x", "<a@b.1.0.0", "@b.1.0.0", "a@b.1.0.0,a@b.2.0.0"):
                 misused(program, *command, option, process, says=f"'{process}' for '--pid or --not-pid <PID>': a process as a listing shows it")
-            misused(program, *command, option, "a@b.1.0.0", option, "<0.80.0>", says="'<0.80.0>'")
+            misused(program, *command, option, "<0.80.0>", option, "a@my-host.1.0", option, "80", says="'80'")
     misused(program, "info", "t", "--from", "1", says="--from")
+    # a stream is read once, so that no name is looked up in it
+    for command in (("stream",), ("list", "-"), ("show", "-"), ("export", "-"), ("top", "-")):
+        for option in ("--pid", "--not-pid"):
+            for name in ("shell", "'my shell'"):
+                misused(program, *command, option, name, says=f"'{name}' for '--pid or --not-pid <PID>'")
+
+
+# ---- registered names
+
+
+def pid_of(number):
+    return f"<n@h.{number}.0.1>"
+
+
+def told_of(number, word, *members):
+    """The entry of a trace message of a process of the node n@h."""
+    parts = [short_atom("trace"), b"\x58" + short_atom("n@h") + struct.pack(">III", number, 0, 1), short_atom(word), *members]
+    return message(b"\x83\x68" + bytes([len(parts)]) + b"".join(parts))
+
+
+def at_work(number):
+    return told_of(number, "receive", b"\x61\x07")
+
+
+WORKER, NAMED = short_atom("worker"), short_atom("my name")
+
+# worker is a name of two processes, one after the other; the fourth has none
+REGISTERED = [
+    at_work(1),
+    told_of(1, "register", WORKER),
+    told_of(2, "register", NAMED),
+    told_of(2, "send", b"\x61\x07", WORKER),
+    at_work(1),
+    drop(2),
+    told_of(1, "unregister", WORKER),
+    told_of(3, "register", WORKER),
+    at_work(3),
+    at_work(4),
+    told_of(4, "send", b"\x61\x07", WORKER),
+    at_work(2),
+]
+
+NO_NAME = "dbgrec: t: no register message names {}: trace with the flag procs to have those\n"
+
+
+@case
+def a_registered_name_is_each_process_that_had_it(program):
+    for trace, kind in (("t", ()), ("w", WRAP)):
+        program.good("import", trace, *kind, stdin=b"".join(REGISTERED))
+        listing = program.good("list", "-p", trace)
+        for options, only, other in (
+            (("--pid", "worker"), (1, 3), ()),
+            (("--pid", "'my name'"), (2,), ()),
+            (("--pid", "worker", "--pid=worker"), (1, 3), ()),
+            (("--pid", "worker", "--pid", "'my name'"), (1, 2, 3), ()),
+            (("--pid", "worker", "--pid", "<0.4.0>"), (1, 3, 4), ()),
+            (("--not-pid", "worker"), (), (1, 3)),
+            (("--pid", "n@h.2.0", "--pid", "worker", "--not-pid", "'my name'"), (1, 2, 3), (2,)),
+        ):
+            asked = Asked(processes=tuple(map(pid_of, only)) or None, no_processes=tuple(map(pid_of, other)))
+            same(program.chosen("list", trace, *options), chosen(listing, REGISTERED, asked))
+            same(program.chosen("list", "-f", trace, *options), chosen(listing, REGISTERED, asked))
+            found = exported(listing, REGISTERED, asked)
+            same(program.good("export", trace, *options), b"".join(found))
+            # all else is as with the numbers of the processes
+            numbers = [*each_after("--pid", map(pid_of, only)), *each_after("--not-pid", map(pid_of, other))]
+            for words in (("show", trace), ("show", "--last", "2", trace), ("list", "--json", trace), ("top", trace), ("top", trace, "--json"), ("top", trace, "--by", "process"), ("export", trace, "--as", "perfetto")):
+                same(program.run(*words, *options), program.run(*words, *numbers))
+
+
+@case
+def a_name_that_no_message_tells_is_told_and_means_nothing(program):
+    program.good("import", "t", stdin=b"".join(REGISTERED))
+    listing = program.good("list", "-p", "t")
+    for command in ("list", "export"):
+        outcome = program.run(command, "t", "--not-pid", "nobody", "--not-pid", "worker", "--not-pid", "'no one'")
+        same((outcome.status, outcome.errors.decode()), (0, NO_NAME.format("nobody") + NO_NAME.format('"\'no one\'"')))
+    outcome = program.run("list", "t", "--pid", "nobody", "--pid", "'my name'")
+    same((outcome.status, outcome.output, outcome.errors.decode()), (0, chosen(listing, REGISTERED, Asked(processes=(pid_of(2),))), NO_NAME.format("nobody")))
+    outcome = program.run("list", "t", "--pid", "nobody")
+    same((outcome.status, outcome.output), (0, b"5 drop 2\nend_of_trace\n"))
+    told = "dbgrec: t: no message is shown: it has entries 0 to 11\nthere is no message of the process nobody\n"
+    same(outcome.errors.decode(), NO_NAME.format("nobody") + told)
+
+
+@case
+def names_are_not_looked_up_in_what_is_no_trace(program):
+    data, _ = damaged(*REGISTERED)
+    (program.folder / "t").write_bytes(data)
+    (program.folder / "text").write_bytes(b"no trace")
+    for words in (("list", "t"), ("list", "none"), ("list", "text"), ("top", "t"), ("export", "none")):
+        same(program.run(*words, "--pid", "worker"), program.run(*words, "--pid", "a@b.1.0.0"))
+    same(program.run("list", "t", "--not-pid", "worker"), program.run("list", "t", "-p"))
+
+
+@case
+def the_server_that_is_registered_as_jobs_is_found(program):
+    program.good("import", "t", stdin=stream_of("backlog"))
+    for words in (("list", "t"), ("top", "t", "--json")):
+        same(program.good(*words, "--pid", "jobs"), program.good(*words, "--pid", "<nonode@nohost.80.0.0>"))

@@ -36,7 +36,7 @@ def stream(chance, most):
         if number % 97 == 96:
             found.append(drop(number))
         elif number % 1_009 == 1_008:
-            found.append(message(number.to_bytes(8, "big") * 8_192))
+            found.append(message(b"\x83" + number.to_bytes(7, "big") + number.to_bytes(8, "big") * 8_191))
         else:
             found.append(message(b"\x83m" + size.to_bytes(4, "big") + number.to_bytes(8, "big") + bytes(size - 8)))
         size_of_all += len(found[-1])

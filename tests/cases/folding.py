@@ -3,12 +3,13 @@
 import subprocess
 
 from cases import group, stored
-from entries import drop
+from choosing import told_by
+from entries import drop, fragments, kept, message
 from importing import TRACES, stream_of
 from program import PATIENCE, Outcome, same
 from telling import damaged
 from terms import short_atom
-from top import MIXED, MOST_OPEN, call, fails, pid_text, returns, sends, stored_as, told_at, told_rows, top
+from top import MIXED, MOST_OPEN, call, fails, function, pid_text, returns, sends, stored_as, time_of, told_at, told_rows, top
 
 CASES, case = group()
 
@@ -42,22 +43,69 @@ def a_stack_has_the_time_in_which_its_innermost_function_ran(program):
 
 
 @case
+def a_stream_has_the_stacks_of_its_trace(program):
+    stream = b"".join((call(1, "f", 10), call(1, "g", 20), returns(1, "g", 50), returns(1, "f", 100), call(2, "g", 200), returns(2, "g", 205)))
+    whole = [f"{ONE};m:f/2 60", f"{ONE};m:f/2;m:g/2 30", f"{TWO};m:g/2 5"]
+    same(program.good(*FOLDED, "-", stdin=stream).decode().splitlines(), whole)
+    same(program.good(*FOLDED, "-", "--pid", "n@h.2.0.1", stdin=stream).decode().splitlines(), whole[2:])
+    outcome = program.run(*FOLDED, "-", stdin=stream + b"\0")
+    same((outcome.status, outcome.output.decode().splitlines(), outcome.errors), (1, whole, f"dbgrec: refused 3 Truncated at {len(stream)}\n".encode()))
+    same(stored(program.folder), {})
+
+
+@case
 def a_call_is_over_with_the_one_that_it_is_within(program):
     # the end of a tail call isn't told
     same(folded(program, call(1, "f", 0), call(1, "g", 10), returns(1, "f", 40), call(1, "g", 50), returns(1, "g", 57)), [f"{ONE};m:f/2 10", f"{ONE};m:f/2;m:g/2 30", f"{ONE};m:g/2 7"])
     # a process that exits has no more open calls
     exits = told_at(1, "exit", short_atom("normal"), at=30)
-    same(folded(program, call(1, "f", 0), exits, call(1, "g", 50), returns(1, "g", 57)), [f"{ONE};m:f/2 30", f"{ONE};m:g/2 7"])
+    same(folded(program, call(1, "f", 0), exits, call(1, "g", 50), returns(1, "g", 57), returns(2, "f", 60)), [f"{ONE};m:f/2 30", f"{ONE};m:g/2 7"])
+    # one that is back in a function is in none that it called, and back in one that isn't open nothing is known
+    back = [told_at(1, "return_to", function(name, b"\x61\x02"), at=at) for name, at in (("f", 25), ("h", 30))]
+    same(folded(program, call(1, "f", 0), call(1, "g", 10), *back, returns(1, "f", 40), returns(2, "g", 50)), [f"{ONE};m:f/2 25", f"{ONE};m:f/2;m:g/2 15"])
+
+
+@case
+def what_is_lost_ends_all_that_is_open(program):
+    lines = [f"{ONE};m:f/2 4", f"{ONE};m:f/2;m:g/2 3", f"{ONE};m:g/2 5", f"{TWO};m:f/2 0"]
+    for lost in (drop(1), message(b"\x83" + b"x" * 8), fragments(b"x" * 70_000)[0]):
+        # the ends behind it are those of no call
+        behind = (returns(1, "f", 9_000), returns(2, "f", 9_000), call(1, "g", 9_001), returns(1, "g", 9_006))
+        same((lost[:9], folded(program, call(1, "f", 0), call(2, "f", 1), call(1, "g", 4), returns(1, "g", 7), lost, *behind)), (lost[:9], lines))
+    program.good("import", "t", stdin=stream_of("drop_between"))
+    same(program.good(*FOLDED, "t").decode().splitlines(), ["<nonode@nohost.9.0.0>;m:f/1 1100"])
+
+
+@case
+def a_call_whose_end_is_never_told_opens_nothing(program):
+    same(folded(program, *[call(1, "f"), call(1, "g")] * 300, call(2, "f")), [f"{ONE};m:f/2 300", f"{ONE};m:g/2 300", f"{TWO};m:f/2 1"])
+    # it is told behind the open ones, and what is called after it isn't within it
+    same(folded(program, call(1, "f", 0), call(1, "h", 5), call(1, "g", 10), returns(1, "g", 12), returns(1, "f", 20)), [f"{ONE};m:f/2 18", f"{ONE};m:f/2;m:g/2 2", f"{ONE};m:f/2;m:h/2 0"])
+    # of a function that ends elsewhere, or later, each call is open
+    same(folded(program, call(1, "f"), call(1, "g"), fails(2, "f")), [f"{ONE};m:f/2 1", f"{ONE};m:f/2;m:g/2 1"])
+    # of all functions there one tells its ends, each behind its call
+    entries = kept(stream_of("calls_without_returns"))
+    lines = dict.fromkeys(("{};{}:{}/{}".format(one.process, *one.function) for one in map(told_by, entries) if one.kind == "call"), 0)
+    for before, entry in zip(entries, entries[1:]):
+        if told_by(entry).kind == "return":
+            lines[f"{told_by(entry).process};lists:seq/2"] += time_of(entry) - time_of(before)
+    program.good("import", "t", stdin=stream_of("calls_without_returns"))
+    same(program.good(*FOLDED, "t").decode().splitlines(), sorted(f"{stack} {time // 1_000}" for stack, time in lines.items()))
+
+
+@case
+def a_semicolon_of_a_name_parts_no_names(program):
+    same(folded(program, call(1, "a; b"), call(1, "it's"), returns(1, "a; b")), [f"{ONE};m:'a: b'/2 1", f"{ONE};m:'a: b'/2;m:'it\\'s'/2 1"])
 
 
 @case
 def of_a_deep_stack_the_innermost_functions_are_shown(program):
-    deep = [call(1, "f")] * 300
+    deep, end = [call(1, "f")] * 300, returns(1, "f")
     lines = {ONE + ";m:f/2" * depth: 1 for depth in range(1, SHOWN)} | {ONE + ";m:f/2" * SHOWN: 300 - SHOWN + 1}
-    same(folded(program, *deep), sorted(f"{stack} {calls}" for stack, calls in lines.items()))
+    same(folded(program, *deep, end), sorted(f"{stack} {calls}" for stack, calls in lines.items()))
     # a loop that never returns hides no call, and the end of one takes no other off
     inner = f"{ONE}{';m:f/2' * (SHOWN - 1)};m:g/2"
-    same(folded(program, *deep, *[call(1, "g"), returns(1, "g")] * 3), sorted(f"{stack} {calls}" for stack, calls in (lines | {inner: 3}).items()))
+    same(folded(program, *deep, *[call(1, "g"), returns(1, "g")] * 3, end), sorted(f"{stack} {calls}" for stack, calls in (lines | {inner: 3}).items()))
     # each has the time of its own
     timed = [call(1, "f", at) for at in range(300)] + [returns(1, "f", 300 + at) for at in range(300)]
     same(sum(int(line.rsplit(" ", 1)[1]) for line in folded(program, *timed)), 599)
@@ -66,10 +114,10 @@ def of_a_deep_stack_the_innermost_functions_are_shown(program):
 @case
 def of_a_thousand_open_calls_the_outermost_is_forgotten(program):
     # the end of g is that of no open call, and h is called within those of f
-    many = [call(1, "g"), *[call(1, "f")] * MOST_OPEN, returns(1, "g"), call(1, "h")]
+    many = [call(1, "g"), *[call(1, "f")] * MOST_OPEN, returns(1, "g"), call(1, "h"), returns(2, "f")]
     assert f"{ONE}{';m:f/2' * (SHOWN - 1)};m:h/2 1" in folded(program, *many)
     # it was still there before
-    assert f"{ONE};m:h/2 1" in folded(program, *many[:MOST_OPEN], *many[-2:])
+    assert f"{ONE};m:h/2 1" in folded(program, *many[:MOST_OPEN], *many[-3:])
 
 
 @case

@@ -6,7 +6,7 @@ import subprocess
 import time
 
 from cases import group
-from entries import EXAMPLE, drop, example_line, message
+from entries import EXAMPLE, drop, example_line, message, opaque
 from live import SIZE, WRAP, Feeder
 from program import PATIENCE, Outcome, same
 from segments import FILE_HEADER, STORED, segment
@@ -37,7 +37,7 @@ def what_is_added_is_listed_until_the_seal(program):
             same(follower.line(), example_line(0))
             importer.write(drop(3))
             same(follower.line(), "1 drop 3")
-            importer.write(message(b"x") * 2)
+            importer.write(message(b"\x83") * 2)
             same([follower.line(), follower.line()], ["2 opaque 1", "3 opaque 1"])
             same(importer.end().status, 0)
             same(end_of(follower), Outcome(0, END, b""))
@@ -61,7 +61,7 @@ def objects_and_chosen_lines_of_what_is_added_come_at_once(program):
             first = told.line()
             same(both.line(), first)
             same(end_of(both), Outcome(0, b"", b""))
-            importer.write(message(b"x"))
+            importer.write(message(b"\x83"))
             second = told.line()
             same(chosen.line(), "1 opaque 1")
             importer.write(drop(3))
@@ -96,7 +96,7 @@ def a_follower_to_whom_nothing_comes_reads_seldom_and_then_lists_what_comes(prog
 
 @case
 def a_sealed_trace_is_listed(program):
-    entries = message(EXAMPLE) + drop(3) + message(b"x")
+    entries = message(EXAMPLE) + drop(3) + message(b"\x83")
     program.good("import", "t", stdin=entries)
     program.good("import", "w", *SMALL, stdin=entries * 4)
     for words in (("t",), ("-p", "t"), ("w",), ("w", "--kind", "wrap"), ("-p", "w")):
@@ -183,7 +183,7 @@ def bytes_read_by(follower):
 @case
 def what_is_read_at_a_turn_is_what_was_added(program):
     words = ("--kind", "wrap", "--count", "4", "--size", "200000")
-    entry = message(b"x" * 1_000)
+    entry = opaque(1_000)
     with program.start("import", "w", *words) as importer:
         same(importer.opens(), "created")
         importer.write(entry * 700)
@@ -277,7 +277,7 @@ def a_recorder_that_is_killed_is_waited_for(program):
         with program.start("list", "-f", "t") as follower:
             same(follower.line(), example_line(0))
             importer.kill()
-            program.good("import", "t", stdin=message(b"x"))
+            program.good("import", "t", stdin=message(b"\x83"))
             same(end_of(follower), Outcome(0, b"1 opaque 1\n" + END, b""))
 
 

@@ -8,9 +8,9 @@ import struct
 import time
 
 from cases import STREAMS, group, stored
-from choosing import Asked, Listed, misused, put_together
+from choosing import Asked, Listed, put_together
 from crashes import resumed, unread
-from entries import EXAMPLE, HEAD, LOAD, LONGEST, drop, example_line, exported, fragments, goes_on, joined, kept, listing, listing_of, lost_in, message, split, window
+from entries import EXAMPLE, HEAD, LOAD, LONGEST, drop, example_line, exported, fragments, goes_on, joined, kept, listing, listing_of, lost_in, message, opaque, split, window
 from info import counted, words_of
 from json_listing import check_all, objects_of
 from long_messages import LIMITED, MEGABYTE, PID, atom, binary, integer, of_size, string
@@ -84,7 +84,8 @@ def an_entry_of_a_message_that_is_not_whole_is_told_as_its_part(program):
     (program.folder / "t").write_bytes(segment(FILE_HEADER, parts[1] + message(EXAMPLE), parts[3] + parts[0]))
     lines = ["0 part 2 of 4 of a message of 200000 bytes", example_line(1), "2 part 4 of 4 of a message of 200000 bytes", "3 part 1 of 4 of a message of 200000 bytes"]
     same(program.good("list", "-p", "t"), listing(0, 0, lines))
-    same(program.good("export", "t"), drop(1) + message(EXAMPLE) + drop(1) + drop(1))
+    # only one message has its first part there
+    same(program.good("export", "t"), message(EXAMPLE) + drop(1))
     objects = program.good("list", "--json", "t").decode().splitlines()
     same(objects[0], '{"n":0,"kind":"part","part":2,"of":4,"size":200000}')
     same(objects[3], '{"n":3,"kind":"part","part":1,"of":4,"size":200000}')
@@ -189,8 +190,14 @@ def choosable(chance):
 
     parts = fragments(term(200_000)[0])
     some = [call("f", 70_000), message(EXAMPLE), call("g", 140_000), drop(3), parts[0], parts[1], message(told_of("receive", of_size(string(9), 90_000)[0][1:]))]
-    some += [parts[3], message(b"x" * 66_000), *(message(b"\x83" + writer.message(0)) for _ in range(5)), call("f", 100_000), drop(2), message(b"x")]
+    some += [parts[3], opaque(66_000), *(message(b"\x83" + writer.message(0)) for _ in range(5)), call("f", 100_000), drop(2), message(b"\x83")]
     return b"".join(some)
+
+
+def words_chosen(program, *options):
+    """The kinds of the lines of a choice, but for drop records."""
+    words = [line.split(" ")[1] for line in program.good("list", "file", *options).decode().splitlines()[:-1]]
+    return [word for word in words if word != "drop"]
 
 
 @case
@@ -204,10 +211,13 @@ def long_messages_are_chosen_by_what_they_tell(program):
     listed.shows(Asked(functions=(("m", "f", 1),)), "--mfa", "m:f/1")
     listed.shows(Asked(functions=(("m", "f", 2),)), "--mfa", "m:f/2")
     listed.shows(Asked(first=2, last=9, kinds=("call",), processes=("<n.7.0.1>",)), "--from", "2", "--to=9", "--only", "call", "--pid", "n.7.0.1")
-    # a part is chosen as an opaque message, and is no kind
-    words = [line.split(" ")[1] for line in program.good("list", "file", "--only", "opaque").decode().splitlines()[:-1]]
-    same([word for word in words if word != "drop"][:4], ["part", "part", "part", "opaque"])
-    misused(program, "list", "file", "--only", "part", says="'part'")
+    # a part is chosen by its own word, and with messages that aren't read
+    same(words_chosen(program, "--only", "opaque"), ["part"] * 3 + ["opaque"] * 2)
+    same(words_chosen(program, "--only", "part"), ["part"] * 3)
+    same(words_chosen(program, "--only", "opaque", "--not", "part"), ["opaque"] * 2)
+    same({"part", "opaque"} & set(words_chosen(program, "--not", "part")), {"opaque"})
+    same({"part", "opaque"} & set(words_chosen(program, "--not", "opaque")), set())
+    same(program.good("export", "file", "--only", "part"), drop(3) + drop(1) + drop(2))
 
 
 @case
@@ -222,7 +232,7 @@ def a_long_message_has_the_number_of_its_first_entry(program):
         listed.shows(Asked(first=first, last=end), "--from", str(first), "--to", str(end))
     # the numbers 0 and 1 are those of one message
     same(program.good("list", "-p", "file", "--to", "1").count(b"\n"), 1)
-    same(program.good("list", "-p", "file", "--from", "1", "--to", "1"), b"")
+    same(program.chosen("list", "-p", "file", "--from", "1", "--to", "1"), b"")
 
 
 @case
@@ -247,7 +257,7 @@ def a_wrap_that_begins_within_a_long_message_has_its_rest_as_parts(program):
             parts = 0
             while [word for _, word, _ in joined(left)][: parts + 1] == ["part"] * (parts + 1):
                 parts += 1
-            same(program.good("export", name)[: 5 * parts], drop(1) * parts)
+            same(program.good("export", name), exported(left[parts:]))
             began_within += parts > 0
     assert began_within > 6, began_within
 
@@ -272,9 +282,9 @@ def damage_within_a_long_message_leaves_its_first_fragments_as_parts(program):
         (program.folder / "t").write_bytes(data[:-1] + b"\1\0\0\xff\xff")
         is_cut(program, entries[:count], "t", len(data) - 1)
         # in a batch of the entries so far one is none
-        data = b"\1" + FILE_HEADER + batch(message(b"x")) + batch(b"".join(entries[:count]) + b"\2") + b"\0"
+        data = b"\1" + FILE_HEADER + batch(message(b"\x83")) + batch(b"".join(entries[:count]) + b"\2") + b"\0"
         (program.folder / "u").write_bytes(data)
-        is_cut(program, [message(b"x"), *entries[:count]], "u", 1 + len(FILE_HEADER) + len(batch(message(b"x"))))
+        is_cut(program, [message(b"\x83"), *entries[:count]], "u", 1 + len(FILE_HEADER) + len(batch(message(b"\x83"))))
     # a line stands for each entry of a long message
     for words in (("list", "-p"), ("list", "--json"), ("list",)):
         outcome = program.run(*words, "u")
@@ -340,6 +350,8 @@ def fragments_that_are_out_of_order_or_lie_are_parts_or_opaque(program):
     for number, entries in enumerate((*out_of_order(), *lying())):
         (program.folder / f"t{number}").write_bytes(segment(FILE_HEADER, *entries))
         check(program, entries, f"t{number}", before=LIMITED)
+        if any(entry[0] == 0 and entry[5:6] != b"\x83" for entry in entries):
+            continue
         # and so they are where a stream has them
         same(program.good("import", f"u{number}", stdin=b"".join(entries)), f"created\nsealed {len(entries)}\n".encode())
         check(program, entries, f"u{number}", before=LIMITED)
@@ -354,10 +366,10 @@ def a_size_that_lies_takes_no_memory(program):
         for longest in ("65531", "16M", "256M"):
             for come in (0, 1, 70_000, MEGABYTE):
                 name = f"t{size}.{longest}.{come}"
-                outcome = program.run("import", name, "--longest", longest, stdin=b"\0" + struct.pack(">I", size) + bytes(come), before=LIMITED)
+                outcome = program.run("import", name, "--longest", longest, stdin=b"\0" + struct.pack(">I", size) + (b"\x83" + bytes(come))[:come], before=LIMITED)
                 same(outcome, Outcome(1, b"created\nkept 0\n", f"dbgrec: refused 3 Truncated at 0\n{goes_on(0, 0)}".encode()))
     # what is passed over takes none at all
-    stream = message(bytes(40 * MEGABYTE)) + message(EXAMPLE)
+    stream = opaque(40 * MEGABYTE) + message(EXAMPLE)
     outcome = program.run("import", "t", stdin=stream, before=LIMITED)
     same(outcome, Outcome(0, b"created\nsealed 2\n", b"dbgrec: 1 message is longer than --longest 16777216: a drop record of 1 stands instead\n"))
 
@@ -398,7 +410,7 @@ def a_file_that_may_not_grow_is_left_with_first_fragments(program):
     same(program.good("import", "t", "--skip", "56", stdin=stream), f"resumed {left}\nsealed {left + len(parts) + 1}\n".encode())
     lines = [example_line(0), *(f"{number} part {number} of {len(parts)} of a message of 400000 bytes" for number in range(1, left)), f"{left} {text}", f"{left + len(parts)} drop 2"]
     same(program.good("list", "-p", "t"), listing(0, 0, lines))
-    same(program.good("export", "t"), message(EXAMPLE) + drop(1) * (left - 1) + message(data) + drop(2))
+    same(program.good("export", "t"), message(EXAMPLE) + drop(1) + message(data) + drop(2))
 
 
 # ---- imports that are killed

@@ -8,7 +8,7 @@ import subprocess
 import time
 
 from cases import STREAMS, Skipped, group, stored
-from entries import EXAMPLE, LONGEST, drop, example_line, exported, goes_on, kept, listing, listing_of, lost_in, message, split, window
+from entries import EXAMPLE, LONGEST, drop, example_line, exported, goes_on, kept, listing, listing_of, lost_in, message, opaque, split, window
 from preloading import with_library
 from program import PATIENCE, Outcome, same
 
@@ -51,13 +51,15 @@ NOTHING = Outcome(0, b"", b"dbgrec: nothing came\n")
 def an_input_without_a_byte_does_nothing(program):
     for number, kind in enumerate(((), WRAP)):
         name = f"t{number}"
-        for options in ((), ("--keep-open",), ("--flush", "never"), ("--skip", "9"), ("--after-failure",)):
+        for options in ((), ("--flush", "never"), ("--skip", "9"), ("--after-failure",)):
             same(program.run("import", name, *kind, *options), NOTHING)
+        # of one of many, as those of a loop, it is told on a terminal alone
+        same(program.run("import", name, *kind, "--keep-open"), Outcome(0, b"", b""))
         same(stored(program.folder), {})
         program.good("import", name, *kind, "--keep-open", stdin=drop(1))
         before = stored(program.folder)
-        for options in ((), ("--keep-open",)):
-            same(program.run("import", name, *kind, *options), NOTHING)
+        same(program.run("import", name, *kind), NOTHING)
+        same(program.run("import", name, *kind, "--keep-open"), Outcome(0, b"", b""))
         same(stored(program.folder), before)
         # a sealed one stays as it is, too
         program.good("record", name, *kind)
@@ -96,7 +98,7 @@ def what_can_be_refused_by_looking_is_refused_before_the_input_is_read(program):
 
 @case
 def bytes_that_are_skipped_are_passed_over(program):
-    entries = [message(bytes([number % 256]) * 1_000) for number in range(200)]
+    entries = [opaque(1_000, number % 256) for number in range(200)]
     stream, size = b"".join(entries), len(entries[0])
     for count in (0, 1, 7, 130, 199):
         told = program.good("import", "t", "--skip", str(count * size), stdin=stream)
@@ -149,17 +151,17 @@ TOO_LONG = {
 def a_message_that_is_too_long_is_a_drop_of_1(program):
     expected = kept(stream_of("node"), LONGEST)
     same([number for number, entry in enumerate(expected) if entry == drop(1)], [71, 72, 373, 374])
-    longest, longer = message(bytes(LONGEST)), message(bytes(LONGEST + 1))
+    longest, longer = opaque(LONGEST), opaque(LONGEST + 1)
     stream = longest + longer + longest + drop(7) + longer
     outcome = program.run("import", "t", "--longest", "65531", stdin=stream)
     same(outcome, Outcome(0, b"created\nsealed 5\n", TOO_LONG[2].format(LONGEST).encode()))
     same(program.good("export", "t"), longest + drop(1) + longest + drop(7) + drop(1))
     program.good("wipe", "t")
     for words, most in ((("--longest", "65532"), 65_532), (("--longest=64K",), 1 << 16), (("--longest", "1m"), 1 << 20), ((), 16 << 20)):
-        stream = message(bytes(most)) + message(bytes(most + 1)) + longer
+        stream = opaque(most) + opaque(most + 1) + longer
         told = f"created\nsealed {len(kept(stream, most))}\n".encode()
         same(program.run("import", "t", *words, stdin=stream), Outcome(0, told, TOO_LONG[1].format(most).encode()))
-        same(program.good("export", "t") == message(bytes(most)) + drop(1) + longer, True)
+        same(program.good("export", "t") == opaque(most) + drop(1) + longer, True)
         program.good("wipe", "t")
     # it is told of a stream that breaks, too, and of what this import passed over alone
     outcome = program.run("import", "t", "--longest", "65531", stdin=drop(3) + longer + longer + b"\2")
@@ -172,7 +174,7 @@ def a_message_that_is_too_long_is_a_drop_of_1(program):
 @case
 def a_long_message_is_kept_as_its_fragments(program):
     sizes = (65_532, 65_512 + 65_513, 65_513 + 65_513, 1_000_000)
-    stream = b"".join(drop(3) + message(bytes(range(256)) * (size // 256) + bytes(size % 256)) for size in sizes)
+    stream = b"".join(drop(3) + message((bytes([131, *range(1, 256)]) * (size // 256 + 1))[:size]) for size in sizes)
     for kind in ((), (*WRAP, "--size", "4294967295")):
         for flush in ("always", "paused", "never"):
             imports(program, stream, *kind, "--flush", flush)
@@ -218,7 +220,7 @@ def a_stream_in_small_pieces_is_the_same_stream(program):
 
 @case
 def a_stream_byte_by_byte_is_the_same_stream(program):
-    stream = stream_of("ip") + message(bytes(300)) + drop(4)
+    stream = stream_of("ip") + opaque(300) + drop(4)
     with program.start("import", "t") as importer:
         for place in range(len(stream)):
             importer.write(stream[place : place + 1])
@@ -250,13 +252,15 @@ def a_wrap_keeps_the_last_runs_of_a_stream(program):
 
 def broken_streams():
     """Streams that end in a fault: what comes whole before it, the bytes that fault, and what is told."""
-    good = message(EXAMPLE) + drop(3) + message(bytes(65_532))
-    for bad in (b"\0", b"\0\0\0\0", message(EXAMPLE)[:-1], b"\1\0\0\0", message(bytes(65_532))[:-1], message(bytes(70_000))[:6]):
+    good = message(EXAMPLE) + drop(3) + opaque(65_532)
+    for bad in (b"\0", b"\0\0\0\0", message(EXAMPLE)[:-1], b"\1\0\0\0", opaque(65_532)[:-1], opaque(70_000)[:6]):
         yield good, bad, "3 Truncated"
     yield good, b"\2", "4 BadOp"
     yield good, b"\xff" + bytes(10), "4 BadOp"
     yield good, drop(0), "5 ZeroDrop"
-    yield b"", b"\2", "4 BadOp"
+    for bad in (message(b""), message(b"\x82x"), message(bytes(9)), message(bytes(70_000)), message(b"x" * 70_000)[:6]):
+        yield good, bad, "8 BadMessage"
+    yield good, message(bytes(70_000))[:5], "3 Truncated"
 
 
 def stops(outcome, fault, output):
@@ -278,6 +282,50 @@ def a_cut_or_broken_stream_is_kept_up_to_its_fault_and_gone_on_with(program):
             same(program.good("export", name, *read), good + drop(5))
 
 
+NO_STREAM = "dbgrec: refused {}\nthat is no entry stream, as a node writes it: list shows a stored trace\n"
+
+
+@case
+def no_file_is_made_of_what_is_no_stream(program):
+    for stream, fault in (
+        (bytes(20_000), "8 BadMessage at 0"),
+        (message(b""), "8 BadMessage at 0"),
+        (message(b"\x82") * 9, "8 BadMessage at 0"),
+        (message(bytes(70_000)), "8 BadMessage at 0"),
+        (message(bytes(99) * 1_000_000), "8 BadMessage at 0"),
+        (drop(0), "5 ZeroDrop at 0"),
+        (b"some text\n", "4 BadOp at 0"),
+    ):
+        for words in ((), WRAP, ("--flush", "always")):
+            same(program.run("import", "z", *words, stdin=stream), Outcome(1, b"", NO_STREAM.format(fault).encode()))
+        same(stored(program.folder), {})
+    # behind what is passed over it is an offset that is told
+    same(program.run("import", "z", "--skip", "3", stdin=bytes(9)), Outcome(1, b"", b"dbgrec: refused 8 BadMessage at 3\n"))
+    same(stored(program.folder), {})
+    # where a trace is, it stays, and is gone on with
+    program.good("import", "z", "--keep-open", stdin=drop(1))
+    stops(program.run("import", "z", stdin=bytes(20_000)), "refused 8 BadMessage at 0", "resumed 1\nkept 1\n")
+    same(program.good("export", "z"), drop(1))
+
+
+@case
+def a_message_of_no_node_is_refused_once_its_first_byte_has_come(program):
+    for size in (9, 70_000, 20_000_000):
+        with program.start("import", "t", "--flush", "always") as importer:
+            importer.write(message(EXAMPLE))
+            same(importer.line(), "created")
+            importer.write(b"\0" + size.to_bytes(4, "big") + b"\x82")
+            # its input stays open
+            same(importer.process.wait(PATIENCE), 1)
+        same(program.good("export", "t"), message(EXAMPLE))
+        program.good("wipe", "t")
+
+
+@case
+def what_a_stream_lists_begins_with_any_byte(program):
+    same(program.good("stream", stdin=message(b"") + message(b"x")), listing(0, 0, ["0 opaque 0", "1 opaque 1"]))
+
+
 @case
 def an_import_that_begins_inside_an_entry_leaves_its_trace_open(program):
     entries = [message(bytes([131, 97, number])) for number in range(20)]
@@ -295,7 +343,7 @@ def an_import_that_begins_inside_an_entry_leaves_its_trace_open(program):
 @case
 def streams_that_are_cut_anywhere_lose_nothing(program):
     chance = random.Random(5)
-    entries = [message(bytes([number % 256]) * chance.choice((1, 40, 3_000))) for number in range(600)]
+    entries = [opaque(chance.choice((1, 40, 3_000)), number % 256) for number in range(600)]
     for kind in ((), (*WRAP, "--size", "20000", "--count", "100")):
         name, read = f"t{len(kind)}", kind[:2] + kind[4:]
         opened, at = "created", 0
@@ -324,6 +372,99 @@ def an_import_that_is_to_keep_its_trace_open_does(program):
         stops(program.run("import", name, *kind, "--keep-open", stdin=drop(1)), "refused 1 Sealed", "")
 
 
+def passed_over(count):
+    """What is told of bytes before the first entry."""
+    told = "1 byte of a message that began before is" if count == 1 else f"{count} bytes of a message that began before are"
+    return f"dbgrec: {told} passed over\n".encode()
+
+
+FOLLOWING = [drop(7), message(EXAMPLE), opaque(300), opaque(65_600), message(EXAMPLE)]
+
+
+def begins_within(program, name, rest, *words, entries=FOLLOWING):
+    """Imports the rest of a message and entries behind it. All of these are kept, and no byte before."""
+    stored_entries = kept(b"".join(entries))
+    outcome = program.run("import", name, *words, "--keep-open", stdin=rest + b"".join(entries))
+    same(outcome, Outcome(0, f"created\nkept {len(stored_entries)}\n".encode(), passed_over(len(rest))))
+    same(program.good("export", name, *words), b"".join(entries))
+
+
+@case
+def an_import_that_is_to_keep_its_trace_open_begins_anywhere(program):
+    whole = message(EXAMPLE)
+    for cut in range(1, len(whole)):
+        begins_within(program, f"t{cut}", whole[cut:])
+    for cut in range(1, 5):
+        begins_within(program, f"d{cut}", drop(1)[cut:])
+    begins_within(program, "message", whole[9:], entries=FOLLOWING[1:])
+    begins_within(program, "one", whole[9:], entries=[whole])
+    begins_within(program, "w", whole[9:], *WRAP)
+    # it goes on with a trace, and passes over nothing where its input begins with an entry
+    same(program.run("import", "one", "--keep-open", stdin=whole[20:] + whole), Outcome(0, b"resumed 1\nkept 2\n", passed_over(len(whole) - 20)))
+    same(program.good("import", "one", "--keep-open", stdin=b"".join(FOLLOWING[:3])), b"resumed 2\nkept 5\n")
+    # without --keep-open it is refused
+    same(program.run("import", "z", stdin=whole[9:] + whole), Outcome(1, b"", NO_STREAM.format("4 BadOp at 0").encode()))
+
+
+@case
+def in_the_midst_of_a_binary_nothing_is_taken_for_an_entry(program):
+    like_heads = (
+        # a message, and behind it none; one that is too long; drop records in a row, and before a message of no node
+        b"\0\0\0\0\3\x83ab" + b"\2",
+        b"\0\xf0\0\0\0\x83",
+        b"\0\0\0\0\x09\x83" + bytes(8) + drop(0),
+        drop(5) + drop(6) + b"\3",
+        drop(5) + message(b"\x82abc"),
+        message(b"") + b"\x83",
+    )
+    chance = random.Random(11)
+    for number, (size, most) in enumerate(((100, 40), (50_000, 40), (200_000, 4_000), (1_000_000, 4_000))):
+        binary = b"".join(chance.choice(like_heads) + bytes([chance.randrange(2, 131)]) * chance.randrange(most) for _ in range(3 * size // most + 9))
+        assert len(binary) >= size
+        begins_within(program, f"t{number}", b"x" + binary[:size] + b"x")
+    # a message that would be there whole only behind the input's end
+    begins_within(program, "part", b"x" * 70_000 + b"\0\0\x20\0\0\x83" + b"x" * 500)
+    # no entry follows: it is refused where it begins
+    for stream in (b"x" * 200_000, b"x" + message(EXAMPLE)[:-1], b"x" + drop(1)):
+        same(program.run("import", "z", "--keep-open", stdin=stream), Outcome(1, b"", NO_STREAM.format("4 BadOp at 0").encode()))
+
+
+@case
+def bytes_of_a_message_that_began_before_count_in_each_offset(program):
+    rest, entries = opaque(5_000)[100:], b"".join(FOLLOWING)
+    outcome = program.run("import", "t", "--skip", "3", "--keep-open", stdin=b"\0\0\0" + rest + entries + b"\2")
+    place, count = 3 + len(rest) + len(entries), len(kept(entries))
+    errors = passed_over(len(rest)) + f"dbgrec: refused 4 BadOp at {place}\n{goes_on(count, place)}".encode()
+    same(outcome, Outcome(1, f"created\nkept {count}\n".encode(), errors))
+    same(program.good("import", "t", "--skip", str(place + 1), "--keep-open", stdin=rest[:3] + bytes(3 + len(entries)) + rest[3:] + b"\2" + message(EXAMPLE)), f"resumed {count}\nkept {count + 1}\n".encode())
+
+
+@case
+def what_stands_behind_the_rest_of_a_message_is_kept_as_it_comes(program):
+    whole = message(EXAMPLE)
+    with program.start("import", "t", "--keep-open") as importer:
+        # its first entry is there before it goes on
+        importer.write(whole)
+        same(importer.line(), "created")
+        wait_for(lambda: program.run("export", "t").output == whole)
+        importer.write(drop(2))
+        wait_for(lambda: program.run("export", "t").output == whole + drop(2))
+        same(importer.end(), Outcome(0, b"kept 2\n", b""))
+    for number, sizes in enumerate(((1,), (7, 1, 30), (100_000,))):
+        name, rest = f"u{number}", opaque(400, 9)[17:]
+        stream, at, turn = rest + whole, 0, 0
+        with program.start("import", name, "--keep-open") as importer:
+            while at < len(stream):
+                importer.write(stream[at : at + sizes[turn % len(sizes)]])
+                at, turn = at + sizes[turn % len(sizes)], turn + 1
+                time.sleep(0.001)
+            same(importer.line(), "created")
+            wait_for(lambda: program.run("export", name).output == whole)
+            importer.write(drop(3))
+            wait_for(lambda: program.run("export", name).output == whole + drop(3))
+            same(importer.end(), Outcome(0, b"kept 2\n", passed_over(len(rest))))
+
+
 def kept_of(outcome):
     """How many entries an import tells that it kept, and the byte up to which."""
     second = outcome.errors.decode().split("\n")[1]
@@ -337,8 +478,8 @@ def kept_of(outcome):
 @case
 def what_is_told_as_kept_is_skipped_and_nothing_is_doubled(program):
     chance = random.Random(7)
-    entries = [message(bytes([number % 256]) * chance.choice((1, 40, 3_000))) for number in range(300)]
-    entries[150:151] = [message(bytes(65_532)), drop(4)]
+    entries = [opaque(chance.choice((1, 40, 3_000)), number % 256) for number in range(300)]
+    entries[150:151] = [opaque(65_532), drop(4)]
     stream = b"".join(entries)
     for kind in ((), (*WRAP, "--size", "9000", "--count", "200")):
         name, read = f"t{len(kind)}", kind[:2] + kind[4:]
@@ -360,7 +501,7 @@ def what_is_told_as_kept_is_skipped_and_nothing_is_doubled(program):
 
 @case
 def what_a_device_that_fails_kept_is_told(program):
-    entries = [message(bytes([number % 256]) * (7 + number % 900)) for number in range(1_500)]
+    entries = [opaque(7 + number % 900, number % 256) for number in range(1_500)]
     stream = b"".join(entries)
     for number, kind in enumerate(((), (*WRAP, "--size", "300000", "--count", "9"), (*WRAP, "--size", "1000", "--count", "999"))):
         for flush in ("always", "paused", "never"):
@@ -404,7 +545,7 @@ def an_input_that_can_not_be_read_is_told_and_nothing_is_done(program):
 
 @case
 def an_input_that_does_not_wait_is_waited_for(program):
-    entries = [message(bytes([number]) * 50) for number in range(12)]
+    entries = [opaque(50, number) for number in range(12)]
     reading, writing = os.pipe()
     os.set_blocking(reading, False)
     pipe = subprocess.PIPE
@@ -452,7 +593,7 @@ def a_read_that_is_interrupted_is_tried_again(program):
     (program.folder / "interrupting.c").write_text(INTERRUPTING)
     library = program.folder / "interrupting.so"
     subprocess.run(["cc", "-shared", "-fPIC", "-o", library, program.folder / "interrupting.c", "-ldl"], check=True)
-    stream = b"".join(message(bytes([number % 256]) * 1_000) for number in range(300))
+    stream = b"".join(opaque(1_000, number % 256) for number in range(300))
     outcome = program.run("import", "t", stdin=stream, env={**os.environ, "LD_PRELOAD": str(library)})
     same((outcome.status, outcome.output, outcome.errors), (0, b"created\nsealed 300\n", b""))
     same(program.good("export", "t"), stream)
@@ -491,7 +632,7 @@ def what_a_pausing_writer_wrote_is_covered(program):
 
 @case
 def an_import_that_never_flushes_keeps_whole_batches(program):
-    entries = [message(bytes([number % 256]) * 1_000) for number in range(200)]
+    entries = [opaque(1_000, number % 256) for number in range(200)]
     with program.start("import", "t", "--flush", "never") as importer:
         importer.write(b"".join(entries))
         same(importer.line(), "created")

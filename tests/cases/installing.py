@@ -24,8 +24,8 @@ FILES = {
 VALUES = {
     "--kind": ["file", "wrap"],
     "--flush": ["always", "never", "paused"],
-    "--only": sorted(KINDS),
-    "--not": sorted(KINDS),
+    "--only": sorted([*KINDS, "part"]),
+    "--not": sorted([*KINDS, "part"]),
     "--as": ["folded", "perfetto", "stream"],
     "--color": ["always", "auto", "never"],
     "--by": ["function", "kind", "process"],

@@ -100,7 +100,7 @@ def each_line_of_a_listing_is_an_object(program):
 @case
 def the_objects_of_an_example_are_these(program):
     call = call_with(random.Random(0), None, 0)
-    stream = message(call) + drop(7) + message(b"x")
+    stream = message(call) + drop(7) + message(b"\x83")
     wanted = [
         '{"n":0,"kind":"call","pid":"<n@h.0.0.0>","mfa":"m:f/0","text":"{trace,<n@h.0.0.0>,call,{m,f,[]}}"}',
         '{"n":1,"kind":"drop","count":7}',
@@ -147,7 +147,7 @@ def the_objects_of_chosen_lines_are_written(program):
         for style in STYLES:
             for words, data, _ in listed.listings(style):
                 listing, entries = listed.whole_for(words, asked)
-                check(chosen(listing, entries, asked), entries, program.good(*words, *options, "--json", stdin=data))
+                check(chosen(listing, entries, asked), entries, program.chosen(*words, *options, "--json", stdin=data))
 
 
 @case

@@ -7,7 +7,7 @@ import subprocess
 import time
 
 from cases import STREAMS, group, stored
-from entries import EXAMPLE, drop, exported, goes_on, kept, listing_of, message, split, window
+from entries import EXAMPLE, drop, exported, goes_on, kept, listing_of, message, opaque, split, window
 from program import PATIENCE, Outcome, same
 
 CASES, case = group()
@@ -21,13 +21,16 @@ SEALED = "dbgrec: refused 1 Sealed\n{} is sealed: export keeps its entries, wipe
 
 def broken_streams():
     """Streams that end in a fault: what comes whole before it, the bytes that fault, and what is told."""
-    good = message(EXAMPLE) + drop(3) + message(bytes(65_532))
-    for bad in (b"\0", b"\0\0\0\0", message(EXAMPLE)[:-1], b"\1\0\0\0", message(bytes(65_532))[:-1], message(bytes(70_000))[:6]):
+    good = message(EXAMPLE) + drop(3) + opaque(65_532)
+    for bad in (b"\0", b"\0\0\0\0", message(EXAMPLE)[:-1], b"\1\0\0\0", opaque(65_532)[:-1], opaque(70_000)[:6]):
         yield good, bad, "3 Truncated"
         yield b"", bad, "3 Truncated"
     for bad in (b"\2", b"\xff" + bytes(10), message(EXAMPLE)[4:]):
         yield good, bad, "4 BadOp"
         yield b"", bad, "4 BadOp"
+    for bad in (message(b""), message(b"\x82"), message(b"x" * 70_000)[:6], message(bytes(9)) + drop(1)):
+        yield good, bad, "8 BadMessage"
+        yield b"", bad, "8 BadMessage"
     yield good, drop(0), "5 ZeroDrop"
     yield good * 9, drop(0) + message(EXAMPLE), "5 ZeroDrop"
 
@@ -45,6 +48,11 @@ def a_broken_stream_is_kept_and_the_trace_is_gone_on_with(program):
     for number, (good, bad, fault) in enumerate(broken_streams()):
         for kind in KINDS:
             name = f"t{number}{'-' if kind else ''}"
+            if not good and fault != "3 Truncated":
+                # no trace is made of it: one is there
+                program.good("import", name, *kind, "--keep-open", stdin=drop(9))
+                is_kept(program, (name, *kind), good, bad, fault, "resumed 1", 1)
+                continue
             is_kept(program, (name, *kind), good, bad, fault)
             entries = kept(good)
             first, left = window(entries, 200, 3) if kind else (0, entries)
@@ -58,7 +66,8 @@ def a_broken_stream_is_kept_and_the_trace_is_gone_on_with(program):
 def a_trace_is_gone_on_with_behind_each_of_many_breaks(program):
     for kind in KINDS:
         name = f"t{len(kind)}"
-        opened, count = "created", 0
+        same(program.good("import", name, *kind, "--keep-open", stdin=drop(1)), b"created\nkept 1\n")
+        opened, count = "resumed 1", 1
         for number, (good, bad, fault) in enumerate(broken_streams()):
             keep = ("--keep-open",) if number % 2 else ()
             is_kept(program, (name, *kind, *keep), good, bad, fault, opened, count)

@@ -8,7 +8,7 @@ import shutil
 import subprocess
 
 from cases import Skipped, group
-from entries import message
+from entries import message, opaque
 from program import PATIENCE, Outcome, same
 from segments import FILE_HEADER, batch, wrap_header
 
@@ -16,7 +16,7 @@ CASES, case = group()
 
 LIMITED = ("bash", "-c", 'ulimit -v 24000; exec "$@"', "bash")
 
-ENTRY = message(bytes(60_000))
+ENTRY = opaque(60_000)
 
 # what it lists as, without its number
 LINE = b" opaque 60000\n"

@@ -98,6 +98,15 @@ def a_stream_is_listed(program):
 
 
 @case
+def a_list_of_a_stroke_is_that_of_a_stream(program):
+    (program.folder / "-").write_bytes(STORED)
+    stream = message(EXAMPLE) + drop(3) + message(b"x")
+    for words in ((), ("-p",), ("--json",), ("--only", "drop,opaque"), ("--to", "1")):
+        same(program.good("list", "-", *words, stdin=stream), program.good("stream", *words, stdin=stream))
+    same(program.good("list", "-", "-f", stdin=stream), listing(0, 0, [example_line(0), "1 drop 3", "2 opaque 1"]))
+
+
+@case
 def the_fault_of_a_stream_is_told_with_its_place(program):
     entry = message(EXAMPLE)
     line = f"{example_line(0)}\n".encode()

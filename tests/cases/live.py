@@ -45,7 +45,7 @@ ENTRIES = 1_000
 
 def entry(number):
     """An entry that says its own number."""
-    return message(struct.pack(">Q", number) + bytes(SIZE - 8))
+    return message(b"\x83" + struct.pack(">Q", number)[1:] + bytes(SIZE - 8))
 
 
 class Feeder:
@@ -92,7 +92,7 @@ def shown_first(command, output):
         count = len(lines) - (2 if lines[0].startswith("before") else 1)
         same(output, listing(first, 0, [f"{number} opaque {SIZE}" for number in range(first, first + count)]))
         return first, count
-    first = struct.unpack_from(">Q", output, 5)[0] if output else 0
+    first = struct.unpack_from(">Q", output, 5)[0] % 2**56 if output else 0
     count = len(output) // (SIZE + 5)
     same(output, b"".join(entry(number) for number in range(first, first + count)))
     return first, count

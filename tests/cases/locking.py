@@ -29,7 +29,13 @@ def a_file_of_a_wrap_that_is_recorded_is_in_use(program):
         same(running.opens(b"\1"), "resumed 20")
         for number in (0, 3, 8):
             name = f"trace{number}"
-            in_use(program, name, ("import", name), ("record", name), ("wipe", name), ("wipe", name, "--force"))
+            in_use(program, name, ("wipe", name), ("wipe", name, "--force"))
+            for command in ("import", "record"):
+                # the file that is written next has nothing, and is told as one of the wrap
+                if number != 3:
+                    in_use(program, name, (command, name))
+                else:
+                    program.refused(command, name, says=f"dbgrec: {name}: no such trace\n{name} is a file of the wrap trace: dbgrec {command} trace")
         in_use(program, "trace0", ("import", "trace", *WRAP), ("record", "trace", *WRAP), ("wipe", "trace"))
         running.write(drop(1))
         same(running.end().output, b"sealed 21\n")

@@ -28,7 +28,7 @@ def told(status, errors, output=b""):
 
 def stream():
     """Entries that all differ, of some 4 MB."""
-    return [message(number.to_bytes(8, "big") + bytes(990)) for number in range(4_000)]
+    return [message(b"\x83" + number.to_bytes(7, "big") + bytes(990)) for number in range(4_000)]
 
 
 @contextlib.contextmanager

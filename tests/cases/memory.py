@@ -2,18 +2,21 @@
 
 No run may end by a signal. What is refused is told as NoMemory, or as Device where a store in memory had no room."""
 
+import os
 import re
 import resource
+import unittest.mock
 
 from cases import REPOSITORY, group, stored
-from entries import EXAMPLE, LONGEST, drop, goes_on, message
+from entries import EXAMPLE, LONGEST, drop, goes_on, message, opaque
 from info import STAMPED, moment
 from program import Outcome, same
 from refusing import each_refusal
 from rows import CASES as ROWS
 from segments import FILE_HEADER, segment
 from shortages import NO_MEMORY, Kept, Script, joined, tells_no_memory
-from top import call, fails, receives, returns, sends
+from terms import short_atom
+from top import call, fails, receives, returns, sends, told_at
 
 CASES, case = group()
 
@@ -96,7 +99,7 @@ abandon"""
 
 
 # so many entries that a wrap of small files turns often, and keeps them all
-ENTRIES = [entry for number in range(4) for entry in (message(EXAMPLE), message(bytes([number]) * 90), drop(number + 1))]
+ENTRIES = [entry for number in range(4) for entry in (message(EXAMPLE), opaque(90, number), drop(number + 1))]
 
 WRAP = ("--kind", "wrap", "--count", "8", "--size", "100")
 
@@ -131,8 +134,8 @@ def a_listing_that_is_refused_memory_is_a_beginning(program):
         kept.program.good("import", "t", *kind, stdin=b"".join(ENTRIES))
         for command in ("list", "export"):
             kept.reads(command, "t")
-        kept.reads("list", "--from", "1", "--only", "call,receive", "--pid", "a@b.1.0.0", "--pid", "a@b.2.0.0", "t")
-        kept.reads("list", "--not", "send", "--not-pid", "a@b.1.0.0", "--not-mfa", "m:f/1", "--not-mfa", "m:g", "t")
+        kept.reads("list", "--from", "1", "--only", "call,opaque", "--not-pid", "a@b.1.0.0", "--not-pid", "a@b.2.0.0", "t")
+        kept.reads("list", "--not", "send", "--not", "exit", "--not-pid", "a@b.1.0.0", "--not-mfa", "m:f/1", "--not-mfa", "m:g", "t")
         kept.reads("list", "--json", "t")
         kept.reads("list", "--json", "--from", "1", "t")
         kept.reads("export", "--from", "1", "--only", "call,receive", "--pid", "a@b.1.0.0", "--not-mfa", "m:f/1", "t")
@@ -142,6 +145,16 @@ def a_listing_that_is_refused_memory_is_a_beginning(program):
         # with fewer rows, those that were the last when memory ran out are shown
         kept.reads("show", "--last", "99", "t")
         kept.reads("show", "--follow", "--from", "1", "t")
+
+
+@case
+def names_that_are_looked_up_without_memory_are_told(program):
+    for kind in KINDS[:2]:
+        kept = Kept(program, kind[-1])
+        registered = [told_at(number, "register", short_atom("worker")) for number in (2, 3, 2)]
+        kept.program.good("import", "t", *kind, stdin=b"".join([*registered, sends(1), sends(2)]))
+        for words in (("export", "t", "--pid", "worker"), ("list", "t", "--pid", "worker", "--not-pid", "nobody")):
+            kept.reads(*words)
 
 
 @case
@@ -180,6 +193,19 @@ def a_stream_that_is_refused_memory_is_listed_to_there(program):
     kept.reads("stream", "--mfa", "lists:seq/2", "--to", "9", stdin=b"".join([*ENTRIES[:6], message(LONG)]))
     kept.reads("stream", "-p", "--json", stdin=b"".join([*ENTRIES[:6], message(LONG)]))
     kept.reads("stream", "-p", stdin=message(LONGER) + drop(1))
+
+
+@case
+def a_stream_that_is_recorded_first_leaves_no_folder_where_memory_is_refused(program):
+    room = program.folder / "room"
+    room.mkdir()
+    kept = Kept(program)
+    with unittest.mock.patch.dict(os.environ, TMPDIR=str(room)):
+        for words in (("export", "-"), ("export", "-", "--as", "folded"), ("export", "-", "--as", "perfetto"), ("info", "-"), ("top", "-", "--json")):
+            kept.reads(*words, stdin=b"".join([*ENTRIES[:6], call(1, "f", 10), returns(1, "f", 20)]))
+        kept.reads("top", "-")
+        kept.reads("info", "-", stdin=ENTRIES[0][:-1])
+    same(list(room.iterdir()), [])
 
 
 @case
@@ -237,7 +263,7 @@ def a_resumed_import_that_is_refused_memory_is_gone_on_with(program):
 @case
 def an_import_of_long_messages_that_is_refused_memory_is_gone_on_with(program):
     # none of them is left in part
-    entries = [ENTRIES[0], message(LONGER), ENTRIES[5], message(bytes(140_000)), ENTRIES[1]]
+    entries = [ENTRIES[0], message(LONGER), ENTRIES[5], opaque(140_000), ENTRIES[1]]
     Kept(program, "file").imports(entries, "--flush", "always")
     Kept(program, "wrap").imports(entries, *WRAP)
 

@@ -9,7 +9,7 @@ import struct
 import subprocess
 
 from cases import STREAMS, Skipped, group, stored
-from entries import drop, kept, message
+from entries import drop, kept, message, opaque
 from importing import TRACES, stream_of
 from program import PATIENCE, Outcome, same
 from telling import damaged
@@ -167,7 +167,13 @@ def a_drawing_is_an_object_of_events(program):
         {"name": "m:f/2", "ph": "E", "pid": 1, "tid": 1, "ts": 90.0, "args": {"exception": f"{{trace_ts,{ONE},exception_from,{arity},{{error,badarg}},{{0,0,100}}}}"}},
     ]
     other = {"times": "from the first one, in microseconds", "first_time_in_nanoseconds": "10000"}
-    same(drawn(program, *entries), {"displayTimeUnit": "ns", "traceEvents": events, "otherData": other})
+    whole = {"displayTimeUnit": "ns", "traceEvents": events, "otherData": other}
+    same(drawn(program, *entries), whole)
+    # and of the stream of them, also of one that ends within an entry
+    stream = b"".join(entries)
+    same(drawn_as(program.good(*DRAWN, "-", stdin=stream)), whole)
+    outcome = program.run(*DRAWN, "-", stdin=stream + b"\0")
+    same((outcome.status, drawn_as(outcome.output), outcome.errors), (1, whole, f"dbgrec: refused 3 Truncated at {len(stream)}\n".encode()))
 
 
 @case
@@ -176,21 +182,56 @@ def a_slice_ends_with_the_one_that_it_is_within(program):
     found = events_of(program, call(1, "f", 0), call(1, "f", 1), returns(1, "f", 2), fails(1, "f", 3))
     same(found, ["B 1 0.0 m:f/2", "B 1 1.0 m:f/2", "E 1 2.0 m:f/2", "E 1 3.0 m:f/2"])
     # the ends of tail calls aren't told: these have nothing to tell
-    entries = (call(1, "f", 0), call(1, "g", 1), call(1, "h", 2), returns(1, "f", 40), returns(1, "g", 41), returns(2, "f", 42))
+    entries = (call(1, "f", 0), call(1, "g", 1), call(1, "h", 2), returns(1, "f", 40), returns(1, "g", 41), returns(2, "f", 42), returns(2, "h", 43))
     told = [event for event in drawn(program, *entries)["traceEvents"] if event["ph"] in "Ei"]
-    same([(short(event), "args" in event) for event in told], [("E 1 40.0 m:h/2", False), ("E 1 40.0 m:g/2", False), ("E 1 40.0 m:f/2", True), ("i 1 41.0 return", True), ("i 2 42.0 return", True)])
+    same([(short(event), "args" in event) for event in told], [("E 1 40.0 m:h/2", False), ("E 1 40.0 m:g/2", False), ("E 1 40.0 m:f/2", True), ("i 1 41.0 return", True), ("i 2 42.0 return", True), ("i 2 43.0 return", True)])
+    # a process that is back in a function is in none that it called
+    back = [told_at(1, "return_to", function(name, b"\x61\x02"), at=at) for name, at in (("f", 25), ("h", 30))]
+    found = events_of(program, call(1, "f", 0), call(1, "g", 10), *back, returns(1, "f", 40), returns(2, "g", 50))
+    same(found, ["B 1 0.0 m:f/2", "B 1 10.0 m:g/2", "E 1 25.0 m:g/2", "i 1 25.0 return_to", "i 1 30.0 return_to", "E 1 40.0 m:f/2", "i 2 50.0 return"])
 
 
 @case
 def an_exit_and_the_end_of_a_trace_end_slices(program):
-    found = events_of(program, call(1, "f", 0), call(1, "g", 1), call(2, "f", 2), exits(1, 30), returns(1, "f", 31), call(1, "h", 32))
-    same(found, ["B 1 0.0 m:f/2", "B 1 1.0 m:g/2", "B 2 2.0 m:f/2", "E 1 30.0 m:g/2", "E 1 30.0 m:f/2", "i 1 30.0 exit", "i 1 31.0 return", "B 1 32.0 m:h/2", "E 1 32.0 m:h/2", "E 2 32.0 m:f/2"])
+    found = events_of(program, call(1, "f", 0), call(1, "g", 1), call(2, "f", 2), exits(1, 30), returns(1, "f", 31), call(1, "h", 32), returns(3, "g", 33), returns(3, "h", 33))
+    ends = ["E 1 30.0 m:g/2", "E 1 30.0 m:f/2", "i 1 30.0 exit", "i 1 31.0 return"]
+    same(found, ["B 1 0.0 m:f/2", "B 1 1.0 m:g/2", "B 2 2.0 m:f/2", *ends, "B 1 32.0 m:h/2", "i 3 33.0 return", "i 3 33.0 return", "E 1 33.0 m:h/2", "E 2 33.0 m:f/2"])
+
+
+@case
+def what_is_lost_ends_all_slices(program):
+    for lost, name in ((drop(1), "lost"), (message(b"\x83" + b"x" * 8), "opaque")):
+        found = events_of(program, call(1, "f", 0), call(2, "f", 1), call(1, "g", 4), returns(1, "g", 7), lost, returns(1, "f", 90), call(2, "f", 91), returns(2, "f", 93))
+        ends = ["E 1 7.0 m:f/2", "E 2 7.0 m:f/2", f"i 0 7.0 {name}", "i 1 90.0 return"]
+        same(found, ["B 1 0.0 m:f/2", "B 2 1.0 m:f/2", "B 1 4.0 m:g/2", "E 1 7.0 m:g/2", *ends, "B 2 91.0 m:f/2", "E 2 93.0 m:f/2"])
+    found = events_of(program, *kept(stream_of("drop_between")))
+    lost = ["E 1 2000.0 m:f/1", "i 0 2000.0 lost", "i 1 5000000.0 return"]
+    same(found, ["B 1 0.0 m:f/1", "E 1 1000.0 m:f/1", "B 1 2000.0 m:f/1", *lost, "B 1 6000000.0 m:f/1", "E 1 6000100.0 m:f/1"])
+
+
+@case
+def a_call_whose_end_is_never_told_is_a_mark(program):
+    found = events_of(program, call(1, "f", 0), call(1, "h", 5), call(1, "g", 10), returns(1, "g", 12), returns(1, "f", 20))
+    same(found, ["B 1 0.0 m:f/2", "i 1 5.0 m:h/2", "B 1 10.0 m:g/2", "E 1 12.0 m:g/2", "E 1 20.0 m:f/2"])
+    # of all functions there one tells its ends
+    slices = [line.split()[-1] for line in events_of(program, *kept(stream_of("calls_without_returns"))) if line[0] in "BE"]
+    same(slices, ["lists:seq/2"] * 54)
+
+
+@case
+def a_loop_of_calls_has_few_slices(program):
+    many = [call(1, "f", 1)] * 20
+    found = [line.split()[0] for line in events_of(program, *many, *[returns(1, "f", 2)] * 20)]
+    same(found, ["B"] * 8 + ["i"] * 12 + ["i"] * 12 + ["E"] * 8)
+    # within it others are slices, and each end is that of the innermost call
+    found = [line.split()[0] for line in events_of(program, *many[:10], call(1, "g", 3), *many[:2], *[returns(1, "f", 4)] * 2, returns(1, "g", 5), *[returns(1, "f", 6)] * 10)]
+    same(found, ["B"] * 8 + ["i"] * 2 + ["B"] + ["B"] * 2 + ["E"] * 2 + ["E"] + ["i"] * 2 + ["E"] * 8)
 
 
 @case
 def of_more_open_calls_the_outermost_are_slices(program):
     many = 300
-    entries = [call(1, "f", at) for at in range(many)] + [returns(1, "f", many + at) for at in range(many)]
+    entries = [call(1, f"f{at}", at) for at in range(many)] + [returns(1, f"f{many - 1 - at}", many + at) for at in range(many)]
     found = [line.split()[0] for line in events_of(program, *entries)]
     same(found, ["B"] * 256 + ["i"] * 44 + ["i"] * 44 + ["E"] * 256)
 
@@ -263,7 +304,7 @@ def a_send_waits_until_many_more_were_sent(program):
 def what_is_of_no_process_is_on_all_tracks(program):
     seq = message(b"\x83" + tuple_of(short_atom("seq_trace"), short_atom("l"), tuple_of(short_atom("print"), tuple_of(b"\x61\x00", b"\x61\x01"), pid(1), b"\x6a", b"\x61\x05")))
     spawns = told_at(1, "spawn", pid(2), function("f", b"\x6a"), at=7)
-    told = drawn(program, drop(3), spawns, drop(2), message(b"x" * 9), seq, told_at(1, "spawn", pid(3), function("f", b"\x6a"), at=9))
+    told = drawn(program, drop(3), spawns, drop(2), opaque(9), seq, told_at(1, "spawn", pid(3), function("f", b"\x6a"), at=9))
     marks = [(short(event), event["s"], list(event["args"].items())[0]) for event in told["traceEvents"] if event["ph"] == "i"]
     same([mark[:2] for mark in marks], [("i 0 0.0 lost", "g"), ("i 1 1.0 spawn", "t"), ("i 0 1.0 lost", "g"), ("i 0 1.0 opaque", "g"), ("i 0 1.0 seq_trace", "g"), ("i 1 3.0 spawn", "t")])
     same([mark[2] for mark in marks[:4]], [("messages", 3), ("spawn", f"{{trace_ts,{ONE},spawn,{TWO},{{m,f,[]}},{{0,0,7}}}}"), ("messages", 2), ("bytes", 9)])
@@ -273,7 +314,7 @@ def what_is_of_no_process_is_on_all_tracks(program):
 @case
 def without_times_entries_are_a_microsecond_apart(program):
     told = drawn(program, call(1, "f"), drop(3), call(2, "g"), returns(1, "f"), timed=False)
-    same([short(event) for event in told["traceEvents"] if event["ph"] != "M"], ["B 1 0.0 m:f/2", "i 0 1.0 lost", "B 2 2.0 m:g/2", "E 1 3.0 m:f/2", "E 2 3.0 m:g/2"])
+    same([short(event) for event in told["traceEvents"] if event["ph"] != "M"], ["B 1 0.0 m:f/2", "E 1 1.0 m:f/2", "i 0 1.0 lost", "i 2 2.0 m:g/2", "i 1 3.0 return"])
     says = "numbers of entries as microseconds: trace with the flag timestamp or monotonic_timestamp to have times"
     same(told["otherData"], {"times": says})
 
@@ -312,13 +353,12 @@ def what_otp_traced_is_drawn(program):
 
 
 @case
-def a_trace_that_is_refused_is_drawn_to_there(program):
+def a_trace_that_is_refused_is_not_drawn(program):
     data, place = damaged(call(1, "f", 1), drop(1), call(1, "g", 2))
     (program.folder / "t").write_bytes(data)
     outcome = program.run(*DRAWN, "t")
     says = f"dbgrec: refused 1 Damaged file 0 at {place}\nt is damaged there: list shows the entries before it, wipe clears the trace\n"
-    same((outcome.status, outcome.errors), (1, says.encode()))
-    assert not outcome.output.endswith(b"}\n") or b"otherData" not in outcome.output, outcome
+    same(outcome, Outcome(1, b"", says.encode()))
     said = program.run("export", "nosuch")
     same(program.run(*DRAWN, "nosuch"), Outcome(1, b"", said.errors))
     same(sorted(stored(program.folder)), ["t"])

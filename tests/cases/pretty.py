@@ -30,13 +30,14 @@ def lists_stream(program, messages):
 
 
 def lists(program, messages):
-    """The same, and as stored in a file and in a wrap."""
+    """The same, and those that begin as a node's do as stored in a file and in a wrap."""
     lists_stream(program, messages)
-    stream = b"".join(map(message, messages))
+    stored = [data for data in messages if data.startswith(b"\x83")]
+    stream = b"".join(map(message, stored))
     for kind in ((), WRAP):
         program.good("import", "t", *kind, *(("--size", "4294967295") if kind else ()), stdin=stream)
         for option in ("-p", "--pretty"):
-            same(program.good("list", option, "t", *kind), pretty_listing(messages))
+            same(program.good("list", option, "t", *kind), pretty_listing(stored))
         program.good("wipe", "t", *kind)
 
 

@@ -32,6 +32,16 @@ class Program:
         assert outcome.errors == b"", f"{words}: {outcome}"
         return outcome.output
 
+    def chosen(self, *words, stdin=b""):
+        """The same of a listing by a choice. Exactly where a stored trace has no message that is chosen, it is told what it has."""
+        outcome = self.run(*words, stdin=stdin)
+        assert outcome.status == 0, f"{words}: {outcome}"
+        numbered = [line for line in outcome.output.splitlines() if line[:1].isdigit() or line.startswith(b'{"n":')]
+        shows = any(line.split()[1] != b"drop" and b',"kind":"drop",' not in line for line in (line + b" -" for line in numbered))
+        told = b": no message is shown: it has " in outcome.errors
+        assert told == (words[0] == "list" and not shows) and told == bool(outcome.errors), f"{words}: {outcome}"
+        return outcome.output
+
     def refused(self, *words, stdin=b"", status=1, says, output=b""):
         """Runs a command that ends with this status and these outputs."""
         expected = Outcome(status, output, says.encode() + b"\n")

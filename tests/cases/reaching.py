@@ -14,13 +14,16 @@ CRATES = pathlib.Path(__file__).parents[2] / "crates"
 
 # what reaches a file by its name
 REACH = re.compile(
-    r"\b(?:fs::[a-z_]+(?=\()|File::[a-z_]+|OpenOptions::new|FolderStore::over|FailureMark::new|fchown(?=\()|Files::(?:locked_)?at|(?<!fn )files_for(?=\())"
+    r"\b(?:fs::[a-z_]+(?=\()|File::[a-z_]+|OpenOptions::new|DirBuilder::new|env::set_current_dir|FolderStore::over|FailureMark::new|fchown(?=\()|Files::(?:locked_)?at|(?<!fn )files_for(?=\())"
 )
 
 FUNCTION = re.compile(r"^ *(?:pub )?fn ([a-z_0-9]+)")
 
-# who changes files: the store, and the mark of a failed disk
+# who changes files: the store, the mark of a failed disk, and the folder in which standard input is recorded
 CHANGES = {
+    ("prepared_requests/src/input_folder.rt", "enter_new"): ["env::set_current_dir", "fs::remove_dir"],
+    ("prepared_requests/src/input_folder.rt", "leave"): ["env::set_current_dir", "fs::remove_dir", "fs::remove_file"],
+    ("prepared_requests/src/input_folder.rt", "make"): ["DirBuilder::new"],
     ("stores/src/failure_mark.rt", "create"): ["OpenOptions::new"],
     ("stores/src/failure_mark.rt", "remove"): ["fs::remove_file"],
     ("stores/src/named_file.rt", "create_new"): ["OpenOptions::new"],
@@ -34,6 +37,7 @@ CHANGES = {
 # who makes a store over files, or a mark, by the names of a trace's place; the first and the last store are only read
 STORES = {
     ("commands/src/awaiting.rt", "is_own"): ["FolderStore::over"],
+    ("commands/src/files.rt", "again"): ["Files::at"],
     ("commands/src/files.rt", "at"): ["FolderStore::over"],
     ("commands/src/files.rt", "has_failed"): ["FailureMark::new"],
     ("commands/src/files.rt", "remove_mark"): ["FailureMark::new"],
@@ -67,8 +71,9 @@ LOOKS = {
 # the modules whose functions may be handed the runtime: none of those that read or change a trace
 RUNTIME = {
     "dbgrec": ["main"],
-    "commands": ["awaiting", "crowded", "files", "serving", "sites", "state"],
-    "shown_listings": ["console", "counted", "inlet", "listing", "outlet", "screen", "zone"],
+    "prepared_requests": ["input", "input_folder"],
+    "commands": ["awaiting", "crowded", "files", "serving", "sites", "state", "streaming", "unshown"],
+    "shown_listings": ["console", "counted", "inlet", "inventory", "listing", "outlet", "screen", "zone"],
     "stores": ["failure_mark", "folder", "folder_store", "named_file", "named_files"],
     "faults": ["absence"],
     "trace_lookup": ["lookup", "room", "spot"],

@@ -241,7 +241,7 @@ def a_terminal_gets_a_chosen_line_before_the_listing_ends(program):
 
 @case
 def opaque_entries_are_counted_at_a_terminal(program):
-    stream = (message(EXAMPLE) + message(b"x")) * 1_200 + drop(1)
+    stream = (message(EXAMPLE) + message(b"\x83")) * 1_200 + drop(1)
     program.good("import", "t", stdin=stream)
     program.good("import", "w", *WRAP, "--size", "900K", stdin=stream)
     many = "dbgrec: 1,200 of 2,401 entries are opaque here: -p shows them\n"
@@ -249,13 +249,14 @@ def opaque_entries_are_counted_at_a_terminal(program):
         data = stream if words[0] == "stream" else b""
         said, output = at_a_terminal(program, *words, stdin=data)
         same((words, said, output), (words, many, program.good(*words, stdin=data)))
+    none = "dbgrec: t: no message is shown: it has entries 0 to 2400\n"
     for words, said in {
         ("list", "t", "--to", "2"): "dbgrec: 1 of 3 entries is opaque here: -p shows it\n",
-        ("list", "t", "--from", "2400"): "",
+        ("list", "t", "--from", "2400"): none,
         ("list", "-p", "t"): "",
         ("list", "t", "--json"): "",
-        ("list", "t", "--mfa", "no:no"): "",
-        ("list", "t", "--only", "send"): "",
+        ("list", "t", "--mfa", "no:no"): f"{none}there is no message of the function no:no\n",
+        ("list", "t", "--only", "send"): f"{none}there is no message of kind send\n",
         ("export", "t"): "",
         ("info", "t"): "",
     }.items():

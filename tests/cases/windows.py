@@ -4,7 +4,7 @@ import pathlib
 import time
 
 from cases import group
-from entries import EXAMPLE, example_line, listing, message, split, window
+from entries import EXAMPLE, example_line, listing, message, opaque, split, window
 from program import PATIENCE, same
 from segments import segment, wrap_header
 
@@ -17,7 +17,7 @@ SMALL = ("bash", "-c", 'ulimit -v 8000; exec "$@"', "bash")
 @case
 def a_wrap_of_60_megabytes_is_listed_and_exported_in_8(program):
     sizes = [95, 195, 295]
-    entries = [message(bytes(sizes[number % 3])) for number in range(400_000)]
+    entries = [opaque(sizes[number % 3]) for number in range(400_000)]
     wrap = ("--kind", "wrap", "--size", "8000000", "--count", "8")
     program.good("import", "t", *wrap, stdin=b"".join(entries))
     first, kept = window(entries, 8_000_000, 8)
@@ -33,7 +33,7 @@ def a_wrap_of_60_megabytes_is_listed_and_exported_in_8(program):
 
 @case
 def a_large_wrap_that_is_written_is_listed_and_exported_in_8_too(program):
-    entries = [message(bytes(60_000))] * 2_200
+    entries = [opaque(60_000)] * 2_200
     wrap = ("t", "--kind", "wrap", "--size", "30000000", "--count", "4")
     with program.start("import", *wrap, "--flush", "always") as importer:
         same(importer.opens(), "created")
@@ -72,28 +72,28 @@ def written_in_8(program, wrap, size, count, entries):
 
 @case
 def a_standard_wrap_that_is_written_is_listed_and_exported_in_8(program):
-    entries = [message(bytes(95 + number % 3)) for number in range(60_000)]
+    entries = [opaque(95 + number % 3) for number in range(60_000)]
     written_in_8(program, ("--kind", "wrap"), 131_072, 8, entries)
 
 
 @case
 def a_standard_wrap_of_messages_of_1_byte_that_is_written_is_listed_and_exported_in_8(program):
-    written_in_8(program, ("--kind", "wrap"), 131_072, 8, [message(bytes(1))] * 250_000)
+    written_in_8(program, ("--kind", "wrap"), 131_072, 8, [opaque(1)] * 250_000)
 
 
 @case
 def a_standard_wrap_of_messages_of_10_bytes_that_is_written_is_listed_and_exported_in_8(program):
-    written_in_8(program, ("--kind", "wrap"), 131_072, 8, [message(bytes(10))] * 120_000)
+    written_in_8(program, ("--kind", "wrap"), 131_072, 8, [opaque(10)] * 120_000)
 
 
 @case
 def a_small_wrap_of_messages_of_1_byte_that_is_written_is_listed_and_exported_in_8(program):
-    written_in_8(program, ("--kind", "wrap", "--size", "7000"), 7_000, 8, [message(bytes(1))] * 30_000)
+    written_in_8(program, ("--kind", "wrap", "--size", "7000"), 7_000, 8, [opaque(1)] * 30_000)
 
 
 @case
 def a_wrap_of_5_megabytes_that_is_written_is_listed_and_exported_in_8(program):
-    entries = [message(bytes(95 + number % 3)) for number in range(60_000)]
+    entries = [opaque(95 + number % 3) for number in range(60_000)]
     written_in_8(program, ("--kind", "wrap", "--size", "1000000", "--count", "5"), 1_000_000, 5, entries)
 
 
@@ -145,7 +145,7 @@ def a_wrap_in_which_an_entry_is_missing_has_no_last_line(program):
 
 def three_large_files(program, middle_size, *before):
     """A wrap of three files of 10 megabytes each, the middle one of this size, by how many entries each header says come before it."""
-    batches = [message(bytes(95)) * 1000] * 100
+    batches = [opaque(95) * 1000] * 100
     for file, count in enumerate(before):
         size = middle_size if file == 1 else 9_999_999
         (program.folder / f"t{file}").write_bytes(segment(wrap_header(file, count=4, before=count, size=size), *batches))
@@ -178,7 +178,7 @@ def a_large_wrap_that_is_refused_is_refused_in_8_megabytes(program):
 
 @case
 def the_first_line_of_a_wrap_comes_before_its_files_are_read(program):
-    entries = [message(bytes(95))] * 390_000
+    entries = [opaque(95)] * 390_000
     wrap = ("--kind", "wrap", "--size", "8000000", "--count", "4")
     program.good("import", "t", *wrap, stdin=b"".join(entries))
     with program.start("list", "t") as lister:
@@ -191,7 +191,7 @@ def the_first_line_of_a_wrap_comes_before_its_files_are_read(program):
 
 @case
 def each_wrap_is_listed_as_its_entries_are_kept(program):
-    entries = split(b"".join(message(bytes(1 + number % 40)) for number in range(60)))
+    entries = split(b"".join(opaque(1 + number % 40) for number in range(60)))
     for count in (1, 2, 3):
         for size in (0, 50, 99):
             wrap = ("--kind", "wrap", "--size", str(size), "--count", str(count))

@@ -4,7 +4,7 @@ ghost use Rattle.std.specs.Prelude.{◌≡◌, IfOk};
 
 use crate::command::{kept, option};
 use crate::function::{Function, function_in};
-use crate::process::is_process;
+use crate::process::{is_name, is_process};
 use crate::request::Misuse;
 use clap::{ArgAction, ArgMatches, Command, value_parser};
 use std::alloc::{AllocError, Global};
@@ -30,13 +30,13 @@ fn with_only<'a>(alloc: Global, command: Command<'a>) -> Result<Command<'a>, All
         alloc,
         "only",
         "KIND[,KIND..]",
-        "Only entries of these kinds, and drop records",
+        "Only entries of these kinds, and drop records; given again, those of the other kinds too",
     );
     let process = option(
         alloc,
         "pid",
         "PID",
-        "Only what this process did, of the text that a listing has for it, with or without < and >; given again, what the others did too",
+        "Only what this process did: NODE.ID.SERIAL.CREATION or NODE.ID.SERIAL, 0 standing for any NODE, with or without < and >, #Port<..>, or in a trace its registered name; given again, what the others did too",
     );
     let function = option(
         alloc,
@@ -45,7 +45,7 @@ fn with_only<'a>(alloc: Global, command: Command<'a>) -> Result<Command<'a>, All
         "Only calls of these functions, and what they return or raise; given again, those of the others too",
     );
     command
-        .arg(kinds)?
+        .arg(kinds.action(ArgAction::Append))?
         .arg(process.action(ArgAction::Append))?
         .arg(function.action(ArgAction::Append))
 }
@@ -56,7 +56,7 @@ fn with_not<'a>(alloc: Global, command: Command<'a>) -> Result<Command<'a>, Allo
         alloc,
         "not",
         "KIND[,KIND..]",
-        "No entry of these kinds, but for drop records",
+        "No entry of these kinds, but for drop records; may be given again, for more of them",
     );
     let process = option(
         alloc,
@@ -71,7 +71,7 @@ fn with_not<'a>(alloc: Global, command: Command<'a>) -> Result<Command<'a>, Allo
         "No call, return or exception of these functions; may be given again, for more of them",
     );
     command
-        .arg(kinds)?
+        .arg(kinds.action(ArgAction::Append))?
         .arg(process.action(ArgAction::Append))?
         .arg(function.action(ArgAction::Append))
 }
@@ -101,17 +101,36 @@ fn kinds_in<'a>(text: &'a str) -> Result<&'a str, Misuse<'a>>
     Ok(text)
 }
 
-/// The words of the kinds that an option names, where it names some.
-fn kinds_asked<'a>(matches: &ArgMatches<'a>, name: &str) -> Result<Option<&'a str>, Misuse<'a>> {
-    match matches.get_str(name) {
-        None => Ok(None),
-        Some(text) => Ok(Some(kinds_in(text)?)),
+/// Adds words to those that are there, with a comma between.
+fn join(words: &mut String, more: &str) -> Result<(), AllocError> {
+    if !words.is_empty() {
+        words.push(',')?;
     }
+    Ok(words.push_str(more)?)
+}
+
+/// The words of the kinds that an option names, where it names some.
+fn kinds_asked<'a>(
+    alloc: Global,
+    matches: &ArgMatches<'a>,
+    name: &str,
+) -> Result<Option<String>, Misuse<'a>> {
+    let mut words = String::new(alloc);
+    for text in matches.get_strs(name).unwrap_or(&[]) {
+        join(&mut words, kinds_in(text)?)?;
+    }
+    Ok(if words.is_empty() { None } else { Some(words) })
 }
 
 /// A list with one more item.
 fn put<T: Drop>(items: &mut Vec<T>, item: T) -> Result<(), AllocError> {
     Ok(items.push(item)?)
+}
+
+/// Whether a text may name processes. A name can be looked up where there is a trace, and not in a stream, which is read once.
+fn names_process(matches: &ArgMatches<'_>, text: &str) -> bool {
+    let is_trace = matches.get_str("BASE").is_some_and(|base| base != "-");
+    is_process(text) || is_trace && is_name(text)
 }
 
 /// The processes that an option names.
@@ -122,7 +141,7 @@ fn processes_asked<'a>(
 ) -> Result<Vec<String>, Misuse<'a>> {
     let mut processes = Vec::new(alloc);
     for text in matches.get_strs(name).unwrap_or(&[]) {
-        if !is_process(text) {
+        if !names_process(matches, text) {
             return Err(Misuse::Process(text));
         }
         put(&mut processes, String::from_str(alloc, text)?)?;
@@ -162,7 +181,7 @@ fn filter_in<'a>(
     [kinds, pids, functions]: [&str; 3],
 ) -> Result<Filter, Misuse<'a>> {
     Ok(Filter {
-        kinds: kept(alloc, kinds_asked(matches, kinds)?)?,
+        kinds: kinds_asked(alloc, matches, kinds)?,
         pids: processes_asked(alloc, matches, pids)?,
         functions: functions_asked(alloc, matches, functions)?,
     })

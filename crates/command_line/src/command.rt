@@ -221,7 +221,7 @@ fn list<'a>(alloc: Global, command: Command<'a>) -> Result<Command<'a>, AllocErr
     let command = of_files(
         alloc,
         command,
-        "With --from, --to, --only, --pid, --mfa, --not, --not-pid or --not-mfa it shows the entries of which all of these hold, each with its number, and all drop records up to --to.\n\nExample: dbgrec list -p trace",
+        "With --from, --to, --only, --pid, --mfa, --not, --not-pid or --not-mfa it shows the entries of which all of these hold, each with its number, and all drop records up to --to. BASE may be -: then an entry stream is read from standard input.\n\nExample: dbgrec list -p trace",
     )?
     .arg(follow(alloc))?
     .arg(salvage(alloc).conflicts_with("follow")?)?;
@@ -254,7 +254,7 @@ fn export<'a>(alloc: Global, command: Command<'a>) -> Result<Command<'a>, AllocE
     let command = of_files(
         alloc,
         command,
-        "With --from, --to, --only, --pid, --mfa, --not, --not-pid or --not-mfa it writes the entries of which all of these hold, and all drop records up to --to.\n\nExample: dbgrec export trace > trace.out",
+        "With --from, --to, --only, --pid, --mfa, --not, --not-pid or --not-mfa it writes the entries of which all of these hold, and all drop records up to --to. BASE may be -: then an entry stream is read from standard input.\n\nExample: dbgrec export trace > trace.out",
     )?
     .arg(form(alloc))?
     .arg(salvage(alloc).conflicts_with("as")?)?;
@@ -262,11 +262,12 @@ fn export<'a>(alloc: Global, command: Command<'a>) -> Result<Command<'a>, AllocE
 }
 
 fn info<'a>(alloc: Global, command: Command<'a>) -> Result<Command<'a>, AllocError> {
-    of_files(alloc, command, "Example: dbgrec info trace")?.arg(flag(
+    of_files(
         alloc,
-        "json",
-        "As one JSON object",
-    ))
+        command,
+        "BASE may be -: then an entry stream is read from standard input.\n\nExample: dbgrec info trace",
+    )?
+    .arg(flag(alloc, "json", "As one JSON object"))
 }
 
 fn by<'a>(alloc: Global) -> Arg<'a> {
@@ -304,7 +305,7 @@ fn top<'a>(alloc: Global, command: Command<'a>) -> Result<Command<'a>, AllocErro
     let command = of_files(
         alloc,
         command,
-        "Times are those between a call and its return or exception, where messages have time stamps.\n\nExample: dbgrec top trace --sort longest",
+        "Times are those between a call and its return or exception, where messages have time stamps. BASE may be -: then an entry stream is read from standard input.\n\nExample: dbgrec top trace --sort longest",
     )?
     .arg(by(alloc))?
     .arg(sort(alloc))?
@@ -532,7 +533,7 @@ fn shown_in<'a>(alloc: Global, matches: &ArgMatches<'a>) -> Result<Shown, Misuse
     })
 }
 
-/// The listing that is asked for.
+/// The listing of a stored trace that is asked for.
 fn list_in<'a>(matches: &ArgMatches<'a>, is_pretty: bool) -> TraceRequest<'a> {
     let asked = asked_in(matches);
     if matches.get_flag("salvage") {
@@ -603,7 +604,6 @@ fn trace_request_in<'a>(
             wanted: wanted_in(matches)?,
             rules: rules_in(matches)?,
         }),
-        "list" => Some(list_in(matches, is_pretty(matches))),
         "export" => Some(export_in(matches)),
         "info" => Some(TraceRequest::Info {
             asked: asked_in(matches),
@@ -618,25 +618,17 @@ fn trace_request_in<'a>(
     })
 }
 
-/// What is asked of a trace, or of a stream, that is shown to a person.
-fn show_in<'a>(alloc: Global, matches: &ArgMatches<'a>) -> Result<Request<'a>, Misuse<'a>> {
+/// What is listed: a stream, a trace with what is added to it, or what it has now.
+fn listing_of<'a>(matches: &ArgMatches<'a>, is_pretty: bool, shown: Shown) -> Request<'a> {
     let asked = asked_in(matches);
-    let is_stream = asked.base == "-";
-    let follows = matches.get_flag("follow") && !is_stream;
-    let shown = Shown {
-        is_json: true,
-        choice: choice_in(alloc, matches)?,
-        is_plain: false,
-        layout: Some(layout_in(alloc, matches, follows)?),
-    };
-    let is_pretty = true;
-    Ok(if is_stream {
+    if asked.is_input() {
+        let longest = DEFAULT_LONGEST;
         Request::Stream {
             is_pretty,
-            longest: DEFAULT_LONGEST,
+            longest,
             shown,
         }
-    } else if follows {
+    } else if matches.get_flag("follow") {
         Request::Follow {
             asked,
             is_pretty,
@@ -645,7 +637,19 @@ fn show_in<'a>(alloc: Global, matches: &ArgMatches<'a>) -> Result<Request<'a>, M
     } else {
         let request = list_in(matches, is_pretty);
         Request::Listing { request, shown }
-    })
+    }
+}
+
+/// What is asked of a trace, or of a stream, that is shown to a person.
+fn show_in<'a>(alloc: Global, matches: &ArgMatches<'a>) -> Result<Request<'a>, Misuse<'a>> {
+    let follows = matches.get_flag("follow") && !asked_in(matches).is_input();
+    let shown = Shown {
+        is_json: true,
+        choice: choice_in(alloc, matches)?,
+        is_plain: false,
+        layout: Some(layout_in(alloc, matches, follows)?),
+    };
+    Ok(listing_of(matches, true, shown))
 }
 
 /// What the words that were found ask for.
@@ -656,18 +660,11 @@ fn request_in<'a>(alloc: Global, matches: &ArgMatches<'a>) -> Result<Request<'a>
     if name == "show" {
         return show_in(alloc, matches);
     }
-    if name == "list" && matches.get_flag("follow") {
-        return Ok(Request::Follow {
-            asked: asked_in(matches),
-            is_pretty: is_pretty(matches),
-            shown: shown_in(alloc, matches)?,
-        });
+    if name == "list" {
+        let shown = shown_in(alloc, matches)?;
+        return Ok(listing_of(matches, is_pretty(matches), shown));
     }
     Ok(match trace_request_in(name, matches)? {
-        Some(request) if name == "list" => Request::Listing {
-            request,
-            shown: shown_in(alloc, matches)?,
-        },
         Some(request) => Request::OfTrace {
             request,
             shown: Shown::of(choice_in(alloc, matches)?),

@@ -29,8 +29,12 @@ pub enum Moment {
     OfDay(i64),
     /// Since the beginning of 1970.
     Dated(i64),
-    /// By a monotonic clock.
+    /// By a monotonic clock, as a node tells it.
     Monotonic(i64),
+    /// Since the first message that is shown where no moment is asked for.
+    SinceFirst(i64),
+    /// Before now, by the clock of the machine.
+    Ago(i64),
 }
 
 /// How a listing is laid out for a person.

@@ -35,7 +35,7 @@ fn with_sizes<'a>(alloc: Global, command: Command<'a>) -> Result<Command<'a>, Al
         alloc,
         "width",
         "N",
-        "Cuts rows at so many columns [default: on a terminal COLUMNS, or 80]",
+        "Cuts rows at so many columns [default: on a terminal COLUMNS, where it is set]",
     )
     .value_parser(value_parser!(u32).range(1..));
     let bytes = option(
@@ -58,9 +58,12 @@ fn with_filters<'a>(alloc: Global, command: Command<'a>) -> Result<Command<'a>, 
             alloc,
             "since",
             "TIME",
-            "Shows messages from this time on: HH:MM:SS, YYYY-MM-DDTHH:MM:SS, or seconds of a monotonic clock",
+            "Shows messages from this time on: HH:MM:SS, YYYY-MM-DDTHH:MM:SS, seconds since the first message as rows show them, or so long before now, as -5s, -5m or -2h",
+        )
+        .allow_hyphen_values(true))?
+        .arg(option(alloc, "until", "TIME", "Shows messages up to this time").allow_hyphen_values(
+            true,
         ))?
-        .arg(option(alloc, "until", "TIME", "Shows messages up to this time"))?
         .arg(option(
             alloc,
             "grep",

@@ -105,27 +105,73 @@ fn day_in(text: &str) -> Option<i64> {
     None
 }
 
-/// The moment that a text names: HH:MM:SS of each day, YYYY-MM-DDTHH:MM:SS, or seconds of a monotonic clock, each with digits
-/// behind a point or without. None where it names none.
-pub fn moment_in(text: &str) -> Option<Moment> {
-    if let Some((day, time)) = text.split_once('T') {
-        let seconds = day_in(day)?.checked_mul(DAY)?;
-        let nanos = seconds.checked_mul(SECOND)?;
-        return Some(Moment::Dated(nanos.checked_add(time_of_day(time)?)?));
+/// The units of a time that is told back from now, in seconds.
+const UNITS: [(char, i64); 4] = [('s', 1), ('m', 60), ('h', 3_600), ('d', DAY)];
+
+/// The nanoseconds of seconds, minutes, hours or days, as `1.5h`. None where no unit ends the text.
+fn length_in(text: &str) -> Option<i64> {
+    for (sign, seconds) in UNITS {
+        if let Some(number) = text.strip_suffix(sign) {
+            return nanos_in(number)?.checked_mul(seconds);
+        }
     }
-    if text.contains(':') {
-        return Some(Moment::OfDay(time_of_day(text)?));
-    }
-    let (is_negative, text) = match text.strip_prefix('-') {
-        Some(rest) => (true, rest),
-        None => (false, text),
-    };
+    None
+}
+
+/// The nanoseconds of a number of seconds of at most ten digits, which may have more behind a point.
+fn nanos_in(text: &str) -> Option<i64> {
     let (seconds, nanos) = seconds_in(text, 10)?;
-    let nanos = seconds.checked_mul(SECOND)?.checked_add(nanos)?;
-    let nanos = if is_negative {
-        nanos.checked_neg()?
-    } else {
-        nanos
-    };
-    Some(Moment::Monotonic(nanos))
+    seconds.checked_mul(SECOND)?.checked_add(nanos)
+}
+
+/// HH:MM:SS of each day, or YYYY-MM-DDTHH:MM:SS.
+fn dated_in(text: &str) -> Option<Moment> {
+    match text.split_once('T') {
+        Some((day, time)) => {
+            let nanos = day_in(day)?.checked_mul(DAY)?.checked_mul(SECOND)?;
+            Some(Moment::Dated(nanos.checked_add(time_of_day(time)?)?))
+        }
+        None => Some(Moment::OfDay(time_of_day(text)?)),
+    }
+}
+
+/// A length before now; or seconds before the first message, which have a point, as rows do: what has none is rather meant to
+/// be a length.
+fn before_in(text: &str) -> Option<Moment> {
+    if let Some(length) = length_in(text) {
+        return Some(Moment::Ago(length));
+    }
+    if !text.contains('.') {
+        return None;
+    }
+    Some(Moment::SinceFirst(nanos_in(text)?.checked_neg()?))
+}
+
+/// Seconds since the first message, with a sign or without.
+fn seconds_since(text: &str) -> Option<Moment> {
+    Some(Moment::SinceFirst(nanos_in(text.strip_prefix('+').unwrap_or(text))?))
+}
+
+/// The nanoseconds of a monotonic time stamp, as a listing has them: they have more digits than seconds may have.
+fn stamp_in(text: &str) -> Option<Moment> {
+    let digits = text.strip_prefix('-').unwrap_or(text);
+    if digits.len() > 10 && digits.bytes().all(|byte| byte.is_ascii_digit()) {
+        return Some(Moment::Monotonic(text.parse::<i64>().ok()?));
+    }
+    None
+}
+
+/// The moment that a text names: HH:MM:SS of each day, YYYY-MM-DDTHH:MM:SS, seconds since the first message, each with digits
+/// behind a point or without, a length before now as -5s, or a monotonic time stamp. None where it names none.
+pub fn moment_in(text: &str) -> Option<Moment> {
+    if text.contains(':') {
+        return dated_in(text);
+    }
+    if let Some(stamp) = stamp_in(text) {
+        return Some(stamp);
+    }
+    match text.strip_prefix('-') {
+        Some(text) => before_in(text),
+        None => seconds_since(text),
+    }
 }

@@ -19,25 +19,44 @@ fn bare(text: &str) -> &str {
     }
 }
 
-/// The node of a process: what stands before the three numbers.
-fn node_of(text: &str) -> Option<&str> {
-    without_number(without_number(without_number(bare(text))?)?)
-}
-
 /// Whether all signs of a text may stand in an atom without quotes.
 fn is_plain(text: &str) -> bool {
     text.bytes().all(|byte| byte.is_ascii_alphanumeric() || byte == b'_' || byte == b'@')
 }
 
-/// Whether a listing may show a node by this text.
-fn is_node(text: &str) -> bool {
+/// Whether a text is an atom: it stands in quotes, or needs none.
+fn is_atom(text: &str) -> bool {
     match text.as_bytes().first() {
         Some(first) => is_quoted(text) || first.is_ascii_lowercase() && is_plain(text),
         None => false,
     }
 }
 
-/// Whether a listing may show a process, or a port, by this text.
+/// Whether a text is the name of a node whose quotes are left out.
+fn is_node_name(text: &str) -> bool {
+    let is_sign = |byte: u8| byte.is_ascii_alphanumeric() || b"_@-.".contains(&byte);
+    text.contains('@') && !text.starts_with('@') && text.bytes().all(is_sign)
+}
+
+/// Whether a listing may show a node by this text, with or without quotes.
+fn is_node(text: &str) -> bool {
+    is_atom(text) || is_node_name(text)
+}
+
+/// Whether a text is NODE.ID.SERIAL, as `process` has it, or NODE.ID.SERIAL.CREATION; a node calls itself 0.
+fn has_numbers(text: &str) -> bool {
+    let Some(rest) = without_number(text).and_then(|rest| without_number(rest)) else {
+        return false;
+    };
+    rest == "0" || is_node(rest) || without_number(rest).is_some_and(|node| is_node(node))
+}
+
+/// Whether a text may name processes, or a port: by the numbers that a listing or a node's shell shows.
 pub fn is_process(text: &str) -> bool {
-    text.starts_with("#Port<") || node_of(text).is_some_and(|node| is_node(node))
+    text.starts_with("#Port<") || has_numbers(bare(text))
+}
+
+/// Whether a text may be the name that a process is registered under: an atom.
+pub fn is_name(text: &str) -> bool {
+    is_atom(text)
 }

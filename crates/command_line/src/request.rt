@@ -1,4 +1,6 @@
 //! What a command line asks for.
+ghost use Rattle.std.specs.Prelude.{◌↔◌, IsTrue};
+ghost use Rattle.command_line.specs.Inputs.{IsInput};
 
 use crate::layout::Layout;
 use crate::ranking::Ranking;
@@ -21,6 +23,15 @@ pub struct Asked<'a> {
     pub suffix: Option<&'a str>,
     /// The runs that a wrap keeps.
     pub count: Option<u16>,
+}
+
+impl Asked<'_> {
+    /// Whether it is an entry stream from standard input, and no trace.
+    pub fn is_input(&self) -> bool
+        ensures { IsTrue result ↔ IsInput self.now }
+    {
+        self.base == "-"
+    }
 }
 
 /// What a command line asks of a trace that is made where there is none.

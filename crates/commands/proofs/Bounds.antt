@@ -55,3 +55,16 @@ readings_at_most before mid now j m few had made = omega (arith, few, had, made,
 pub most_so : {T : Type 0} (result : Result T Complaint) (image : Image) (before now most : ℕ) → now ≤ before + most → now ≤ before + most_with result most image
 most_so (Ok done) image before now most had = had
 most_so (Err complaint) image before now most had = omega (arith, had)
+
+-- of two readings, where the first failed
+pub once_of_two : (before now most tell : ℕ) → now ≤ before + (most + tell) → now ≤ before + (2 * most + tell)
+once_of_two before now most tell had = omega (arith, had)
+
+-- where the second one did
+pub both_of_two : (before mid now most tell : ℕ) → mid ≤ before + most → now ≤ mid + (most + tell) → now ≤ before + (2 * most + tell)
+both_of_two before mid now most tell first second = omega (arith, first, second)
+
+-- where neither did
+pub most_of_two : {T : Type 0} (result : Result T Complaint) (image : Image) (before mid now most : ℕ) → mid ≤ before + most → now ≤ mid + most → now ≤ before + most_with result (2 * most) image
+most_of_two (Ok done) image before mid now most first second = omega (arith, first, second)
+most_of_two (Err complaint) image before mid now most first second = omega (arith, first, second)

@@ -1,6 +1,6 @@
 -- The entries whose bytes an export is.
 use Rattle.std.proofs.Common.{◌≡◌, ◌++◌, ◌∷◌, ◌+◌, ◌∙◌, ℕ, zero, suc, Bool, true, false, Option, List, [], length, drop, refl, sym, ap, subst, arith, get_or}
-use Rattle.std.specs.Prelude.{if◌then◌else◌}
+use Rattle.std.specs.Prelude.{◌==◌, if◌then◌else◌}
 use Rattle.std.proofs.lemmas.List.{append-nil}
 use Rattle.std.specs.List.{AllByRecursion}
 use Rattle.entry_codec.specs.Entries.{Entry, Message, Drop, IsLawful, spelling, bytes_of, joined}
@@ -69,17 +69,30 @@ lawful_fits : (e : Entry) → IsLawful e → FitsHead e
 lawful_fits (Message bytes) lawful = omega (arith, lawful)
 lawful_fits (Drop count) lawful = lawful.1
 
+-- what stands before that of others: one entry, or nothing
+pub data IsOneMore : List ℕ → Type 0 where
+  entry : (e : Entry) → FitsHead e → IsOneMore (spelling e)
+  nothing : IsOneMore []
+
+lost_is : (is_first : Bool) → IsOneMore (if is_first then spelling (Drop 1) else [])
+lost_is true = entry (Drop 1) (omega arith)
+lost_is false = nothing
+
 -- what stands for one fits, and what is behind it is lawful
-begin_fits : (w : Whole) (entries rest : List Entry) → AllByRecursion IsLawful entries → Begins longest_message w entries rest → FitsHead (streamed w) × AllByRecursion IsLawful rest
-begin_fits (Single entry) entries rest lawful b = let a = subst (AllByRecursion IsLawful) b.0 lawful in (lawful_fits entry a.0, a.1)
-begin_fits (Long message) entries rest lawful b = (omega (arith, b.0.1), all_behind IsLawful (split message) rest (subst (AllByRecursion IsLawful) b.1 lawful))
-begin_fits (Part part of size entry) entries rest lawful b = (omega arith, (subst (AllByRecursion IsLawful) b.0 lawful).1)
+begin_fits : (w : Whole) (entries rest : List Entry) → AllByRecursion IsLawful entries → Begins longest_message w entries rest → IsOneMore (streamed w) × AllByRecursion IsLawful rest
+begin_fits (Single e) entries rest lawful b = let a = subst (AllByRecursion IsLawful) b.0 lawful in (entry e (lawful_fits e a.0), a.1)
+begin_fits (Long message) entries rest lawful b =
+    (entry (Message message) (omega (arith, b.0.1)), all_behind IsLawful (split message) rest (subst (AllByRecursion IsLawful) b.1 lawful))
+begin_fits (Part part of size e) entries rest lawful b = (lost_is (part == 1), (subst (AllByRecursion IsLawful) b.0 lawful).1)
 
 -- what stands for one, if it is asked for, stands before that of others
-one_more : (chosen : Bool) (w : Whole) (first behind : List ℕ) → first ≡ (if chosen then spelling (streamed w) else []) → FitsHead (streamed w) → AreIn behind → AreIn (first ++ behind)
-one_more true w first behind is fits rest =
-    record { entries = streamed w ∷ rest.entries; fit = (fits, rest.fit); is = ap (λ (l : List ℕ). l ++ behind) is ∙ ap (λ (l : List ℕ). spelling (streamed w) ++ l) rest.is }
-one_more false w first behind is fits rest = record { entries = rest.entries; fit = rest.fit; is = ap (λ (l : List ℕ). l ++ behind) is ∙ rest.is }
+behind_one : (own behind : List ℕ) → IsOneMore own → AreIn behind → AreIn (own ++ behind)
+behind_one _ behind (entry e fits) rest = record { entries = e ∷ rest.entries; fit = (fits, rest.fit); is = ap (λ (l : List ℕ). spelling e ++ l) rest.is }
+behind_one _ behind nothing rest = rest
+
+one_more : (chosen : Bool) (w : Whole) (first behind : List ℕ) → first ≡ (if chosen then streamed w else []) → IsOneMore (streamed w) → AreIn behind → AreIn (first ++ behind)
+one_more true w first behind is own rest = subst AreIn (ap (λ (l : List ℕ). l ++ behind) (sym is)) (behind_one (streamed w) behind own rest)
+one_more false w first behind is own rest = subst AreIn (ap (λ (l : List ℕ). l ++ behind) (sym is)) rest
 
 -- so does what is written of several
 texts_in : (asks : Option Asks) (n : ℕ) (entries : List Entry) (ws : List Whole) (text : List ℕ) → AllByRecursion IsLawful entries → Joined longest_message entries ws → AreTexts (as_bytes asks) n ws text → AreIn text

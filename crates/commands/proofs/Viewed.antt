@@ -1,17 +1,20 @@
 -- A trace that is counted.
-use Rattle.std.proofs.Common.{◌≡◌, ◌∙◌, ℕ, Bool, true, false, Option, List, [], Some, None, ap, refl, subst, sym, inl, inr}
+use Rattle.std.proofs.Common.{◌≡◌, ◌≤◌, ◌+◌, ◌*◌, ◌∙◌, ◌++◌, ◌∷◌, ℕ, Bool, true, false, Option, List, [], Some, None, ap, refl, subst, sym, inl, inr}
 use Rattle.std.specs.Prelude.{ℤ, Result, Ok, Err, OnOk, IfErr, IsOk, IsTrue}
 use Rattle.std.specs.Io.KnownBytes.{Appends, Keeps}
 use Rattle.std.proofs.KnownBytes.{Appends-kept}
+use Rattle.std.proofs.lemmas.List.{append-nil}
 use Rattle.command_line.specs.declared.ranking.Ranking.{Ranking}
 use Rattle.entry_codec.specs.Entries.{Entry, bytes_of}
 use Rattle.trace_store.specs.Disk.{Image, AreBytes}
 use Rattle.stores.specs.CallLaws.{images_are_bytes, reads_may_stay}
 use Rattle.stores.specs.EventLaws.{sound_events}
 use Rattle.stores.specs.Events.{files_after}
-use Rattle.stores.specs.FolderStore.{honest_of, reads_of, clock_of, past_of}
+use Rattle.segment.proofs.Taking.{reads_both}
+use Rattle.stores.specs.FolderStore.{honest_of, reads_of, images_of, moments_of, clock_of, past_of}
 use Rattle.stores.specs.declared.folder_store.FolderStore.{FolderStore}
 use Rattle.trace_text.specs.Choosing.{Asks}
+use Rattle.trace_client.proofs.Greatest.{bytes_of-append}
 use Rattle.trace_client.specs.Forms.{as_bytes}
 use Rattle.foreign_files.specs.Standing.{IsStanding}
 use Rattle.foreign_files.specs.declared.standing.Standing.TheVariants as standings
@@ -20,6 +23,8 @@ use Rattle.trace_summary.specs.Counting.{tellings}
 use Rattle.trace_summary.specs.Drawings.{ending}
 use Rattle.trace_summary.specs.Stacks.{AreOrdered, calls_at, calls_of, lines_of}
 use Rattle.trace_summary.specs.Streams.{FitHeads, IsWhyStopped, stream_contents, why_stopped}
+use Rattle.trace_summary.specs.Taking.{in_two_looks}
+use Rattle.trace_summary.proofs.TakenLemmas.{first_look, looks-append, second_look}
 use Rattle.trace_summary.specs.TableObjects.{WritesTable}
 use Rattle.trace_summary.specs.Tallies.{IsCounted}
 use Rattle.trace_summary.specs.declared.stacks.Stacks.{Stacks}
@@ -30,12 +35,14 @@ use Rattle.trace_reader.specs.Listings.{WritesStore}
 use Rattle.trace_reader.specs.Reading.{IsWhyNotRead}
 use Rattle.faults.specs.declared.complaint.Complaint.{Complaint}
 use Rattle.script_runner.specs.declared.fault.SimFault.{SimFault}
-use Rattle.commands.specs.Files.{LooksOver}
-use Rattle.commands.specs.Live.{ReadsTrace, most_to_read}
+use Rattle.commands.specs.Files.{LooksOver, most_to_tell}
+use Rattle.commands.specs.Live.{ReadsTrace, ReadsTwice, most_to_read}
+use Rattle.commands.specs.Naming.{IsToldAt}
 use Rattle.commands.specs.Telling.{IsOfWriter}
-use Rattle.commands.proofs.Bounds.{most_so}
+use Rattle.trace_lookup.specs.declared.place.Place.{Place}
+use Rattle.commands.proofs.Bounds.{both_of_two, most_of_two, most_so, once_of_two}
 use Rattle.commands.proofs.Exported.{entries_of_export}
-use Rattle.commands.specs.Viewing.{AreExported, EndsDrawing, IsFullView, IsNotShown, IsReadInto, IsShownBy, ShowsStacks, ShowsTable, TellsStop, no_memory, not_shown, not_written, refused, shown, too_many}
+use Rattle.commands.specs.Viewing.{AreExported, EndsDrawing, HasSeen, IsFullView, IsNotShown, IsReadInto, IsShownBy, IsViewed, ShowsStacks, ShowsTable, TellsStop, no_memory, not_shown, not_written, refused, shown, too_many}
 use Rattle.commands.specs.declared.live.ReadFailure.{ReadFailure}
 
 -- a trace was written whole, or why it wasn't
@@ -49,18 +56,44 @@ bytes_read store h =
     let past = past_of store in
     images_are_bytes (files_after past) (reads_of store) (reads_may_stay (files_after past) (sound_events past.world past.count past.events h.0))
 
--- a view that had seen nothing was given an export
-pub exported : (asks : Option Asks) (image : Image) (first : List Entry) (held : List ℕ) (seen : List Entry) (pending : List ℕ) (taken : List Entry) → AreBytes image → first ≡ [] → held ≡ [] → IsStanding standings.Ours image
+fit_both : (xs ys : List Entry) → FitHeads xs → FitHeads ys → FitHeads (xs ++ ys)
+fit_both [] ys a b = b
+fit_both (x ∷ xs) ys a b = (a.0, fit_both xs ys a.1 b)
+
+-- a view that had seen some entries was given an export
+pub exported : (asks : Option Asks) (image : Image) (first : List Entry) (held : List ℕ) (seen : List Entry) (pending : List ℕ) (taken : List Entry) → AreBytes image → FitHeads first → held ≡ [] → IsStanding standings.Ours image
     → ((text : List ℕ) × WritesStore (as_bytes asks) image text × Appends (stream_contents first held) (stream_contents seen pending) text)
-    → ((entries : List Entry) → FitHeads entries → stream_contents seen pending ≡ Some (bytes_of entries) → taken ≡ entries) → AreExported asks image taken
-exported asks image first held seen pending taken bytes none empty there wrote are =
-    let behind = subst (λ (l : List ℕ). Appends (stream_contents [] l) (stream_contents seen pending) wrote.0) empty (subst (λ (l : List Entry). Appends (stream_contents l held) (stream_contents seen pending) wrote.0) none wrote.2) in
+    → ((entries : List Entry) → FitHeads entries → stream_contents seen pending ≡ Some (bytes_of entries) → taken ≡ entries) → HasSeen asks image first taken
+exported asks image first held seen pending taken bytes fit empty there wrote are =
+    let behind = subst (λ (l : List ℕ). Appends (stream_contents first l) (stream_contents seen pending) wrote.0) empty wrote.2 in
     let export = entries_of_export asks image wrote.0 bytes wrote.1 in
-    let same : taken ≡ export.entries = are export.entries export.fit (ap Some (behind ∙ export.is)) in
-    record {
-      there = there;
-      writes = subst (λ (l : List ℕ). WritesStore (as_bytes asks) image l) (export.is ∙ ap bytes_of (sym same)) wrote.1;
-    }
+    let all : bytes_of seen ++ pending ≡ bytes_of (first ++ export.entries) =
+    behind ∙ ap (λ (l : List ℕ). l ++ wrote.0) (append-nil (bytes_of first)) ∙ ap (λ (l : List ℕ). bytes_of first ++ l) export.is ∙ sym (bytes_of-append first export.entries) in (
+      export.entries,
+      are (first ++ export.entries) (fit_both first export.entries fit export.fit) (ap Some all),
+      record { there = there; writes = subst (λ (l : List ℕ). WritesStore (as_bytes asks) image l) export.is wrote.1 },
+    )
+
+-- what a reading came to, for one that had seen nothing
+pub none_before : {V : Type 0} (old new : FolderStore) (asks : Option Asks) (before : List Entry) (seen : V → List Entry) (failed : V → Option ViewFault) (Told : SimFault → Complaint → Type 0) (base : List ℕ) (image : Image) (result : Result V Complaint) → before ≡ []
+    → ReadsTrace old new result (IsViewed asks before seen failed Told base image result) → ReadsTrace old new result (IsViewed asks [] seen failed Told base image result)
+none_before old new asks before seen failed Told base image result none was = subst (λ (l : List Entry). ReadsTrace old new result (IsViewed asks l seen failed Told base image result)) none was
+
+-- one that had seen nothing has seen all
+pub all_seen : (asks : Option Asks) (image : Image) (before seen : List Entry) → before ≡ [] → HasSeen asks image before seen → AreExported asks image seen
+all_seen asks image before seen none has = subst (λ (l : List Entry). AreExported asks image l) (sym (has.1 ∙ ap (λ (l : List Entry). l ++ has.0) none)) has.2
+
+-- of files that were found again as they were
+pub exported_again : (asks : Option Asks) (before image : Image) (taken : List Entry) → image ≡ before → AreExported asks image taken → AreExported asks before taken
+exported_again asks before image taken is are = subst (λ (i : Image). AreExported asks i taken) is are
+
+-- of two looks, each has seen all
+pub looks_seen : (asks : Option Asks) (image again : Image) (first before after : List Entry) → again ≡ image → AreExported asks image first → HasSeen asks again (in_two_looks first []) (in_two_looks before after) → AreExported asks image before × AreExported asks image after
+looks_seen asks image again first before after same are has =
+    let is : in_two_looks before after ≡ in_two_looks first has.0 = has.1 ∙ sym (looks-append first [] has.0) in (
+      subst (λ (l : List Entry). AreExported asks image l) (sym (first_look before first after has.0 is)) are,
+      subst (λ (l : List Entry). AreExported asks image l) (sym (second_look before first after has.0 is)) (exported_again asks image again has.0 same has.2),
+    )
 
 -- a view that hasn't failed gives no fault but that there was no memory
 failed_by : (failed : Option ViewFault) → IsWhyStopped failed views.TooMany → failed ≡ Some views.TooMany
@@ -87,12 +120,21 @@ stopped failed Told base image view views.TooMany complaint why told = elim told
 ]
 stopped failed Told base image view views.Write complaint why told = not_written told
 
--- it is told, whichever view failed
+-- it is told, where another view may have failed too
+pub of_another : {Full All : Type 0} (Told : SimFault → Complaint → Type 0) (base : List ℕ) (image : Image) (complaint : Complaint) → (Full → All) → IsNotShown Full Told base image complaint → IsNotShown All Told base image complaint
+of_another Told base image complaint more (refused fault why_not told) = refused fault why_not told
+of_another Told base image complaint more (too_many full rows) = too_many (more full) rows
+of_another Told base image complaint more (no_memory memory) = no_memory memory
+of_another Told base image complaint more (not_written writer) = not_written writer
+
+-- whichever view failed
 pub whichever : {Full : Type 0} (Told : SimFault → Complaint → Type 0) (base : List ℕ) (image : Image) (complaint : Complaint) → IsNotShown Full Told base image complaint → IsNotShown Unit Told base image complaint
-whichever Told base image complaint (refused fault why_not told) = refused fault why_not told
-whichever Told base image complaint (too_many full rows) = too_many tt rows
-whichever Told base image complaint (no_memory memory) = no_memory memory
-whichever Told base image complaint (not_written writer) = not_written writer
+whichever Told base image complaint why = of_another Told base image complaint (λ full. tt) why
+
+-- the same of files that were found again as they were
+pub found_again : {Full : Type 0} (was now : Place) (store : FolderStore) (before image : Image) (complaint : Complaint) → now ≡ was → image ≡ before → IsNotShown Full (IsToldAt now store) now.base.now image complaint → IsNotShown Full (IsToldAt was store) was.base.now before complaint
+found_again {Full} was now store before image complaint same is why =
+    subst (λ (i : Image). IsNotShown Full (IsToldAt was store) was.base.now i complaint) is (subst (λ (place : Place). IsNotShown Full (IsToldAt place store) place.base.now image complaint) same why)
 
 -- what is told of it tells something else
 pub tells_on : {A B : Type 0} (old new : FolderStore) (most : ℕ) → LooksOver old new most A → (A → B) → LooksOver old new most B
@@ -104,6 +146,37 @@ reads_on old new result looks more = record {
   only_reads = looks.only_reads;
   at_most = λ h. most_so result (reads_of old) (clock_of old) (clock_of new) (most_to_read (reads_of old)) (looks.at_most h);
   told = λ h. more (looks.told h);
+}
+
+-- a first reading failed
+pub reads_once : {A B : Type 0} (old new : FolderStore) → LooksOver old new (most_to_read (reads_of old) + most_to_tell (reads_of old)) A → (A → B) → LooksOver old new (2 * most_to_read (reads_of old) + most_to_tell (reads_of old)) B
+reads_once old new looks more = record {
+  only_reads = looks.only_reads;
+  at_most = λ h. once_of_two (clock_of old) (clock_of new) (most_to_read (reads_of old)) (most_to_tell (reads_of old)) (looks.at_most h);
+  told = λ h. more (looks.told h);
+}
+
+-- one that ended well was made, and then another failed
+pub reads_again : {A B C : Type 0} (old mid new : FolderStore) → LooksOver old mid (most_to_read (reads_of old)) A → LooksOver mid new (most_to_read (reads_of mid) + most_to_tell (reads_of mid)) B → (reads_of mid ≡ reads_of old → A → B → C)
+    → LooksOver old new (2 * most_to_read (reads_of old) + most_to_tell (reads_of old)) C
+reads_again old mid new was looks more = record {
+  only_reads = reads_both honest_of clock_of reads_of images_of moments_of old mid new was.only_reads looks.only_reads;
+  at_most = λ h.
+      let behind = looks.only_reads.was_honest h in
+      both_of_two (clock_of old) (clock_of mid) (clock_of new) (most_to_read (reads_of old)) (most_to_tell (reads_of old)) (was.at_most behind)
+      (subst (λ (image : Image). clock_of new ≤ clock_of mid + (most_to_read image + most_to_tell image)) (was.only_reads.same_reads behind) (looks.at_most h));
+  told = λ h. let behind = looks.only_reads.was_honest h in more (was.only_reads.same_reads behind) (was.told behind) (looks.told h);
+}
+
+-- both ended well, however that which followed did
+pub reads_twice : {A B C U : Type 0} (old mid new : FolderStore) (result : Result U Complaint) → LooksOver old mid (most_to_read (reads_of old)) A → LooksOver mid new (most_to_read (reads_of mid)) B → (reads_of mid ≡ reads_of old → A → B → C) → ReadsTwice old new result C
+reads_twice old mid new result was looks more = record {
+  only_reads = reads_both honest_of clock_of reads_of images_of moments_of old mid new was.only_reads looks.only_reads;
+  at_most = λ h.
+      let behind = looks.only_reads.was_honest h in
+      most_of_two result (reads_of old) (clock_of old) (clock_of mid) (clock_of new) (most_to_read (reads_of old)) (was.at_most behind)
+      (subst (λ (image : Image). clock_of new ≤ clock_of mid + most_to_read image) (was.only_reads.same_reads behind) (looks.at_most h));
+  told = λ h. let behind = looks.only_reads.was_honest h in more (was.only_reads.same_reads behind) (was.told behind) (looks.told h);
 }
 
 -- what was written of the entries was written out, or it couldn't be
@@ -124,10 +197,10 @@ table_so ranking is_json was mid now entries tallies (Ok done) counted told kept
 table_so ranking is_json was mid now entries tallies (Err fault) counted told kept = tt
 
 -- stacks were
-pub stacks_so : {E : Type 0} (was mid now : Option (List ℕ)) (entries : List Entry) (counted : Stacks) (written : Result Unit E) → OnOk written ((text : List ℕ) → calls_at counted.rows.rows text ≡ calls_of text (acts_in entries)) → OnOk written (AreOrdered counted.rows.rows)
-    → OnOk written (Appends was mid (lines_of counted.is_timed counted.rows.rows.entries)) → Keeps mid now → OnOk written (ShowsStacks was now entries)
-stacks_so was mid now entries counted (Ok done) calls ordered lines kept = record { stacks = counted; calls = calls; ordered = ordered; lines = Appends-kept was mid now _ lines kept }
-stacks_so was mid now entries counted (Err fault) calls ordered lines kept = tt
+pub stacks_so : {E : Type 0} (asks : Option Asks) (image : Image) (was mid now : Option (List ℕ)) (before entries : List Entry) (counted : Stacks) (written : Result Unit E) → AreExported asks image before → OnOk written ((text : List ℕ) → calls_at counted.rows.rows text ≡ calls_of text (acts_in before) (acts_in entries)) → OnOk written (AreOrdered counted.rows.rows)
+    → OnOk written (Appends was mid (lines_of counted.is_timed counted.rows.rows.entries)) → Keeps mid now → OnOk written (ShowsStacks asks image was now entries)
+stacks_so asks image was mid now before entries counted (Ok done) looked calls ordered lines kept = record { stacks = counted; before = before; looked = looked; calls = calls; ordered = ordered; lines = Appends-kept was mid now _ lines kept }
+stacks_so asks image was mid now before entries counted (Err fault) looked calls ordered lines kept = tt
 
 -- what stands behind events was
 pub drawing_so : {E : Type 0} (events mid now : Option (List ℕ)) (first : Option ℤ) (bytes : List ℕ) (written : Result Unit E) → bytes ≡ ending first → OnOk written (Appends events mid bytes) → Keeps mid now → OnOk written (EndsDrawing now)

@@ -51,9 +51,9 @@ use Rattle.commands.specs.Naming.{IsToldAt}
 use Rattle.commands.specs.Informing.{most_to_inform, IsInfo}
 use Rattle.commands.specs.Viewing.{IsDrawn, IsFold, IsTop}
 use Rattle.commands.specs.Salvaging.{most_to_salvage, IsSalvage}
-use Rattle.commands.specs.Live.{ReadsTrace}
+use Rattle.commands.specs.Live.{ReadsTrace, ReadsTwice}
 use Rattle.commands.specs.Files.{most_to_tell, CallsToOpen, CallsToClear, CallsToTryClearing, CallsToLook, CallsToEnd, OnlyLooks, LooksWell, LooksBehind, LooksOver, MayFail, WasRecorded, IsKeptOf}
-use Rattle.commands.specs.Importing.{import_fault, WasFed}
+use Rattle.commands.specs.Importing.{import_fault, IsNoStream, WasFed}
 use Rattle.import.specs.Incoming.{Outside, outside}
 use Rattle.import.specs.Beginning.{Begins, EndsWithin, IsUnread}
 use Rattle.import.specs.declared.incoming.Incoming.{Incoming}
@@ -148,6 +148,9 @@ pub data Feeds (place : Place) (spec : Spec) (rules : Rules) (old new : FolderSt
       → LooksBehind fault mid new → observed ≡ then.observed → Keeps was now → IsToldAt place new fault complaint → Feeds place spec rules old new saw observed was now (Err complaint)
   -- no byte came
   nothing_came : {then : Outside} → EndsWithin rules.skip saw then → LooksOver old new (2 * length (reads_of old)) (HasNoForeign (reads_of old)) → observed ≡ then.observed → Keeps was now → Feeds place spec rules old new saw observed was now (Ok tt)
+  -- what came first begins with no entry, and no trace was there: none is made
+  no_stream : {then : Outside} {incoming : Incoming} (complaint : Complaint) (begins : Begins rules.skip rules.longest saw then incoming) → IsNoStream rules.skip rules.longest 0 begins.chunk complaint
+      → LooksOver old new (2 * length (reads_of old)) (IsStanding standings.Absent (reads_of old)) → observed ≡ then.observed → Keeps was now → Feeds place spec rules old new saw observed was now (Err complaint)
   -- the first byte couldn't be had
   failure : {then : Outside} (fault : ImportFault) (complaint : Complaint) → IsUnread rules.skip saw then fault → LooksOver old new (2 * length (reads_of old) + most_to_tell (reads_of old)) (HasNoForeign (reads_of old)) → observed ≡ then.observed → Keeps was now → IsToldAt place new (import_fault fault) complaint
       → Feeds place spec rules old new saw observed was now (Err complaint)
@@ -210,10 +213,10 @@ Serves (requests.Salvage asked form) shown old new saw observed was now result =
     × LooksOver old.store new.store (most_to_salvage (reads_of old.store)) (IfErr result (IsSalvage out (IsToldAt old.place new.store) (Rose (failures_of old.store) (failures_of new.store)) (reads_of old.store) was now)) × IsErr result × IfErr result (λ complaint. status_told complaint ≡ 1)
 Serves (requests.Info asked is_json) shown old new saw observed was now result = LooksOver old.store new.store (most_to_inform result (reads_of old.store)) (IsInfo (IsToldAt old.place new.store) (reads_of old.store) result) × IfErr result (λ complaint. status_told complaint ≡ 1)
 Serves (requests.Fold asked) shown old new saw observed was now result =
-    ReadsTrace old.store new.store result (IsFold (asks_shown shown) (IsToldAt old.place new.store) old.place.base.now (reads_of old.store) was now result)
+    ReadsTwice old.store new.store result (IsFold (asks_shown shown) (IsToldAt old.place new.store) old.place.base.now (reads_of old.store) was now result)
     × IfErr result (λ complaint. status_told complaint ≡ 1)
 Serves (requests.Draw asked) shown old new saw observed was now result =
-    ReadsTrace old.store new.store result (IsDrawn (asks_shown shown) (IsToldAt old.place new.store) old.place.base.now (reads_of old.store) now result)
+    ReadsTwice old.store new.store result (IsDrawn (asks_shown shown) (IsToldAt old.place new.store) old.place.base.now (reads_of old.store) now result)
     × IfErr result (λ complaint. status_told complaint ≡ 1)
 Serves (requests.Top asked ranking is_json) shown old new saw observed was now result =
     ReadsTrace old.store new.store result (IsTop (asks_shown shown) ranking is_json (IsToldAt old.place new.store) old.place.base.now (reads_of old.store) was now result)

@@ -9,7 +9,7 @@ use Rattle.trace_port.specs.contracts.pending.PendingRoom.TheImpl as pending
 use Rattle.wrap_port.specs.WrapOpened.{wrap_opened_told}
 use Rattle.wrap_port.specs.WrapPort.{wrap_told}
 use Rattle.command_line.specs.declared.request.Rules.{Rules}
-use Rattle.import.specs.Incoming.{Outside}
+use Rattle.import.specs.Incoming.{Outside, IsFaultAt}
 use Rattle.import.specs.Importing.{WasImported}
 use Rattle.import.specs.declared.import.Closed.{Closed}
 use Rattle.import.specs.declared.import.Closed.TheVariants.{Sealed, Kept, Left}
@@ -17,6 +17,9 @@ use Rattle.import.specs.declared.import.Imported.{Imported}
 use Rattle.import.specs.declared.incoming.Incoming.{Incoming}
 use Rattle.import.specs.declared.fault.ImportFault.{ImportFault}
 use Rattle.import.specs.declared.fault.ImportFault.TheVariants as importing
+use Rattle.faults.specs.Kept.{fault_past}
+use Rattle.faults.specs.declared.complaint.Complaint.{Complaint}
+use Rattle.commands.specs.Naming.{IsFaultAlone}
 use Rattle.script_runner.specs.Answers.{opened_answer}
 use Rattle.script_runner.specs.PortOpenings.{first_told}
 use Rattle.script_runner.specs.Texts.{line_of}
@@ -35,12 +38,19 @@ import_fault importing.NoMemory = faults.NoMemory
 import_fault (importing.Truncated place) = faults.Truncated place
 import_fault (importing.BadOp place) = faults.BadOp place
 import_fault (importing.ZeroDrop place) = faults.ZeroDrop place
+import_fault (importing.BadMessage place) = faults.BadMessage place
 import_fault (importing.Refused fault) = faults.Refused (refusals.Port fault)
 
 -- the same of how it ended
 abbrev pub import_done : Result Unit ImportFault → Result Unit SimFault
 import_done (Ok done) = Ok done
 import_done (Err fault) = Err (import_fault fault)
+
+-- what came first, past so many bytes, begins with no entry that a node writes, and that is told
+pub record IsNoStream (skip longest place : ℕ) (part : List ℕ) (complaint : Complaint) : Type 0 where
+  pub fault : ImportFault
+  pub is : IsFaultAt longest fault place part
+  pub told : IsFaultAlone (fault_past skip (import_fault fault)) complaint
 
 -- what is told last, of a trace with so many entries: nothing where it was left as it is
 abbrev pub closed_text : Closed → ℕ → List ℕ

@@ -37,6 +37,10 @@ most_to_read image = if nat_lt 1 (length image) then most_of_several image else 
 abbrev pub ReadsTrace : {T : Type 0} → FolderStore → FolderStore → Result T Complaint → Type 0 → Type 0
 ReadsTrace old new result Told = LooksOver old new (most_with result (most_to_read (reads_of old)) (reads_of old)) Told
 
+-- the same of one that is read twice
+abbrev pub ReadsTwice : {T : Type 0} → FolderStore → FolderStore → Result T Complaint → Type 0 → Type 0
+ReadsTwice old new result Told = LooksOver old new (most_with result (2 * most_to_read (reads_of old)) (reads_of old)) Told
+
 -- files that change while they are read may be why a trace is refused
 abbrev pub MayHaveChanged : ReadFault → Type 0
 MayHaveChanged (faults.Refused (causes.Damaged file place)) = Unit {0}

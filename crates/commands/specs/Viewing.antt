@@ -1,5 +1,5 @@
 -- A trace whose entries are looked at, and counted.
-use Rattle.std.specs.Prelude.{◌≡◌, ◌⊎◌, ℕ, ℤ, Bool, IsTrue, Option, Some, None, List, Result, Ok, Err}
+use Rattle.std.specs.Prelude.{◌≡◌, ◌⊎◌, ◌++◌, ℕ, ℤ, Bool, IsTrue, Option, Some, None, List, Result, Ok, Err}
 use Rattle.std.specs.Io.KnownBytes.{Appends, Keeps}
 use Rattle.std.specs.String.{string_bytes}
 use Rattle.command_line.specs.declared.ranking.Ranking.{Ranking}
@@ -15,6 +15,7 @@ use Rattle.trace_summary.specs.Acts.{acts_in}
 use Rattle.trace_summary.specs.Drawings.{ending}
 use Rattle.trace_summary.specs.Stacks.{AreOrdered, calls_at, calls_of, lines_of}
 use Rattle.trace_summary.specs.TableObjects.{WritesTable}
+use Rattle.trace_summary.specs.declared.ends_seen.EndsSeen.{EndsSeen}
 use Rattle.trace_summary.specs.declared.folded.Folded.{Folded}
 use Rattle.trace_summary.specs.declared.stacks.Stacks.{Stacks}
 use Rattle.trace_summary.specs.declared.tallies.Tallies.{Tallies}
@@ -63,10 +64,14 @@ pub data IsNotShown (Full : Type 0) (Told : SimFault → Complaint → Type 0) (
   no_memory : IsOfMemory complaint → IsNotShown Full Told base image complaint
   not_written : IsOfWriter complaint → IsNotShown Full Told base image complaint
 
--- what a reading came to: a view that hasn't failed has seen all entries that an export has; or what is told
-abbrev pub IsViewed : {V : Type 0} → Option Asks → (V → List Entry) → (V → Option ViewFault) → (SimFault → Complaint → Type 0) → List ℕ → Image → Result V Complaint → Type 0
-IsViewed asks seen failed Told base image (Ok view) = AreExported asks image (seen view) × (failed view ≡ None)
-IsViewed asks seen failed Told base image (Err complaint) = IsNotShown (IsFullView failed) Told base image complaint
+-- a view has seen all entries that an export has, behind those that it had seen before
+abbrev pub HasSeen : Option Asks → Image → List Entry → List Entry → Type 0
+HasSeen asks image before seen = (entries : List Entry) × (seen ≡ before ++ entries) × AreExported asks image entries
+
+-- what a reading came to, for a view that had seen these: it hasn't failed, and has seen the others; or what is told
+abbrev pub IsViewed : {V : Type 0} → Option Asks → List Entry → (V → List Entry) → (V → Option ViewFault) → (SimFault → Complaint → Type 0) → List ℕ → Image → Result V Complaint → Type 0
+IsViewed asks before seen failed Told base image (Ok view) = HasSeen asks image before (seen view) × (failed view ≡ None)
+IsViewed asks before seen failed Told base image (Err complaint) = IsNotShown (IsFullView failed) Told base image complaint
 
 -- how a command ended that shows a trace so: all entries that an export of it has, of those that are asked for, were seen and are shown; or it isn't shown, and where no writer failed, this is left
 pub data IsShownBy (Shows : List Entry → Type 0) (Full Left : Type 0) (asks : Option Asks) (Told : SimFault → Complaint → Type 0) (base : List ℕ) (image : Image) : Result Unit Complaint → Type 0 where
@@ -79,10 +84,19 @@ pub record ShowsTable (ranking : Ranking) (is_json : Bool) (was now : Option (Li
   pub counted : IsCounted tallies (tellings entries)
   pub told : IsTrue is_json → WritesTable ranking (tellings entries) was now
 
--- the lines of stacks of calls were written, in the order of their texts: each was counted as often as the entries say that it was called
-pub record ShowsStacks (was now : Option (List ℕ)) (entries : List Entry) : Type 0 where
+-- what a first look at which functions tell their ends has seen, and why it takes no more
+abbrev pub ends_seen : EndsSeen → List Entry
+ends_seen seen = seen.taken.entries
+
+abbrev pub ends_failed : EndsSeen → Option ViewFault
+ends_failed seen = seen.fault
+
+-- the lines of stacks of calls were written, in the order of their texts: each was counted as often as the entries say that it was called, where those of a first look, which an export has too, told which functions tell their ends
+pub record ShowsStacks (asks : Option Asks) (image : Image) (was now : Option (List ℕ)) (entries : List Entry) : Type 0 where
   pub stacks : Stacks
-  pub calls : (text : List ℕ) → calls_at stacks.rows.rows text ≡ calls_of text (acts_in entries)
+  pub before : List Entry
+  pub looked : AreExported asks image before
+  pub calls : (text : List ℕ) → calls_at stacks.rows.rows text ≡ calls_of text (acts_in before) (acts_in entries)
   pub ordered : AreOrdered stacks.rows.rows
   pub lines : Appends was now (lines_of stacks.is_timed stacks.rows.rows.entries)
 
@@ -96,7 +110,7 @@ IsTop asks ranking is_json Told base image was now result = IsShownBy (ShowsTabl
 
 -- the same of stacks of calls
 abbrev pub IsFold : Option Asks → (SimFault → Complaint → Type 0) → List ℕ → Image → Option (List ℕ) → Option (List ℕ) → Result Unit Complaint → Type 0
-IsFold asks Told base image was now result = IsShownBy (ShowsStacks was now) (IsFullView (λ (folded : Folded). folded.fault)) (Keeps was now) asks Told base image result
+IsFold asks Told base image was now result = IsShownBy (ShowsStacks asks image was now) (IsFullView ends_failed ⊎ IsFullView (λ (folded : Folded). folded.fault)) (Keeps was now) asks Told base image result
 
 -- the same of events, of which some may be written whatever comes
 abbrev pub IsDrawn : Option Asks → (SimFault → Complaint → Type 0) → List ℕ → Image → Option (List ℕ) → Result Unit Complaint → Type 0

@@ -42,19 +42,20 @@ fn is_to_begin(rt: &HostRuntime, place: &Place<'_>) -> Result<bool, AllocError> 
     Ok(in_the_way(rt, name.as_str())?.is_none() && is_blank(rt, place)? && is_own(rt, place)?)
 }
 
-/// Waits until a trace is begun, or something else stands where it is asked for. Standard error says that it waits.
+/// Waits until a trace is begun, or something else stands where it is asked for. Standard error says that it waits. Answers
+/// whether it did.
 pub fn await_trace<R: Wait>(
     rt: &HostRuntime,
     waiter: &R,
     asked: &Asked<'_>,
-) -> Result<(), Complaint>
+) -> Result<bool, Complaint>
     ensures { IfErr result (λ complaint. status_told complaint ≡ 1) }
 {
     let mut is_told = false;
     for _ in waiter.forever() {
         let found = find(*rt, *asked)?;
         if !is_to_begin(rt, &Place::of(asked, &found))? {
-            return Ok(());
+            return Ok(is_told);
         }
         if !is_told {
             let name = Shown(asked.base);

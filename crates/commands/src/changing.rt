@@ -1,12 +1,13 @@
 //! The files of a trace, changed. Nothing here reaches a file but by the store that it has.
-ghost use Rattle.std.specs.Prelude.{◌≡◌, ◌≢◌, ℕ, List, ◌+◌, ◌*◌, ◌≤◌, length, Err, IfOk, IfErr, IfSome, OnOk, true};
+ghost use Rattle.std.specs.Prelude.{◌≡◌, ◌≢◌, ℕ, List, ◌+◌, ◌*◌, ◌≤◌, length, Err, IfOk, IfErr, IfSome, OnOk, true, false};
 ghost use Rattle.std.specs.Io.KnownBytes.{Appends};
 ghost use Rattle.segment.specs.Specification.{Spec};
 ghost use Rattle.trace_port.specs.Limits.{greatest_limit};
 ghost use Rattle.trace_store.specs.{Disk.Image, Moments.Rose, Moments.LeavesOnly, Device.device_of};
 ghost use Rattle.stores.specs.FolderStore.{honest_of, reads_of, images_of, moments_of, clock_of, failures_of};
 ghost use Rattle.recovery.specs.Stores.{readings, IsBlank};
-ghost use Rattle.foreign_files.specs.{Clearing.AreCleared, Clearing.IsClearing, Clearing.HasNoForeign};
+ghost use Rattle.foreign_files.specs.{Clearing.AreCleared, Clearing.IsClearing, Clearing.HasNoForeign, Standing.IsStanding};
+ghost use Rattle.foreign_files.specs.declared.standing.Standing.TheVariants as standings;
 ghost use Rattle.trace_reader.specs.Wiping.{HasForeign, IsWhyNotWiped, IsNotToWipe};
 ghost use Rattle.trace_reader.specs.declared.fault.WipeFault.TheVariants as wiping;
 ghost use Rattle.script_runner.specs.{Faults.IsFaultOfDevice, Read.first_lines, PortOpenings.first_told, PortOpenings.FitsStore, PortOpenings.GoesOnOrBegins};
@@ -67,8 +68,10 @@ impl Files<'_> {
         wipe_trace(&mut self.store, clearing)
     }
 
-    /// Looks whether each of its files is one that a trace may leave.
-    pub fn check_own(&mut self) -> Result<(), SimFault>
+    /// Looks whether each of its files is one that a trace may leave, and answers whether one has a byte.
+    pub fn check_own(&mut self) -> Result<bool, SimFault>
+        ensures absent { honest_of self.new.store → IfOk result (λ is_there. is_there ≡ false
+            → IsStanding standings.Absent (reads_of self.old.store)) }
         ensures ours { honest_of self.new.store
             → OnOk result (HasNoForeign (reads_of self.old.store)) }
         ensures why_not { honest_of self.new.store

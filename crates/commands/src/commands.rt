@@ -17,7 +17,7 @@ ghost use Rattle.script_runner.specs.Texts.{line_of};
 ghost use Rattle.script_runner.specs.declared.answer.Answer.TheVariants.{Done};
 
 use crate::files::Files;
-use crate::importing::fault_of_import;
+use crate::importing::{check_begun, fault_of_import};
 use crate::informing::info;
 use crate::live::read_live;
 use crate::salvaging::salvage;
@@ -258,7 +258,8 @@ fn record<R: Read + Drop, W: Write, H: Host>(
     }
 }
 
-/// Records an entry stream, from its first byte on. Where none comes, or a file isn't a trace's, nothing is done.
+/// Records an entry stream, from its first byte on. Where none comes, or a file isn't a trace's, nothing is done; nor where no
+/// entry begins it, and no trace is there.
 fn import<R: Read + Drop, W: Write, H: Host>(
     files: &mut Files<'_>,
     asked: &Wanted<'_>,
@@ -272,9 +273,10 @@ fn import<R: Read + Drop, W: Write, H: Host>(
         (H.observed watched.new.host.now) (W.contents watched.old.writer.now)
         (W.contents watched.new.writer.now) result }
 {
-    if let Err(fault) = files.check_own() {
-        return Err(files.explained(fault, Stage::Opening));
-    }
+    let is_there = match files.check_own() {
+        Ok(is_there) => is_there,
+        Err(fault) => return Err(files.explained(fault, Stage::Opening)),
+    };
     let mut stream = Stream::over(input);
     match begin(
         files.alloc(),
@@ -283,9 +285,12 @@ fn import<R: Read + Drop, W: Write, H: Host>(
         &mut stream,
         &mut *watched.host,
     ) {
-        Ok(Some(mut incoming)) => { feed(files, asked, rules, &mut incoming, &mut stream, watched) }
+        Ok(Some(mut incoming)) => {
+            check_begun(is_there, &incoming, rules.skip)?;
+            feed(files, asked, rules, &mut incoming, &mut stream, watched)
+        }
         Ok(None) => {
-            files.tell_nothing_came();
+            files.tell_nothing_came(rules.ending);
             Ok(())
         }
         Err(fault) => Err(files.explained(fault_of_import(fault), Stage::Opening)),

@@ -1,14 +1,15 @@
 //! An import into the real files of a trace, and what it tells.
-ghost use Rattle.std.specs.Prelude.{◌≡◌, ℕ, List, OnOk, OnErr, IfErr};
+ghost use Rattle.std.specs.Prelude.{◌≡◌, ℕ, List, OnOk, OnErr, IfErr, false};
 ghost use Rattle.std.specs.Io.KnownBytes.{Appends};
 ghost use Rattle.trace_store.specs.Device.{device_of};
 ghost use Rattle.trace_client.specs.Output.{AppendsPrefix};
 ghost use Rattle.script_runner.specs.PortOpenings.{first_told, FitsStore};
 ghost use Rattle.script_runner.specs.declared.fault.SimFault.TheVariants as faults;
-ghost use Rattle.import.specs.{Incoming.Outside, Incoming.outside, Beginning.HasCome};
-ghost use Rattle.commands.specs.Importing.{import_fault, import_done, closed_text, WasPut, WasFed};
+ghost use Rattle.import.specs.{Incoming.Outside, Incoming.outside, Parts.IsPart, Beginning.HasCome};
+ghost use Rattle.commands.specs.Importing.{import_fault, import_done, closed_text, IsNoStream, WasPut, WasFed};
 
 use command_line::Rules;
+use faults::{Complaint, fault_in_input};
 use import::{Closed, ImportFault, Imported, Incoming, Plan, Source, import_file, import_wrap};
 use script_runner::{Answer, Answers, AnyOpening, Origin, Refusal, SimFault};
 use std::io::Write;
@@ -34,7 +35,27 @@ pub fn fault_of_import(fault: ImportFault) -> SimFault
         ImportFault::Truncated { place } => SimFault::Truncated { place },
         ImportFault::BadOp { place } => SimFault::BadOp { place },
         ImportFault::ZeroDrop { place } => SimFault::ZeroDrop { place },
+        ImportFault::BadMessage { place } => SimFault::BadMessage { place },
         ImportFault::Refused(refusal) => SimFault::Refused(Refusal::Port(refusal)),
+    }
+}
+
+/// Ok where a trace is there, or an entry may begin what has come first; else what is told where no trace is made of it, so many
+/// bytes of whose input were passed over before.
+pub fn check_begun(is_there: bool, incoming: &Incoming, skipped: u64) -> Result<(), Complaint>
+    ensures absent { IfErr result (λ _complaint. is_there ≡ false) }
+    ensures told { IfErr result (λ complaint. (part : List ℕ) → IsPart incoming.now part
+        → IsNoStream skipped incoming.now.longest incoming.now.place part complaint) }
+{
+    if is_there {
+        return Ok(());
+    }
+    match incoming.check_front() {
+        Ok(()) => Ok(()),
+        Err(fault) => {
+            let told = fault_in_input(fault_of_import(fault), skipped);
+            Err(Complaint::of_stream(told))
+        }
     }
 }
 

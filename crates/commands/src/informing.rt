@@ -71,7 +71,8 @@ fn doing_of(info: &Info) -> Stage {
     if info.is_written {
         Stage::ReadingAgain
     } else {
-        Stage::Counting(info.before_damage())
+        let (before, elsewhere) = info.around_damage();
+        Stage::Counting { before, elsewhere }
     }
 }
 

@@ -32,6 +32,7 @@ mod sites;
 mod stage;
 mod state;
 mod streaming;
+mod unshown;
 mod viewing;
 
 pub use commands::{serve_stream, serve_trace};

@@ -13,6 +13,7 @@ use crate::files::Files;
 use crate::following::serve_following;
 use crate::later::{NearEnd, entries_for, last_of, near_end, shown_as_asked, shows_new};
 use crate::sites::files_for;
+use crate::unshown::tell_unshown;
 use command_line::{Asked, Shown, TraceRequest};
 use faults::Complaint;
 use shown_listings::{Console, Listable, Output, console_for, show, show_from, taken};
@@ -43,6 +44,8 @@ struct TraceListing<'a> {
     console: Console,
     /// Its end is told to a terminal.
     is_told: bool,
+    /// It was waited for: what is there is new.
+    is_new: bool,
 }
 
 /// Does it, and writes what comes of it.
@@ -117,10 +120,19 @@ impl<'a> Listable for TraceListing<'a> {
             mut files,
             console,
             is_told,
+            is_new: _,
         } = self;
         let (done, observed) = do_over(waiter, task, shown, &mut files, console, input, output);
         tell_end(&files, is_told, &done);
         (done, Served { files, observed })
+    }
+
+    fn is_new(&self) -> bool {
+        self.is_new
+    }
+
+    fn tell_unshown(rt: &HostRuntime, left: &Served<'a>, shown: &Shown) {
+        tell_unshown(rt, &left.files, shown);
     }
 }
 
@@ -164,6 +176,7 @@ fn listing_of<'a>(
         files,
         console,
         is_told,
+        is_new: false,
     }
 }
 
@@ -268,19 +281,20 @@ pub fn list_files<'a, R: Wait, I: Read + Drop, W: Output>(
     (done, Some(left))
 }
 
-/// The files of a trace that is to be followed, once it is begun.
+/// The files of a trace that is to be followed, once it is begun, and whether it was waited for.
 fn files_to_follow<'a, R: Wait>(
     rt: &HostRuntime,
     waiter: &R,
     asked: &Asked<'_>,
     request: &TraceRequest<'a>,
-) -> Result<Files<'a>, Complaint>
+) -> Result<(Files<'a>, bool), Complaint>
     ghost world: { World }
-    ensures made { IfOk result (AreMade world request.now) }
+    ensures made { IfOk result (λ files. AreMade world request.now files.0) }
     ensures refused { IfErr result (λ complaint. status_told complaint ≡ 1) }
 {
-    await_trace(rt, waiter, asked)?;
-    files_for(rt, request)
+    let was_awaited = await_trace(rt, waiter, asked)?;
+    let files = files_for(rt, request)?;
+    Ok((files, was_awaited))
 }
 
 /// Whether rows were shown, and their listing ended well.
@@ -319,16 +333,21 @@ fn last_shown<'a, R: Wait>(
     (files, shown_as_asked(near.later, near.start))
 }
 
-/// What is shown of a trace that is followed: from near the end on, where what comes before that isn't shown.
+/// What is shown of a trace that is followed: from near the end on, where what comes before that isn't shown. All is shown of
+/// one that was waited for.
 fn shown_of<'a, R: Wait>(
     rt: &HostRuntime,
     waiter: &R,
     request: TraceRequest<'a>,
     files: Files<'a>,
     shown: Shown,
+    was_awaited: bool,
 ) -> (Files<'a>, Shown)
     ensures { IsShownOf request.entry files.entry result.0 shown result.1 }
 {
+    if was_awaited {
+        return (files, shown);
+    }
     if let Some(last) = last_of(&request, &shown) {
         return last_shown(rt, waiter, request, last, files, shown);
     }
@@ -358,16 +377,17 @@ pub fn follow_files<'a, R: Wait, I: Read + Drop, W: Output>(
         (W.contents output.new) result.0 result.1 }
 {
     let request = TraceRequest::List { asked, is_pretty };
-    let files = match files_to_follow(rt, waiter, &asked, &request) {
-        Ok(files) => files,
+    let (files, was_awaited) = match files_to_follow(rt, waiter, &asked, &request) {
+        Ok(found) => found,
         Err(complaint) => return (Err(complaint), None),
     };
-    let (files, shown) = shown_of(rt, waiter, request, files, shown);
+    let (files, shown) = shown_of(rt, waiter, request, files, shown, was_awaited);
     let listing = TraceListing {
         task: Task::Followed { is_pretty },
         files,
         console: Console::new(*rt, true),
         is_told: false,
+        is_new: was_awaited,
     };
     let (done, left) = show(rt, waiter, listing, shown, input, output);
     (done, Some(left))

@@ -7,8 +7,9 @@ ghost use Rattle.commands.specs.{Commands.IsFree, Commands.IsLocked, Serving.Are
 
 use crate::crowded::check_room;
 use crate::files::Files;
-use command_line::{Asked, TraceRequest, Wanted};
-use faults::{Complaint, FAILED_DISK, tell_idle, tell_idle_on_file};
+use crate::state::is_closed;
+use command_line::{Asked, Form, TraceRequest, Wanted};
+use faults::{Complaint, FAILED_DISK, tell_idle, tell_idle_on_file, wrap_around};
 use std::alloc::Global;
 use trace_lookup::{Found, Place, find};
 
@@ -21,7 +22,7 @@ pub fn files_for<'a>(rt: &HostRuntime, request: &TraceRequest<'a>) -> Result<Fil
 {
     match request {
         TraceRequest::Record(wanted) | TraceRequest::Import { wanted, rules: _ } => {
-            files_to_write(rt, wanted)
+            files_to_write(rt, wanted, request)
         }
         TraceRequest::List {
             asked,
@@ -36,12 +37,51 @@ pub fn files_for<'a>(rt: &HostRuntime, request: &TraceRequest<'a>) -> Result<Fil
             asked,
             ranking: _,
             is_json: _,
-        } => files_to_read(rt, *asked),
+        } => files_to_read(rt, *asked, request),
         TraceRequest::Wipe {
             asked,
             is_forced: _,
         } => files_to_wipe(rt, *asked),
     }
+}
+
+/// The command that does what is asked.
+fn command_of(request: &TraceRequest<'_>) -> &'static str {
+    match request {
+        TraceRequest::Record(_) => "record",
+        TraceRequest::Import { .. } => "import",
+        TraceRequest::List { .. } => "list",
+        TraceRequest::Export(_) | TraceRequest::Fold(_) | TraceRequest::Draw(_) => "export",
+        TraceRequest::Salvage { asked: _, form } => match form {
+            Form::Lines { is_pretty: _ } => "list",
+            Form::Stream => "export",
+        },
+        TraceRequest::Info { .. } => "info",
+        TraceRequest::Top { .. } => "top",
+        TraceRequest::Wipe { .. } => "wipe",
+    }
+}
+
+/// Refuses a closed file that is one of a wrap, which the wrap takes in its turn.
+fn check_alone(
+    rt: &HostRuntime,
+    name: &str,
+    found: &Found,
+    request: &TraceRequest<'_>,
+) -> Result<(), Complaint>
+    ensures { IfErr result (λ complaint. status_told complaint ≡ 1) }
+{
+    if !matches!(found, Found::File) || !is_closed(rt, name).unwrap_or(false) {
+        return Ok(());
+    }
+    let advice = wrap_around(rt, name, command_of(request))?;
+    if advice.is_none() {
+        return Ok(());
+    }
+    Err(Complaint::Absent {
+        name: String::from_str(rt.alloc(), name)?,
+        advice,
+    })
 }
 
 /// Refuses a count of the command line that isn't what the files say.
@@ -76,12 +116,17 @@ fn found_to_read(rt: &HostRuntime, asked: Asked<'_>) -> Result<Found, Complaint>
 }
 
 /// A trace to be read. Where a sync of it failed, standard error says so.
-fn files_to_read<'a>(rt: &HostRuntime, asked: Asked<'a>) -> Result<Files<'a>, Complaint>
+fn files_to_read<'a>(
+    rt: &HostRuntime,
+    asked: Asked<'a>,
+    request: &TraceRequest<'_>,
+) -> Result<Files<'a>, Complaint>
     ghost world: { World }
     ensures files { HasFiles (IsFree world) asked.entry result }
     ensures agrees { IfOk result (λ files. AgreesOn asked.entry files.found) }
 {
     let found = found_to_read(rt, asked)?;
+    check_alone(rt, asked.base, &found, request)?;
     let files = Files::at(*rt, asked, found)?;
     if files.has_failed()? {
         let _ = eprintln!(rt; "dbgrec: {FAILED_DISK}");
@@ -101,12 +146,17 @@ fn files_to_wipe<'a>(rt: &HostRuntime, asked: Asked<'a>) -> Result<Files<'a>, Co
 }
 
 /// A trace to be written. It is refused where a sync failed before, unless the command line says otherwise.
-fn files_to_write<'a>(rt: &HostRuntime, wanted: &Wanted<'a>) -> Result<Files<'a>, Complaint>
+fn files_to_write<'a>(
+    rt: &HostRuntime,
+    wanted: &Wanted<'a>,
+    request: &TraceRequest<'_>,
+) -> Result<Files<'a>, Complaint>
     ghost world: { World }
     ensures files { HasFiles (IsLocked world) wanted.now.asked result }
 {
     let asked = wanted.asked;
     let found = find(*rt, asked)?;
+    check_alone(rt, asked.base, &found, request)?;
     let place = Place::of(&asked, &found);
     check_room(rt, &place)?;
     tell_idle(rt, wanted, place.kind);

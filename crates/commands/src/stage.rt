@@ -7,8 +7,8 @@ pub enum Stage {
     Listing { entries: u64, shown: u64 },
     /// So many entries are written.
     Exporting(u64),
-    /// So many entries are counted.
-    Counting(u64),
+    /// So many entries are counted before a damage in its file, and so many in other files.
+    Counting { before: u64, elsewhere: u64 },
     /// Its entries are looked at by this command, and none is written.
     Viewing(&'static str),
     /// It was read again, since another process writes it.
@@ -23,7 +23,7 @@ impl Stage {
     pub fn command(self) -> &'static str {
         match self {
             Stage::Exporting(_) => "export",
-            Stage::Counting(_) => "info",
+            Stage::Counting { .. } => "info",
             Stage::Viewing(command) => command,
             Stage::Opening | Stage::Importing => "import",
             Stage::Listing { .. } | Stage::ReadingAgain | Stage::Other => "list",

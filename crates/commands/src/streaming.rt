@@ -39,4 +39,15 @@ impl Listable for StreamListing {
         };
         (serve_stream(self.alloc, style, input, output), ())
     }
+
+    fn is_new(&self) -> bool {
+        false
+    }
+
+    /// What came can't be read again. It is told to a person alone.
+    fn tell_unshown(rt: &HostRuntime, _left: &(), shown: &Shown) {
+        if shown.layout.is_some() {
+            let _ = eprintln!(rt; "dbgrec: no message is shown of those that came");
+        }
+    }
 }

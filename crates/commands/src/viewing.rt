@@ -1,10 +1,11 @@
 //! The entries of a trace are looked at, those that are asked for, and what their messages tell is counted.
-ghost use Rattle.std.specs.Prelude.{◌≡◌, [], IfErr, IsOk, OnOk};
+ghost use Rattle.std.specs.Prelude.{◌≡◌, [], IfErr, IfOk, IsOk, None, OnOk};
 ghost use Rattle.std.specs.Io.KnownBytes.{Keeps};
 ghost use Rattle.stores.specs.FolderStore.{reads_of};
 ghost use Rattle.trace_text.specs.Chooses.{asks_where};
 ghost use Rattle.faults.specs.Complaints.{status_told};
-ghost use Rattle.commands.specs.{Files.LooksOver, Live.ReadsTrace, Live.most_to_read, Naming.IsToldAt, Telling.IsOfWriter, Viewing.IsDrawn, Viewing.IsFold, Viewing.IsReadInto, Viewing.IsTop, Viewing.IsViewed, Viewing.TellsStop};
+ghost use Rattle.trace_summary.specs.Streams.{FitHeads};
+ghost use Rattle.commands.specs.{Files.LooksOver, Live.ReadsTrace, Live.ReadsTwice, Live.most_to_read, Naming.IsToldAt, Telling.IsOfWriter, Viewing.IsDrawn, Viewing.IsFold, Viewing.IsReadInto, Viewing.IsTop, Viewing.IsViewed, Viewing.TellsStop, Viewing.ends_failed, Viewing.ends_seen};
 
 use crate::commands::written_out;
 use crate::files::Files;
@@ -17,7 +18,7 @@ use script_runner::SimFault;
 use std::io::{self, Write};
 use std::mem;
 use trace_reader::{Host, OutputForm, Watched};
-use trace_summary::{Folded, Perfetto, StreamView, Top, View, ViewFault};
+use trace_summary::{EndsSeen, Folded, Perfetto, StreamView, Top, View, ViewFault};
 use trace_text::Choice;
 
 /// Reads a trace into a writer, as an export writes it.
@@ -52,8 +53,8 @@ fn stopped(files: &Files<'_>, fault: ViewFault) -> Complaint
     }
 }
 
-/// Reads a trace, and hands its entries to a view that has seen none; the other one takes its place meanwhile. Where the view
-/// hasn't taken all, what is told of that, by the command of this name.
+/// Reads a trace, and hands its entries to a view; the other one takes its place meanwhile. Where the view hasn't taken all, what
+/// is told of that, by the command of this name.
 fn look_at<V: View + Drop, H: Host>(
     files: &mut Files<'_>,
     choice: Option<&Choice>,
@@ -62,12 +63,14 @@ fn look_at<V: View + Drop, H: Host>(
     host: &mut H,
     command: &'static str,
 ) -> Result<V, Complaint>
-    requires none { V.seen view ≡ [] }
-    requires other { V.seen other ≡ [] }
+    requires fits { FitHeads (V.seen view) }
+    requires other { FitHeads (V.seen other) }
     ensures viewed { ReadsTrace files.old.store files.new.store result
-        (IsViewed (asks_where choice.entry) V.seen V.failed
+        (IsViewed (asks_where choice.entry) (V.seen view) V.seen V.failed
         (IsToldAt files.old.place files.new.store)
         files.old.place.base.now (reads_of files.old.store) result) }
+    ensures fits { IfOk result (λ looked. FitHeads (V.seen looked)) }
+    ensures goes_on { IfOk result (λ looked. V.failed looked ≡ None) }
     ensures status { IfErr result (λ complaint. status_told complaint ≡ 1) }
     ensures place { OnOk result (files.new.place ≡ files.old.place) }
 {
@@ -125,13 +128,33 @@ pub fn top<W: Write, H: Host>(
     }
 }
 
-/// Counts the stacks of calls of a trace, and writes a line for each.
+/// Reads a trace for the functions that tell their ends.
+fn see_ends<H: Host>(
+    files: &mut Files<'_>,
+    choice: Option<&Choice>,
+    host: &mut H,
+) -> Result<EndsSeen, Complaint>
+    ensures viewed { ReadsTrace files.old.store files.new.store result
+        (IsViewed (asks_where choice.entry) [] ends_seen ends_failed
+        (IsToldAt files.old.place files.new.store)
+        files.old.place.base.now (reads_of files.old.store) result) }
+    ensures fits { IfOk result (λ seen. FitHeads seen.taken.entries) }
+    ensures goes_on { IfOk result (λ seen. seen.fault ≡ None) }
+    ensures status { IfErr result (λ complaint. status_told complaint ≡ 1) }
+    ensures place { OnOk result (files.new.place ≡ files.old.place) }
+{
+    let alloc = files.alloc();
+    let (view, other) = (EndsSeen::new(alloc), EndsSeen::new(alloc));
+    look_at(files, choice, view, other, host, "export")
+}
+
+/// Counts the stacks of calls of a trace, and writes a line for each. A first reading finds the functions that tell their ends.
 pub fn fold<W: Write, H: Host>(
     files: &mut Files<'_>,
     choice: Option<&Choice>,
     watched: &mut Watched<'_, W, H>,
 ) -> Result<(), Complaint>
-    ensures ended { ReadsTrace files.old.store files.new.store result
+    ensures ended { ReadsTwice files.old.store files.new.store result
         (IsFold (asks_where choice.entry) (IsToldAt files.old.place files.new.store)
         files.old.place.base.now (reads_of files.old.store)
         (W.contents watched.old.writer.now)
@@ -139,26 +162,30 @@ pub fn fold<W: Write, H: Host>(
     ensures status { IfErr result (λ complaint. status_told complaint ≡ 1) }
 {
     let (alloc, host) = (files.alloc(), &mut *watched.host);
-    let (view, other) = (Folded::new(alloc), Folded::new(alloc));
+    let seen = see_ends(files, choice, host)?;
+    let view = Folded::new(alloc, seen);
+    let other = Folded::new(alloc, EndsSeen::new(alloc));
     let folded = look_at(files, choice, view, other, host, "export")?;
     write_out(folded.write(&mut *watched.writer), &mut *watched.writer)
 }
 
-/// Writes events for what the entries of a trace tell. Where no time is told, standard error says how there are some.
+/// Writes events for what the entries of a trace tell, after a first reading for the functions that tell their ends. Where no
+/// time is told, standard error says how there are some.
 pub fn draw<W: Write, H: Host>(
     files: &mut Files<'_>,
     choice: Option<&Choice>,
     watched: &mut Watched<'_, W, H>,
 ) -> Result<(), Complaint>
-    ensures ended { ReadsTrace files.old.store files.new.store result
+    ensures ended { ReadsTwice files.old.store files.new.store result
         (IsDrawn (asks_where choice.entry) (IsToldAt files.old.place files.new.store)
         files.old.place.base.now (reads_of files.old.store)
         (W.contents watched.new.writer.now) result) }
     ensures status { IfErr result (λ complaint. status_told complaint ≡ 1) }
 {
     let (alloc, host) = (files.alloc(), &mut *watched.host);
-    let view = Perfetto::new(alloc, Some(&mut *watched.writer));
-    let other = Perfetto::new(alloc, None);
+    let seen = see_ends(files, choice, host)?;
+    let view = Perfetto::new(alloc, Some(&mut *watched.writer), seen);
+    let other = Perfetto::new(alloc, None, EndsSeen::new(alloc));
     let mut drawn = look_at(files, choice, view, other, host, "export")?;
     let ended = drawn.end();
     drop(drawn);

@@ -1,25 +1,40 @@
 -- An entry stream that comes in.
-use Rattle.std.specs.Prelude.{◌≡◌, ◌⊎◌, ℕ, ◌+◌, ◌<◌, ◌≤◌, ◌^◌, min, Option, List, [], ◌∷◌, ◌++◌, length}
+use Rattle.std.specs.Prelude.{◌≡◌, ◌≢◌, ◌⊎◌, ℕ, ◌+◌, ◌<◌, ◌≤◌, ◌^◌, min, Option, List, [], ◌∷◌, ◌++◌, length, slice_index}
 use Rattle.std.specs.Io.KnownBytes.{Consumes, IsAtEnd}
 use Rattle.entry_codec.specs.Entries.{Entry, Message, Drop, IsLawful, spelling}
-use Rattle.entry_codec.specs.Outcomes.{IsTruncated, IsBadOp, IsZeroDrop, IsTooLong}
+use Rattle.entry_codec.specs.Outcomes.{HasHead, IsTruncated, IsBadOp, IsZeroDrop, IsTooLong}
 use Rattle.long_messages.specs.Fragments.{split}
 use Rattle.trace_reader.specs.Observing.{Observations, with_read}
 use Rattle.import.specs.declared.fault.ImportFault.{ImportFault}
 use Rattle.import.specs.declared.fault.ImportFault.TheVariants as faults
 
--- the head of a message that no entry can hold, which has so many bytes with its head
+-- the first byte of each message that a node writes: the version of the External Term Format
+abbrev pub version : ℕ
+version = 131
+
+-- a node writes it
+abbrev pub IsWritten : Entry → Type 0
+IsWritten (Message message) = slice_index message 0 ≡ version
+IsWritten (Drop count) = Unit {0}
+
+-- a message that no node writes: an empty one, or one with another first byte
+abbrev pub IsBadMessage : List ℕ → Type 0
+IsBadMessage bytes = HasHead 0 0 bytes ⊎ ((5 < length bytes) × (slice_index bytes 0 ≡ 0) × (slice_index bytes 5 ≢ version))
+
+-- the head and the first byte of a message that a node writes and no entry can hold, which has so many bytes with its head
 pub record HasLongHead (size : ℕ) (bytes : List ℕ) : Type 0 where
   pub long : IsTooLong bytes
   pub is : size ≡ 5 + long.number
+  pub some : 5 < length bytes
+  pub first : slice_index bytes 5 ≡ version
 
--- what no entry can hold, and the four bytes of a size can tell of
+-- what a node writes and no entry can hold, and the four bytes of a size can tell of
 abbrev pub IsOverlong : List ℕ → Type 0
-IsOverlong message = (65531 < length message) × (length message < 2 ^ 32)
+IsOverlong message = (65531 < length message) × (length message < 2 ^ 32) × IsWritten (Message message)
 
--- bytes that stand for entries: those of an entry for it, and those of a message that no entry can hold for its fragments; instead of one that is longer than the longest stands a drop record of 1
+-- bytes that stand for entries that a node writes: those of an entry for it, and those of a message that no entry can hold for its fragments; instead of one that is longer than the longest stands a drop record of 1
 pub data IsPiece (longest : ℕ) : List ℕ → List Entry → Type 0 where
-  an_entry : (e : Entry) → IsLawful e → IsPiece longest (spelling e) (e ∷ [])
+  an_entry : (e : Entry) → IsLawful e → IsWritten e → IsPiece longest (spelling e) (e ∷ [])
   long : (message : List ℕ) → IsOverlong message → length message ≤ longest → IsPiece longest (spelling (Message message)) (split message)
   too_long : (message : List ℕ) → IsOverlong message → longest < length message → IsPiece longest (spelling (Message message)) (Drop 1 ∷ [])
 
@@ -36,13 +51,12 @@ pub record Brings (longest : ℕ) (come : List ℕ) (entries : List Entry) (part
 
 -- a message that no entry can hold, and not all its bytes
 pub record IsLongCut (bytes : List ℕ) : Type 0 where
-  pub size : ℕ
-  pub head : HasLongHead size bytes
-  pub short : length bytes < size
+  pub head : IsTooLong bytes
+  pub short : length bytes < 5 + head.number
 
--- no whole entry, nor what can't begin one
+-- no whole entry, nor what can't begin one that a node writes
 abbrev pub IsUnfinished : List ℕ → Type 0
-IsUnfinished part = part ≡ [] ⊎ IsTruncated part ⊎ IsLongCut part
+IsUnfinished part = part ≡ [] ⊎ ((IsTruncated part ⊎ IsLongCut part) × (5 < length part → slice_index part 5 ≡ version))
 
 -- a message that no entry can hold begins these, and it is not longer than the longest
 abbrev pub BeginsLong : ℕ → List ℕ → Type 0
@@ -52,6 +66,7 @@ BeginsLong longest bytes = (size : ℕ) × HasLongHead size bytes × (size ≤ 5
 abbrev pub IsFaultAt : ℕ → ImportFault → ℕ → List ℕ → Type 0
 IsFaultAt longest (faults.BadOp place) at part = (place ≡ at) × IsBadOp part
 IsFaultAt longest (faults.ZeroDrop place) at part = (place ≡ at) × IsZeroDrop part
+IsFaultAt longest (faults.BadMessage place) at part = (place ≡ at) × IsBadMessage part
 IsFaultAt longest faults.NoMemory at part = BeginsLong longest part
 IsFaultAt longest _ at part = ⊥
 

@@ -1,17 +1,27 @@
 -- The part of a stream that has come and isn't given.
-use Rattle.std.specs.Prelude.{◌≡◌, ℕ, ◌+◌, ◌-◌, ◌<◌, ◌≤◌, Bool, true, false, Option, Some, None, List, [], ◌∷◌, ◌++◌, length, take, drop}
+use Rattle.std.specs.Prelude.{◌≡◌, ℕ, ◌+◌, ◌-◌, ◌<◌, ◌≤◌, ◌⊎◌, Bool, true, false, Option, Some, None, List, [], ◌∷◌, ◌++◌, length, take, drop, slice_index}
 use Rattle.entry_codec.specs.Entries.{Entry, Message, Drop, IsLawful}
+use Rattle.entry_codec.specs.Outcomes.{IsTruncated, IsTooLong}
 use Rattle.entry_codec.specs.declared.reading.Shape.{Shape}
 use Rattle.entry_codec.specs.declared.reading.Shape.TheVariants as shapes
 use Rattle.long_messages.specs.Fragments.{fragment_count, split}
 use Rattle.import.specs.declared.incoming.Incoming.{Incoming}
 use Rattle.import.specs.declared.long.LongMessage.{LongMessage}
 use Rattle.import.specs.Gathered.{count_left}
-use Rattle.import.specs.Incoming.{HasLongHead, IsPiece, ArePieces, Brings, IsUnfinished}
+use Rattle.import.specs.Incoming.{version, HasLongHead, IsPiece, ArePieces, Brings, IsUnfinished}
 
 -- the bytes in memory that aren't given
 abbrev pub waiting : Incoming → List ℕ
 waiting s = take (s.to - s.from) (drop s.from s.bytes.items)
+
+-- an entry of this shape at the front of some bytes is one that a node writes
+abbrev pub IsWrittenAs : Shape → List ℕ → Type 0
+IsWrittenAs (shapes.Message size) bytes = (0 < size) × (slice_index bytes 5 ≡ version)
+IsWrittenAs (shapes.Drop count) bytes = Unit {0}
+
+-- no entry that has come whole, nor what can't begin one that a node writes
+abbrev pub IsNotWhole : List ℕ → Type 0
+IsNotWhole bytes = bytes ≡ [] ⊎ ((IsTruncated bytes ⊎ IsTooLong bytes) × (5 < length bytes → slice_index bytes 5 ≡ version))
 
 -- an entry of this shape that ends at an offset
 abbrev pub ending_at : Shape → ℕ → List ℕ → Entry

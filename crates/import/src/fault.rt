@@ -18,6 +18,8 @@ pub enum ImportFault {
     BadOp { place: u64 },
     /// The entry at this offset is a drop record of no messages.
     ZeroDrop { place: u64 },
+    /// The entry at this offset is a message that no node writes: an empty one, or one whose first byte isn't 131.
+    BadMessage { place: u64 },
     /// The port refused the time, an entry, a flush or the seal.
     Refused(PortFault),
 }

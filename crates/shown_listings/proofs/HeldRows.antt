@@ -2,16 +2,15 @@
 use Rattle.std.proofs.Common.{◌≡◌, ℕ, ◌+◌, ◌-◌, ◌≤◌, Bool, true, false, List, [], ◌∷◌, ◌++◌, length, drop, refl, sym, ◌∙◌, ap, subst, append_assoc, append-nil, length-append, length-drop, arith}
 use Rattle.std.specs.Prelude.{Option, Some, None, is_some, ◌&&◌, IfSome, OnSome, MatchOption, option_to_list, if◌then◌else◌}
 use Rattle.std.specs.Coded.{Unit-prop}
-use Rattle.std.specs.List.{All}
 use Rattle.std.specs.declared.vec.Vec.{Vec}
 use Rattle.std.specs.declared.alloc.Global.{Global}
 use Rattle.std.proofs.lemmas.List.{drop-drop, drop-append-le, drop_all}
 use Rattle.std.proofs.lemmas.List.Elements.{All-push, All-nil}
 use Rattle.std.proofs.Math.Bridge.{le_prop}
-use Rattle.std.proofs.Math.Logic.{∥∥₁_elim, ∥∥₁_map}
+use Rattle.std.proofs.Math.Logic.{∥∥₁_elim}
 use Rattle.shown_listings.specs.declared.look.Rule.{Rule}
-use Rattle.shown_listings.specs.Since.{IsFrom, CountsOn, IsEnough}
-use Rattle.shown_listings.specs.Rows.{IsRow, MayLack, HaveRows, none, is_end, last_rows, HaveLast, HaveEnough, ComesBehind, added, ended, HaveLastFirst, HavePassed, AreLaid, HaveCome, AreHeld, bit, held_behind, rows_in, kept_rows, SendsNone, text_of_rows}
+use Rattle.shown_listings.specs.Since.{CountsOn, IsEnough}
+use Rattle.shown_listings.specs.Rows.{IsRow, MayLack, none, is_end, last_rows, HaveLast, HaveEnough, ComesBehind, added, ended, HavePassed, AreLaid, HaveCome, AreHeld, bit, held_behind, rows_in, kept_rows, SendsNone, text_of_rows}
 use Rattle.shown_listings.proofs.RowLemmas.{line-laid}
 
 -- Of the last rows, with more behind them, the last are those of all.

@@ -1,5 +1,5 @@
 -- What a listing into a writer of rows leaves written.
-use Rattle.std.proofs.Common.{◌≡◌, ℕ, suc, Bool, true, false, Option, Some, None, List, [], ◌∷◌, ◌++◌, refl, sym, ◌∙◌, ap, subst, append-nil, arith}
+use Rattle.std.proofs.Common.{◌≡◌, ℕ, Bool, true, false, Option, Some, None, List, [], ◌∷◌, ◌++◌, refl, sym, ◌∙◌, ap, subst, append-nil, arith}
 use Rattle.std.specs.Prelude.{Result, Ok, Err, OnOk, OnSome, IfErr}
 use Rattle.std.specs.Io.KnownBytes.{Appends}
 use Rattle.shown_listings.specs.declared.look.Rule.{Rule}
@@ -24,13 +24,13 @@ told-same (Some n) (Some m) e = let same : n ≡ m = omega arith in ap (λ k. So
 told-same None (Some m) e = absurd (omega arith)
 told-same (Some n) None e = absurd (omega arith)
 
-record IsSame (rule rule_then : Rule) (start later : Option (List ℕ)) (given text : List ℕ) : Type 0 where
-  same_rule : rule_then ≡ rule
-  same_start : later ≡ start
-  same_given : given ≡ text
+pub record IsSame (rule rule_then : Rule) (start later : Option (List ℕ)) (given text : List ℕ) : Type 0 where
+  pub same_rule : rule_then ≡ rule
+  pub same_start : later ≡ start
+  pub same_given : given ≡ text
 
 -- What came to a writer since it was made tells what it was made for.
-same_laid : (rule rule_then : Rule) (start later : Option (List ℕ)) (given text : List ℕ)
+pub same_laid : (rule rule_then : Rule) (start later : Option (List ℕ)) (given text : List ℕ)
     → Appends (laid_contents rule start []) (laid_contents rule_then later given) text → IsSame rule rule_then start later given text
 unfolding laid_contents end_contents
 same_laid rule rule_then start later given text grown =

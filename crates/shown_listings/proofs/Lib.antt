@@ -2,6 +2,7 @@ pub mod EndHanded
 pub mod EndHolding
 pub mod Ending
 pub mod FilledLines
+pub mod HeldBack
 pub mod HeldRows
 pub mod Laying
 pub mod Passing

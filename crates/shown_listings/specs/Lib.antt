@@ -1,3 +1,4 @@
+pub mod Ahead
 pub mod Ends
 pub mod Growth
 pub mod Listings

@@ -1,5 +1,5 @@
 -- Listings, and how they are shown.
-use Rattle.std.specs.Prelude.{◌≡◌, ℕ, Bool, true, false, not, ◌&&◌, is_some, Option, Some, None, List, [], ◌++◌, Result, IfErr, IsErr}
+use Rattle.std.specs.Prelude.{◌≡◌, ℕ, Bool, true, false, not, ◌&&◌, is_some, Option, Some, None, List, Result, IfErr, IsErr}
 use Rattle.std.specs.Io.KnownBytes.{Appends}
 use Rattle.command_line.specs.declared.layout.Layout.{Layout}
 use Rattle.command_line.specs.Layouts.{shows_each, may_cut}

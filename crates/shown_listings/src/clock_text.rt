@@ -2,6 +2,7 @@
 
 use crate::zone::Zone;
 use command_line::TimeColumn;
+use jiff_core::civil::DateTime;
 use std::alloc::{AllocError, Global};
 use std::fmt;
 use trace_summary::time_in;
@@ -56,6 +57,30 @@ fn has_three_members(text: &[u8]) -> bool {
         return false;
     };
     inside[start..].iter().filter(|byte| **byte == b',').count() == 2
+}
+
+/// A day, by how many come between it and the first of 1970.
+#[derive(Clone, Copy, PartialEq, Eq)]
+pub struct Day(i64);
+
+impl Day {
+    /// The day of a time in nanoseconds since the beginning of 1970.
+    pub fn of(nanos: i64) -> Day {
+        Day(nanos.div_euclid(DAY))
+    }
+}
+
+impl fmt::Display for Day {
+    fn fmt<W: fmt::Write>(&self, f: &mut fmt::Formatter<W>) -> fmt::Result {
+        let nanos = i128::from(self.0.saturating_mul(DAY));
+        match DateTime::from_nanosecond(nanos) {
+            Ok(start) => {
+                let (year, month, day) = (start.date.year, start.date.month, start.date.day);
+                write!(f, "{year:04}-{month:02}-{day:02}")
+            }
+            Err(_) => Ok(()),
+        }
+    }
 }
 
 /// The time of day, to the microsecond.
@@ -133,11 +158,23 @@ impl Had {
     }
 }
 
+/// The columns of a time without a date.
+const TIME: usize = 15;
+
+/// The columns of a time with a date.
+const DATED: usize = 26;
+
 /// The column of times.
 #[derive(Drop)]
 pub struct Clock {
     wall: Had,
     monotonic: Had,
+    /// Today, as the clocks of the zone tell it, where that is known.
+    today: Option<Day>,
+    /// The day of the last time of day.
+    day: Option<Day>,
+    /// The columns of the last time, 0 where there is none.
+    columns: usize,
 }
 
 /// A time with its sign.
@@ -150,24 +187,60 @@ fn signed(alloc: Global, nanos: i64, fineness: Fineness) -> Result<String, Alloc
 
 impl Clock {
     /// No row had a time.
-    pub fn new() -> Clock {
+    pub fn new(today: Option<Day>) -> Clock {
         Clock {
             wall: Had::NONE,
             monotonic: Had::NONE,
+            today,
+            day: None,
+            columns: 0,
         }
     }
 
-    /// Whether a row had a time.
-    pub fn is_on(&self) -> bool {
-        self.wall.first.is_some() || self.monotonic.first.is_some()
+    /// The columns that a row without a time leaves empty: those of the last time and two, where a row had one.
+    pub fn blanks(&self) -> usize {
+        if self.columns > 0 {
+            self.columns.saturating_add(2)
+        } else {
+            0
+        }
+    }
+
+    /// What passed since the first time of its clock, which this may be.
+    pub fn since_first(&mut self, stamp: Stamp, may_be_first: bool) -> i64 {
+        let nanos = stamp.nanos();
+        let had = match stamp {
+            Stamp::Wall(_) => &mut self.wall,
+            Stamp::Monotonic(_) => &mut self.monotonic,
+        };
+        if may_be_first {
+            had.first = Some(had.first.unwrap_or(nanos));
+        }
+        had.passed(TimeColumn::SinceFirst, nanos)
     }
 
     /// Whether a row was told how long it came after the first: a monotonic clock tells no time of day.
     pub fn is_since_first(&self, column: TimeColumn) -> bool {
         match column {
             TimeColumn::Clock => self.monotonic.first.is_some(),
-            TimeColumn::SinceFirst => self.is_on(),
+            TimeColumn::SinceFirst => self.wall.first.is_some() || self.monotonic.first.is_some(),
             TimeColumn::SinceLast => false,
+        }
+    }
+
+    /// Appends a time of day, by what the clocks tell, with its day where that isn't today, or isn't that of the last.
+    fn put_of_day(&mut self, text: &mut String, nanos: i64) -> Result<(), AllocError> {
+        let day = Day::of(nanos);
+        let time = TimeOfDay(u64::try_from(nanos.rem_euclid(DAY)).unwrap_or(0));
+        let is_other = self.day.is_some_and(|last| last != day);
+        let is_today = self.today.is_some_and(|today| today == day);
+        self.day = Some(day);
+        if is_other || !is_today {
+            self.columns = DATED;
+            write!(text, "{day} {time}  ")
+        } else {
+            self.columns = TIME;
+            write!(text, "{time}  ")
         }
     }
 
@@ -187,13 +260,10 @@ impl Clock {
         let passed = had.passed(column, nanos);
         had.note(nanos);
         match (stamp, column) {
-            (Stamp::Wall(nanos), TimeColumn::Clock) => {
-                let nanos = zone.told_at(nanos).rem_euclid(DAY);
-                let time = TimeOfDay(u64::try_from(nanos).unwrap_or(0));
-                write!(text, "{time}  ")
-            }
+            (Stamp::Wall(nanos), TimeColumn::Clock) => self.put_of_day(text, zone.told_at(nanos)),
             _ => {
                 let time = signed(*text.allocator(), passed, fineness_of(stamp))?;
+                self.columns = TIME;
                 write!(text, "{time:>15}  ")
             }
         }

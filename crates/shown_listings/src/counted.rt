@@ -69,7 +69,7 @@ impl fmt::Display for Sight {
 }
 
 /// What follows the number of an entry in its line or its object; None where a line has no number.
-fn kind_in(head: &[u8]) -> Option<&[u8]> {
+pub fn kind_in(head: &[u8]) -> Option<&[u8]> {
     let numbered = head.strip_prefix(OBJECT).unwrap_or(head);
     let end = numbered.iter().position(|byte| !byte.is_ascii_digit())?;
     if end == 0 {
@@ -78,11 +78,19 @@ fn kind_in(head: &[u8]) -> Option<&[u8]> {
     Some(&numbered[end..])
 }
 
+/// Whether a line or an object is a drop record's, by what follows its number.
+pub fn is_drop(kind: &[u8]) -> bool {
+    kind.starts_with(b" drop ") || kind.starts_with(b",\"kind\":\"drop\"")
+}
+
 /// What is counted of the lines that pass.
 #[derive(Drop)]
 struct Tally {
+    /// Each is counted, and not only up to the first message.
     is_on: bool,
     sight: Sight,
+    /// An entry is listed that is no drop record.
+    has_message: bool,
     /// An empty line came, which ends the listing.
     is_over: bool,
     /// What the line began with that isn't at its end.
@@ -98,6 +106,7 @@ impl Tally {
                 entries: 0,
                 opaque: 0,
             },
+            has_message: false,
             is_over: false,
             head: [0; HEAD],
             length: 0,
@@ -110,6 +119,7 @@ impl Tally {
         self.is_over = self.is_over || head.is_empty();
         if let Some(kind) = kind_in(head) {
             let is_opaque = kind.starts_with(b" opaque ");
+            self.has_message = self.has_message || !is_drop(kind);
             self.sight.entries = self.sight.entries.saturating_add(1);
             self.sight.opaque = self.sight.opaque.saturating_add(u64::from(is_opaque));
         }
@@ -153,7 +163,7 @@ impl<W: Write> Write for Counting<W> {
     #[inline(always)]
     fn write(&mut self, bytes: &[u8]) -> io::Result<usize> {
         let count = self.out.write(bytes)?;
-        if self.tally.is_on {
+        if self.tally.is_on || !self.tally.has_message {
             self.tally.note(&bytes[..count]);
         }
         Ok(count)
@@ -180,6 +190,13 @@ fn ended<W: Write>(counting: Counting<W>) -> (W, Tally)
     (counting.out, counting.tally)
 }
 
+/// What is left of a listing that was counted.
+pub struct CountedLeft<L> {
+    pub left: L,
+    /// An entry was listed that is no drop record.
+    pub has_message: bool,
+}
+
 /// A listing, at whose end standard error tells how many of its entries are opaque, where that is asked for.
 pub struct Counted<S> {
     rt: HostRuntime,
@@ -201,9 +218,9 @@ impl<S: Listable> Counted<S> {
 }
 
 impl<S: Listable> Listable for Counted<S> {
-    type Left = S::Left;
+    type Left = CountedLeft<S::Left>;
 
-    ghost lists = { λ listed shown had left. S.lists listed.listing shown had left };
+    ghost lists = { λ listed shown had counted. S.lists listed.listing shown had counted.left };
 
     fn list<R: Wait, I: Read + Drop, W: Output>(
         self,
@@ -211,7 +228,7 @@ impl<S: Listable> Listable for Counted<S> {
         shown: &Shown,
         input: I,
         output: &mut W,
-    ) -> (Result<(), Complaint>, S::Left) {
+    ) -> (Result<(), Complaint>, CountedLeft<S::Left>) {
         let Counted { rt, listing, is_on } = self;
         let mut counting = Counting {
             out: taken(rt.alloc(), output),
@@ -221,9 +238,18 @@ impl<S: Listable> Listable for Counted<S> {
         let (out, tally) = ended(counting);
         *output = out;
         let sight = tally.sight;
-        if (done.is_ok() || tally.is_over) && sight.opaque > 0 {
+        if is_on && (done.is_ok() || tally.is_over) && sight.opaque > 0 {
             let _ = eprintln!(rt; "dbgrec: {sight}");
         }
-        (done, left)
+        let has_message = tally.has_message;
+        (done, CountedLeft { left, has_message })
+    }
+
+    fn is_new(&self) -> bool {
+        self.listing.is_new()
+    }
+
+    fn tell_unshown(rt: &HostRuntime, counted: &CountedLeft<S::Left>, shown: &Shown) {
+        S::tell_unshown(rt, &counted.left, shown);
     }
 }

@@ -4,6 +4,7 @@ ghost use Rattle.shown_listings.specs.Since.{IsEnough};
 ghost use Rattle.std.specs.Io.{WritesAtMost, KnownBytes.Keeps, KnownBytes.WriteAppends};
 ghost use Rattle.shown_listings.specs.{Rows.AreHeld, Rows.AreLines, Rows.AreLines-prop, Rows.Sends, Rows.Sends-prop, Rows.SendsNone, Rows.SendsNone-prop, Rows.ShowsRows, Rows.HasNoFeed, Rows.text_of_rows, Rows.rows_in, Rows.given_lines, Rows.laid_contents};
 
+use crate::ahead::LookingAhead;
 use crate::given::Given;
 use crate::held::{held_behind, hold};
 use crate::look::Look;
@@ -58,10 +59,10 @@ fn end_of(is_out_of_memory: bool, sent: io::Result<()>) -> RowsEnd
 #[derive(Drop)]
 pub struct LaidOut<W: Write> {
     pub out: W,
-    look: Look,
+    pub look: Look,
     rows: Rows,
     /// What came of a line that hasn't come whole.
-    line: Vec<u8>,
+    pub line: Vec<u8>,
     /// The last row that was begun.
     unsent: Unsent,
     /// The rows behind it.
@@ -85,7 +86,7 @@ pub struct LaidOut<W: Write> {
 fn rows_or_none(alloc: Global, rows: Result<Rows, AllocError>) -> (Rows, bool) {
     match rows {
         Ok(rows) => (rows, false),
-        Err(AllocError) => (Rows::new(alloc, Zone::Utc, None), true),
+        Err(AllocError) => (Rows::new(alloc, Zone::Utc, None, None), true),
     }
 }
 
@@ -117,6 +118,11 @@ impl<W: Write> LaidOut<W> {
             lines: Noted::new(),
             laid: Noted::new(),
         }
+    }
+
+    /// Whether a message has a row.
+    pub fn has_shown(&self) -> bool {
+        self.rows.has_shown()
     }
 
     /// Whether rows are held back that were sought from an entry on: not enough came, or not the end.
@@ -298,6 +304,20 @@ impl<W: Write> LaidOut<W> {
                 Ok(bytes.len())
             }
         }
+    }
+}
+
+impl<W: Write> LookingAhead for LaidOut<W> {
+    fn look_ahead(&mut self, bytes: &[u8]) -> Result<(), AllocError> {
+        let done = self.rows.look_ahead(bytes);
+        if done.is_err() {
+            self.is_over = true;
+        }
+        done
+    }
+
+    fn fail(&mut self) {
+        self.is_over = true;
     }
 }
 

@@ -5,13 +5,15 @@
 //! behind one of them (`may_end`), what stands before its first empty line, which a listing has there (`UpToEnd`). It is then
 //! told as done, unless it can't be written out (`IsToldBy`). Of whole lines, none empty, all is shown (law
 //! `ends_at_the_first_empty_line`). For a person it is laid out (`IsLaidOut`): each line has a row, in order, that shows its
-//! text or the beginning of it (`HaveRows`); where the last alone are asked for, they are the last of these (`HaveLast`).
+//! text or the beginning of it (`HaveRows`); where the last alone are asked for, they are the last of these (`HaveLast`). Else
+//! `Ahead` holds what comes first back, so that the rows know of it, and hands on all of it.
 //! `Outlet` is standard output, `Inlet` standard input; each keeps why the system refused a call. A terminal gets each line
 //! when it is written. `Console` is the clock, and standard error, where it shows how far a long run is. Of their bytes nothing
 //! is known, so a clause on what is shown says something for other readers and writers alone; none says what stands on standard
 //! error. Which lines a listing has is said where it is made.
 #![tactic(auto)]
 
+mod ahead;
 mod clock_text;
 mod console;
 mod counted;
@@ -19,6 +21,7 @@ mod end_writer;
 mod given;
 mod held;
 mod inlet;
+mod inventory;
 mod laid_out;
 mod laws;
 mod listing;
@@ -27,6 +30,7 @@ mod nesting;
 mod noted;
 mod notices;
 mod outlet;
+mod returned_to;
 mod row;
 mod rows;
 mod screen;
@@ -37,6 +41,7 @@ mod zone;
 
 pub use console::{Console, console_for};
 pub use inlet::Inlet;
+pub use inventory::Inventory;
 pub use laws::ends_at_the_first_empty_line;
 pub use listing::{Listable, show, show_from};
 pub use outlet::{Outlet, Output, taken};

@@ -1,12 +1,15 @@
 //! Listings, shown as they are or up to an empty line.
-ghost use Rattle.std.specs.Prelude.{◌≡◌, ◌++◌, ℕ, List, [], None, Some, Option, Result, OnOk, IfErr};
-ghost use Rattle.std.specs.Io.KnownBytes.{Appends, Keeps};
+ghost use Rattle.std.specs.Prelude.{◌≡◌, ◌++◌, ℕ, List, [], None, Some, Option, Result, OnOk, IfErr, drop, true};
+ghost use Rattle.shown_listings.specs.Rows.{given_lines, laid_contents};
+ghost use Rattle.std.specs.Io.KnownBytes.{append_known, Appends, Keeps};
 ghost use Rattle.script_runner.specs.declared.fault.SimFault.TheVariants as faults;
 ghost use Rattle.command_line.specs.declared.request.Shown.{Shown};
 ghost use Rattle.faults.specs.declared.complaint.Complaint.TheVariants as complaints;
 ghost use Rattle.shown_listings.specs.Listings.{Listing, UpToEnd, IsToldBy, IsLaidOut, IsToldWith, rule_from, may_end, ShowsBy, ShowsFrom, Shows};
+ghost use Rattle.shown_listings.specs.Ahead.{EndsRows};
 
-use crate::counted::Counted;
+use crate::ahead::Ahead;
+use crate::counted::{Counted, CountedLeft};
 use crate::end_writer::EndWriter;
 use crate::given::Given;
 use crate::laid_out::{LaidOut, RowsEnd};
@@ -20,6 +23,7 @@ use command_line::{Layout, Shown};
 use faults::Complaint;
 use script_runner::SimFault;
 use std::alloc::{AllocError, Global};
+use std::cell::Cell;
 use std::io::{IsTerminal, Read, Write};
 use std::sync::Wait;
 use trace_text::Choice;
@@ -42,6 +46,12 @@ pub trait Listable {
     ) -> (Result<(), Complaint>, Self::Left)
         ensures { lists self shown.now (I.remaining input) result.1 result.0 (W.contents output.old)
             (W.contents output.new) };
+
+    /// Whether what is there when it begins is new: it was waited for.
+    fn is_new(&self) -> bool;
+
+    /// Tells on standard error what it has, by what is left of it, where nothing of it is shown that is asked for.
+    fn tell_unshown(rt: &HostRuntime, left: &Self::Left, shown: &Shown);
 }
 
 impl<W: Output> Output for EndWriter<W> {
@@ -52,7 +62,7 @@ impl<W: Output> Output for EndWriter<W> {
 
 impl<W: Output> Output for LaidOut<W> {
     fn none(alloc: Global) -> Self {
-        let rows = Rows::new(alloc, Zone::Utc, None);
+        let rows = Rows::new(alloc, Zone::Utc, None, None);
         LaidOut::new(alloc, W::none(alloc), Look::PLAIN, Ok(rows))
     }
 }
@@ -151,8 +161,13 @@ fn told_with(done: Result<(), Complaint>, end: RowsEnd) -> Result<(), Complaint>
     }
 }
 
-/// What makes the rows that a layout asks for.
-fn rows_for(rt: &HostRuntime, layout: &Layout) -> Result<Rows, AllocError> {
+/// What makes the rows that a layout asks for. What is there when they begin is new where `is_new` is true.
+fn rows_for(
+    rt: &HostRuntime,
+    shown: &Shown,
+    layout: &Layout,
+    is_new: bool,
+) -> Result<Rows, AllocError> {
     let grep = match &layout.grep {
         Some(text) => Some(text.clone()?),
         None => None,
@@ -162,7 +177,104 @@ fn rows_for(rt: &HostRuntime, layout: &Layout) -> Result<Rows, AllocError> {
     } else {
         local_zone(rt)?
     };
-    Ok(Rows::new(rt.alloc(), zone, grep))
+    let began = zone.now(rt);
+    let mut rows = Rows::new(rt.alloc(), zone, began, grep);
+    if is_new {
+        rows.begin();
+    }
+    if shown
+        .choice
+        .as_ref()
+        .is_some_and(|choice| !choice.has_no_text())
+    {
+        rows.pass_over();
+    }
+    Ok(rows)
+}
+
+/// Lists what is shown, of which the last rows alone are asked for, laid out for a person.
+fn list_last<S: Listable, R: Wait, I: Read + Drop, W: Output>(
+    rt: &HostRuntime,
+    waiter: &R,
+    listing: S,
+    shown: &Shown,
+    layout: &Layout,
+    input: I,
+    output: &mut W,
+    has_shown: &Cell<bool>,
+) -> (Result<(), Complaint>, S::Left)
+    ensures { IsLaidOut (rule_from None layout.now) (ShowsBy (may_end shown.now.choice)
+        (S.lists listing shown.now (I.remaining input) result.1)) result.0
+        (W.contents output.old) (W.contents output.new) }
+{
+    let look = Look::new(layout, None, screen_of(rt, layout));
+    let rows = rows_for(rt, shown, layout, listing.is_new());
+    let mut laid = LaidOut::new(rt.alloc(), taken(rt.alloc(), output), look, rows);
+    let (done, left) = list_shown(rt.alloc(), waiter, listing, shown, input, &mut laid);
+    has_shown.set(laid.has_shown());
+    let (ended, out) = laid.end();
+    *output = out;
+    let told = told_with(done, ended);
+    (told, left)
+}
+
+/// How rows ended, by whether all that was held back came to them.
+fn end_with(is_whole: bool, ended: RowsEnd) -> RowsEnd
+    ensures whole { result ≡ RowsEnd.Written → (is_whole ≡ true) × (ended ≡ RowsEnd.Written) }
+{
+    if is_whole || !matches!(ended, RowsEnd::Written) {
+        ended
+    } else {
+        RowsEnd::Unwritten
+    }
+}
+
+/// The writer to which `ahead` hands on.
+fn rows_of<W: Output>(ahead: Ahead<LaidOut<W>>) -> LaidOut<W>
+    ensures { result ≡ ahead.out }
+{
+    ahead.out
+}
+
+/// Hands on what is held back, writes out what is left of the rows, and tells how they ended.
+fn end_rows<W: Output>(ahead: Ahead<LaidOut<W>>, has_shown: &Cell<bool>) -> (RowsEnd, W)
+    ensures { EndsRows (append_known (laid_contents ahead.out.look.rule ahead.out.written.start
+        (given_lines ahead.out.lines.items ahead.out.line.items))
+        (drop ahead.taken ahead.held.items)) (result.0 ≡ RowsEnd.Written) (W.contents result.1) }
+{
+    let mut ahead = ahead;
+    let is_whole = ahead.hand_on().is_ok();
+    let laid = rows_of(ahead);
+    has_shown.set(laid.has_shown());
+    let (ended, out) = laid.end();
+    (end_with(is_whole, ended), out)
+}
+
+/// Lists what is shown, laid out for a person. The rows know what comes in the first bytes before they get these.
+fn list_ahead<S: Listable, R: Wait, I: Read + Drop, W: Output>(
+    rt: &HostRuntime,
+    waiter: &R,
+    listing: S,
+    shown: &Shown,
+    layout: &Layout,
+    input: I,
+    output: &mut W,
+    has_shown: &Cell<bool>,
+) -> (Result<(), Complaint>, S::Left)
+    requires { layout.now.last ≡ None }
+    ensures { IsLaidOut (rule_from None layout.now) (ShowsBy (may_end shown.now.choice)
+        (S.lists listing shown.now (I.remaining input) result.1)) result.0
+        (W.contents output.old) (W.contents output.new) }
+{
+    let look = Look::new(layout, None, screen_of(rt, layout));
+    let rows = rows_for(rt, shown, layout, listing.is_new());
+    let laid = LaidOut::new(rt.alloc(), taken(rt.alloc(), output), look, rows);
+    let mut ahead = Ahead::new(rt.alloc(), laid);
+    let (done, left) = list_shown(rt.alloc(), waiter, listing, shown, input, &mut ahead);
+    let (ended, out) = end_rows(ahead, has_shown);
+    *output = out;
+    let told = told_with(done, ended);
+    (told, left)
 }
 
 /// Lists what is shown, laid out for a person.
@@ -174,19 +286,16 @@ fn list_laid_out<S: Listable, R: Wait, I: Read + Drop, W: Output>(
     layout: &Layout,
     input: I,
     output: &mut W,
+    has_shown: &Cell<bool>,
 ) -> (Result<(), Complaint>, S::Left)
     ensures { IsLaidOut (rule_from None layout.now) (ShowsBy (may_end shown.now.choice)
         (S.lists listing shown.now (I.remaining input) result.1)) result.0
         (W.contents output.old) (W.contents output.new) }
 {
-    let look = Look::new(layout, None, screen_of(rt, layout));
-    let rows = rows_for(rt, layout);
-    let mut laid = LaidOut::new(rt.alloc(), taken(rt.alloc(), output), look, rows);
-    let (done, left) = list_shown(rt.alloc(), waiter, listing, shown, input, &mut laid);
-    let (ended, out) = laid.end();
-    *output = out;
-    let told = told_with(done, ended);
-    (told, left)
+    match layout.last {
+        Some(_) => list_last(rt, waiter, listing, shown, layout, input, output, has_shown),
+        None => list_ahead(rt, waiter, listing, shown, layout, input, output, has_shown),
+    }
 }
 
 /// Writes a text, and writes it out.
@@ -226,7 +335,7 @@ fn lay_out_from<S: Listable, R: Wait, I: Read + Drop, W: Output>(
         (W.contents output.old) (W.contents output.new) }
 {
     let look = Look::new(layout, Some(first), screen_of(rt, layout));
-    let rows = rows_for(rt, layout);
+    let rows = rows_for(rt, shown, layout, false);
     let mut laid = LaidOut::new(rt.alloc(), Vec::new(rt.alloc()), look, rows);
     let (done, left) = listing.list(waiter, shown, input, &mut laid);
     let (ended, text) = laid.end();
@@ -260,7 +369,54 @@ pub fn show_from<S: Listable, R: Wait, I: Read + Drop, W: Output>(
     }
 }
 
-/// Shows a listing of the entries that are chosen. Where standard error is a terminal it says how many of these are opaque.
+/// Whether not all is asked for.
+fn is_choosing(shown: &Shown) -> bool {
+    let is_of_rows = match &shown.layout {
+        Some(layout) => {
+            layout.since.is_some() || layout.until.is_some() || layout.grep.is_some()
+        }
+        None => false,
+    };
+    is_of_rows || shown.choice.as_ref().is_some_and(|choice| !choice.is_all())
+}
+
+/// Shows a listing, and notes whether a message is shown. Where standard error is a terminal it says how many entries are opaque.
+fn show_counted<S: Listable, R: Wait, I: Read + Drop, W: Output>(
+    rt: &HostRuntime,
+    waiter: &R,
+    listing: S,
+    shown: &Shown,
+    input: I,
+    output: &mut W,
+    has_shown: &Cell<bool>,
+) -> (Result<(), Complaint>, S::Left)
+    ensures { Shows shown.now (S.lists listing shown.now (I.remaining input) result.1) result.0
+        (W.contents output.old) (W.contents output.new) }
+{
+    let is_on = shown.is_plain && rt.stderr().is_terminal();
+    let counted = Counted::new(rt, listing, is_on);
+    match &shown.layout {
+        Some(layout) => {
+            let (done, counted) = list_laid_out(
+                rt, waiter, counted, shown, layout, input, output, has_shown,
+            );
+            let CountedLeft {
+                left,
+                has_message: _,
+            } = counted;
+            (done, left)
+        }
+        None => {
+            let (done, counted) = list_shown(rt.alloc(), waiter, counted, shown, input, output);
+            let CountedLeft { left, has_message } = counted;
+            has_shown.set(has_message);
+            (done, left)
+        }
+    }
+}
+
+/// Shows a listing of the entries that are chosen. Where no message is shown though some are asked for, standard error says what
+/// there is.
 pub fn show<S: Listable, R: Wait, I: Read + Drop, W: Output>(
     rt: &HostRuntime,
     waiter: &R,
@@ -272,10 +428,10 @@ pub fn show<S: Listable, R: Wait, I: Read + Drop, W: Output>(
     ensures { Shows shown (S.lists listing shown (I.remaining input) result.1) result.0
         (W.contents output.old) (W.contents output.new) }
 {
-    let is_on = shown.is_plain && rt.stderr().is_terminal();
-    let counted = Counted::new(rt, listing, is_on);
-    match &shown.layout {
-        Some(layout) => list_laid_out(rt, waiter, counted, &shown, layout, input, output),
-        None => list_shown(rt.alloc(), waiter, counted, &shown, input, output),
+    let has_shown = Cell::new(false);
+    let (done, left) = show_counted(rt, waiter, listing, &shown, input, output, &has_shown);
+    if done.is_ok() && !has_shown.get() && is_choosing(&shown) {
+        S::tell_unshown(rt, &left, &shown);
     }
+    (done, left)
 }

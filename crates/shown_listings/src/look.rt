@@ -46,14 +46,36 @@ pub struct Look {
 /// The nanoseconds of a day.
 const DAY: i64 = 86_400_000_000_000;
 
-/// The order of a time and a moment, where they are of one clock.
-fn compared(stamp: Stamp, moment: Moment) -> Option<Ordering> {
-    match (stamp, moment) {
-        (Stamp::Wall(nanos), Moment::OfDay(moment)) => Some(nanos.rem_euclid(DAY).cmp(&moment)),
-        (Stamp::Wall(nanos), Moment::Dated(moment)) => Some(nanos.cmp(&moment)),
-        (Stamp::Monotonic(nanos), Moment::Monotonic(moment)) => Some(nanos.cmp(&moment)),
-        _ => None,
+/// When a row is, as it is told.
+#[derive(Clone, Copy)]
+pub struct RowTime {
+    /// As the clocks of the zone tell it.
+    pub told: Stamp,
+    /// The nanoseconds since the first message that is shown where nothing is asked of times.
+    pub passed: i64,
+    /// The time when the listing began, as the clocks of the zone tell it, where it is known.
+    pub began: Option<i64>,
+}
+
+impl RowTime {
+    /// The order of it and a moment, where they are of one clock.
+    fn compared(self, moment: Moment) -> Option<Ordering> {
+        match (self.told, moment) {
+            (_, Moment::SinceFirst(moment)) => Some(self.passed.cmp(&moment)),
+            (Stamp::Wall(nanos), Moment::OfDay(moment)) => Some(nanos.rem_euclid(DAY).cmp(&moment)),
+            (Stamp::Wall(nanos), Moment::Dated(moment)) => Some(nanos.cmp(&moment)),
+            (Stamp::Wall(nanos), Moment::Ago(moment)) => {
+                Some(nanos.cmp(&self.began?.saturating_sub(moment)))
+            }
+            (Stamp::Monotonic(nanos), Moment::Monotonic(moment)) => Some(nanos.cmp(&moment)),
+            _ => None,
+        }
     }
+}
+
+/// Whether a moment is told by what passed since the first message.
+fn is_since_first(moment: Option<Moment>) -> bool {
+    matches!(moment, Some(Moment::SinceFirst(_)))
 }
 
 impl Look {
@@ -97,18 +119,26 @@ impl Look {
         }
     }
 
-    /// Whether a time, as it is told, is one that is shown. Where nothing is asked of times, each is, and else none that isn't
-    /// told.
-    pub fn is_between(&self, time: Option<Stamp>) -> bool {
-        let Some(stamp) = time else {
+    /// Whether it is asked how long after the first message one came.
+    pub fn asks_passed(&self) -> bool {
+        is_since_first(self.since) || is_since_first(self.until)
+    }
+
+    /// Whether a time is one that is shown. Where nothing is asked of times, each is, and else none that isn't told.
+    pub fn is_between(&self, time: Option<RowTime>) -> bool {
+        let Some(time) = time else {
             return self.since.is_none() && self.until.is_none();
         };
         let is_since = match self.since {
-            Some(since) => compared(stamp, since).is_some_and(|order| order != Ordering::Less),
+            Some(since) => time
+                .compared(since)
+                .is_some_and(|order| order != Ordering::Less),
             None => true,
         };
         let is_until = match self.until {
-            Some(until) => compared(stamp, until).is_some_and(|order| order != Ordering::Greater),
+            Some(until) => time
+                .compared(until)
+                .is_some_and(|order| order != Ordering::Greater),
             None => true,
         };
         is_since && is_until

@@ -41,8 +41,42 @@ fn entries_missing(count: u64) -> Many {
     }
 }
 
-/// What an object that has no text tells, in words.
-pub fn notice_of(alloc: Global, object: &Option<Value<'_>>) -> Result<Option<String>, AllocError> {
+/// Entries that a wrap ended before they could be listed.
+fn entries_overtaken(count: u64) -> Many {
+    Many {
+        count,
+        one: "entry was overtaken",
+        more: "entries were overtaken",
+    }
+}
+
+/// What a listing is to go on with.
+#[derive(Clone, Copy)]
+pub struct Reached {
+    /// The entry that is to come next.
+    pub next: u64,
+    /// It is that one, and no later one.
+    pub is_exact: bool,
+}
+
+/// What is told of the entries that a wrap no longer has, by what was listed before.
+fn overtaken(
+    alloc: Global,
+    first: u64,
+    lost: Many,
+    reached: Reached,
+) -> Result<String, AllocError> {
+    let overtaken = entries_overtaken(first.saturating_sub(reached.next));
+    let most = if reached.is_exact { "" } else { "at most " };
+    format!(in alloc; "{most}{overtaken}: the trace goes on at entry {first}, and {lost} before")
+}
+
+/// What an object that has no text tells, in words, by what was listed before it, where entries were.
+pub fn notice_of(
+    alloc: Global,
+    object: &Option<Value<'_>>,
+    reached: Option<Reached>,
+) -> Result<Option<String>, AllocError> {
     let told = |name| number(object, name).unwrap_or(0);
     let lost = messages_lost(told("dropped"));
     Ok(Some(match member(object, "kind").unwrap_or("") {
@@ -60,7 +94,10 @@ pub fn notice_of(alloc: Global, object: &Option<Value<'_>>) -> Result<Option<Str
         }
         "before" => {
             let first = told("entries");
-            format!(in alloc; "the trace begins at entry {first}: {lost} before")?
+            match reached {
+                Some(reached) => overtaken(alloc, first, lost, reached)?,
+                None => format!(in alloc; "the trace begins at entry {first}: {lost} before")?,
+            }
         }
         "missing" => {
             let missing = entries_missing(told("entries"));

@@ -5,9 +5,6 @@ use command_line::{Colours, Layout};
 use std::env;
 use std::io::IsTerminal;
 
-/// The columns of a terminal that doesn't tell them.
-const COLUMNS: usize = 80;
-
 /// Whether a variable of the environment is set and not empty.
 fn is_set(rt: &HostRuntime, name: &str) -> bool {
     match env::var(rt, name) {
@@ -16,12 +13,12 @@ fn is_set(rt: &HostRuntime, name: &str) -> bool {
     }
 }
 
-/// The columns that the environment tells of a terminal, or as many as are usual.
-fn columns(rt: &HostRuntime) -> usize {
-    let told = env::var(rt, "COLUMNS").ok();
-    match told.and_then(|text| text.parse::<u16>().ok()) {
-        Some(columns) if columns > 0 => usize::from(columns),
-        _ => COLUMNS,
+/// The columns that the environment tells of a terminal, where it does.
+fn columns(rt: &HostRuntime) -> Option<usize> {
+    let told = env::var(rt, "COLUMNS").ok()?;
+    match told.parse::<u16>() {
+        Ok(columns) if columns > 0 => Some(usize::from(columns)),
+        _ => None,
     }
 }
 
@@ -37,7 +34,7 @@ pub fn screen_of(rt: &HostRuntime, layout: &Layout) -> Screen {
         width: match layout.width {
             _ if layout.is_full => None,
             Some(width) => Some(width as usize),
-            None if is_terminal => Some(columns(rt)),
+            None if is_terminal => columns(rt),
             None => None,
         },
     }

@@ -6,6 +6,7 @@ use std::alloc::AllocError;
 use std::env::{self, VarError};
 use std::fs::{self, File};
 use std::io::{self, ErrorKind, Read};
+use std::time::SystemTime;
 
 /// The folder of the zones that have names.
 const ZONES: &str = "/usr/share/zoneinfo";
@@ -42,6 +43,13 @@ impl Zone {
         };
         let seconds = i64::from(offset.seconds);
         nanos.saturating_add(seconds.saturating_mul(SECOND))
+    }
+
+    /// What its clocks tell now, where the system's clock can be read.
+    pub fn now(&self, rt: &HostRuntime) -> Option<i64> {
+        let now = SystemTime::now(rt).ok()?;
+        let since = now.duration_since(SystemTime::UNIX_EPOCH).ok()?;
+        Some(self.told_at(i64::try_from(since.as_nanos()).ok()?))
     }
 }
 

@@ -16,7 +16,7 @@ mod room;
 mod shown;
 mod spot;
 
-pub use lookup::{Found, Member, find, first_wrap_file, has_bytes, wrap_of};
+pub use lookup::{Found, Member, find, first_wrap_file, has_bytes, wrap_of, wrap_of_closed};
 pub use place::{Kind, Place, RunEnd};
 pub use room::{Crowded, is_crowded, is_too_many};
 pub use shown::Shown;

@@ -6,7 +6,7 @@ ghost use Rattle.trace_lookup.specs.Finding.{count_in, MayBeFile, MayBeWrap, IsI
 use crate::place::{MOST_RUNS, Place};
 use command_line::{Asked, Shape};
 use foreign_files::first_header;
-use recovery::file_in_turn;
+use recovery::{file_in_turn, files_in_turn};
 use segment::{SegHeader, StoreSpec};
 use std::alloc::AllocError;
 use std::fs;
@@ -141,6 +141,40 @@ fn find_wrap(rt: HostRuntime, asked: Asked<'_>) -> Result<Found, AllocError>
     } else {
         Found::Nothing
     })
+}
+
+/// Whether files of these names are those of a wrap that has a file of this number, as one of them says.
+fn has_file(rt: HostRuntime, base: &str, suffix: &str, k: u32) -> Result<bool, AllocError> {
+    if base.is_empty() || suffix.contains('/') {
+        return Ok(false);
+    }
+    let asked = Asked {
+        base,
+        shape: Some(Shape::Wrap),
+        suffix: Some(suffix),
+        count: None,
+    };
+    Ok(match find_wrap(rt, asked)? {
+        Found::Wrap(Some(header)) => k < files_in_turn(header.spec),
+        _ => false,
+    })
+}
+
+/// The wrap of which a file of this name is one that is closed, where another file of that wrap says so.
+pub fn wrap_of_closed(rt: HostRuntime, name: &str) -> Result<Option<Member>, AllocError> {
+    let alloc = rt.alloc();
+    for k in 0..u32::from(MOST_RUNS) + 1 {
+        let number = format!(in alloc; "{k}")?;
+        if let Some((base, suffix)) = name.rsplit_once(number.as_str())
+            && has_file(rt, base, suffix, k)?
+        {
+            return Ok(Some(Member {
+                base: String::from_str(alloc, base)?,
+                suffix: String::from_str(alloc, suffix)?,
+            }));
+        }
+    }
+    Ok(None)
 }
 
 /// Looks for a trace of the shape that is asked for; where none is, for one file and then for a wrap.

@@ -1,5 +1,5 @@
 -- What one more message does to the rows.
-use Rattle.std.proofs.Common.{◌≡◌, ℕ, ◌+◌, ◌<◌, ◌≤◌, Bool, true, false, ◌&&◌, ◌||◌, ◌==◌, List, [], ◌∷◌, ◌++◌, Option, Some, None, if◌then◌else◌, fold, refl, sym, ap, ◌∙◌, subst, arith, unwrap_or, option_map, Vec, bytes_eq, codes, ⊎_elim}
+use Rattle.std.proofs.Common.{◌≡◌, ℕ, cond, ◌+◌, ◌<◌, ◌≤◌, Bool, true, false, ◌&&◌, ◌||◌, ◌==◌, List, [], ◌∷◌, ◌++◌, Option, Some, None, if◌then◌else◌, fold, refl, sym, ap, ◌∙◌, subst, arith, unwrap_or, option_map, Vec, bytes_eq, codes, ⊎_elim}
 use borrow.Author.Tests.{eqb-true, ne_eqb}
 use Rattle.std.specs.declared.alloc.Global.{Global}
 use Rattle.std.specs.Cmp.Lexicographic.{bytes_decides}
@@ -7,8 +7,8 @@ use Rattle.std.specs.HashMap.{HashMap}
 use Rattle.std.proofs.lemmas.Bool.{cases_Bool, cond-true, cond-false}
 use Rattle.std.proofs.lemmas.List.Sums.{fold_push, sum_by_push}
 use Rattle.trace_text.specs.MessageFacts.{Facts}
-use Rattle.trace_summary.specs.Counting.{Telling, Read, Waiting, none_waits, comes_if, goes_if, waits_after, waiting_for, how_many, passes, does, is_told, is_to, is_of, is_sent, row_of, ProcessCounts, all_of_process, counted_of_process}
-use Rattle.trace_summary.specs.Rows.{row_at, Puts, one_if, counts_of_function, function_counts_with, no_function_counts, is_of_functions, counts_of_process, process_counts_with, process_counts_sent_to, process_counts_at, no_process_counts, is_of_processes, who_does, PutsProcess, PutsIfTold, AreFunctionsCounted, AreProcessesCounted}
+use Rattle.trace_summary.specs.Counting.{Telling, Read, Waiting, comes_if, goes_if, Holders, Mail, changed_name, holder_after, mail, mail_after, no_mail, to_whom, with_holder, waiting_for, how_many, passes, does, is_told, is_to, is_of, is_sent, row_of, ProcessCounts, all_of_process, counted_of_process}
+use Rattle.trace_summary.specs.Rows.{row_at, Puts, one_if, counts_of_function, function_counts_with, no_function_counts, is_of_functions, counts_of_process, process_counts_with, process_counts_sent_to, process_counts_at, no_process_counts, is_of_processes, who_does, holder_in, AreNamesTold, SetsName, PutsProcess, PutsIfTold, AreFunctionsCounted, AreProcessesCounted}
 use Rattle.trace_summary.specs.declared.row.FunctionRow.{FunctionRow}
 use Rattle.trace_summary.specs.declared.row.ProcessRow.{ProcessRow}
 
@@ -112,10 +112,11 @@ comes_bounded : (comes : Bool) (waiting : Waiting) → waiting.now ≤ waiting.m
 comes_bounded true waiting le = omega arith
 comes_bounded false waiting le = le
 
-bounded_from : (process : List ℕ) (waiting : Waiting) (told : List Telling) → waiting.now ≤ waiting.most → (fold (waits_after process) waiting told).now ≤ (fold (waits_after process) waiting told).most
-bounded_from process waiting [] le = le
-bounded_from process waiting (telling ∷ told) le =
-    bounded_from process (waits_after process waiting telling) told (comes_bounded (passes (is_to process) telling) _ (goes_bounded (passes (does process (is_of (codes "receive"))) telling) waiting le))
+bounded_from : (process : List ℕ) (before : Mail) (told : List Telling) → (before.waiting process).now ≤ (before.waiting process).most → ((fold mail_after before told).waiting process).now ≤ ((fold mail_after before told).waiting process).most
+bounded_from process before [] le = le
+bounded_from process before (telling ∷ told) le =
+    bounded_from process (mail_after before telling) told
+    (comes_bounded (passes (is_to before.holders process) telling) _ (goes_bounded (passes (does process (is_of (codes "receive"))) telling) (before.waiting process) le))
 
 -- where nothing is counted, there is nothing
 nothing : (counts : ProcessCounts) → Bounded counts → all_of_process counts ≡ 0 → counts ≡ no_process_counts
@@ -168,8 +169,8 @@ own_steps true false false false counts = own_none counts
 abbrev own_if : List ℕ → Facts → ProcessCounts → ProcessCounts
 own_if process facts counts = if is_told process (who_does facts) then process_counts_with facts.kind counts else counts
 
-abbrev sent_if : List ℕ → Facts → ProcessCounts → ProcessCounts
-sent_if process facts counts = if is_to process facts then process_counts_sent_to counts else counts
+abbrev sent_if : Holders → List ℕ → Facts → ProcessCounts → ProcessCounts
+sent_if holders process facts counts = if is_to holders process facts then process_counts_sent_to counts else counts
 
 told_if : (b : Bool) (process : List ℕ) (who : Option (List ℕ)) → is_told process (if b then who else None) ≡ (b && is_told process who)
 told_if true process who = refl
@@ -180,7 +181,7 @@ sent_by true counts = refl
 sent_by false counts = refl
 
 -- what one message more comes to
-counted_more : (process : List ℕ) (told : List Telling) (facts : Facts) → counted_of_process process (told ++ (Read facts ∷ [])) ≡ sent_if process facts (own_if process facts (counted_of_process process told))
+counted_more : (process : List ℕ) (told : List Telling) (facts : Facts) → counted_of_process process (told ++ (Read facts ∷ [])) ≡ sent_if (mail told).holders process facts (own_if process facts (counted_of_process process told))
 counted_more process told facts =
     let counts = counted_of_process process told in
     let t = is_told process facts.tracee in
@@ -191,10 +192,11 @@ counted_more process told facts =
     let calls = how_many_more (does process (is_of (codes "call"))) told facts in
     let sent = how_many_more (does process is_sent) told facts in
     let received = how_many_more (does process (is_of (codes "receive"))) told facts in
-    let waits = fold_push (waits_after process) none_waits told (Read facts) in
+    let waits = ap (λ (m : Mail). m.waiting process) (fold_push mail_after no_mail told (Read facts)) in
+    let comes = is_to (mail told).holders process facts in
     (λ i. record { calls = calls i; sent = sent i; received = received i; waiting = waits i })
-    ∙ ap (λ (counts : ProcessCounts). record counts { waiting = comes_if (is_to process facts) counts.waiting }) own
-    ∙ sym (sent_by (is_to process facts) (own_if process facts counts))
+    ∙ ap (λ (counts : ProcessCounts). record counts { waiting = comes_if comes counts.waiting }) own
+    ∙ sym (sent_by comes (own_if process facts counts))
 
 module _ {S : Type 0} (counts : ProcessCounts) (bounded : Bounded counts) (process : List ℕ) (old new : HashMap (Vec ℕ Global) ProcessRow S)
     (is : option_map counts_of_process (row_at old process) ≡ row_of (all_of_process counts) counts) (change : ProcessCounts → ProcessCounts) where
@@ -225,14 +227,14 @@ module _ {S : Type 0} (counts : ProcessCounts) (bounded : Bounded counts) (proce
 
 -- the rows of processes, after what a message tells of one was put, and then that it is sent to one
 pub processes_counted : {S : Type 0} (old middle new : HashMap (Vec ℕ Global) ProcessRow S) (told : List Telling) (facts : Facts)
-    → PutsIfTold (who_does facts) (process_counts_with facts.kind) old middle → PutsIfTold facts.receiver process_counts_sent_to middle new
+    → PutsIfTold (who_does facts) (process_counts_with facts.kind) old middle → PutsIfTold (to_whom (mail told).holders facts) process_counts_sent_to middle new
     → AreProcessesCounted old told → AreProcessesCounted new (told ++ (Read facts ∷ []))
 processes_counted old middle new told facts does comes before process =
-    put_if (own_if process facts (counted_of_process process told)) own_bounded process middle new (first (is_of_processes facts.kind) refl does) process_counts_sent_to facts.receiver (λ counts. omega arith) comes
+    put_if (own_if process facts (counted_of_process process told)) own_bounded process middle new (first (is_of_processes facts.kind) refl does) process_counts_sent_to (to_whom (mail told).holders facts) (λ counts. omega arith) comes
     ∙ ap (λ (counts : ProcessCounts). row_of (all_of_process counts) counts) (sym (counted_more process told facts))
   where
     bounded : Bounded (counted_of_process process told)
-    bounded = bounded_from process none_waits told (omega arith)
+    bounded = bounded_from process no_mail told (omega arith)
 
     first : (b : Bool) → is_of_processes facts.kind ≡ b → PutsIfTold (if b then facts.tracee else None) (process_counts_with facts.kind) old middle
         → HasChange (counted_of_process process told) bounded process old middle (before process) (process_counts_with facts.kind) (is_told process (if b then facts.tracee else None))
@@ -245,3 +247,17 @@ processes_counted old middle new told facts does comes before process =
         go : (b : Bool) → Bounded (if b then process_counts_with facts.kind (counted_of_process process told) else counted_of_process process told)
         go true = goes_bounded (bytes_eq facts.kind (codes "receive")) (waiting_for process told) bounded
         go false = bounded
+
+-- ---- names
+
+-- where all names have the same processes, they have after one is given
+same_holders : (name holder : Option (List ℕ)) (a b : Holders) → ((n : List ℕ) → a n ≡ b n) → (n : List ℕ) → with_holder name holder a n ≡ with_holder name holder b n
+same_holders None holder a b same n = same n
+same_holders (Some name) holder a b same n = ap (λ o. cond (bytes_eq name n) holder o) (same n)
+
+-- the names, after what a message tells of one was put
+pub names_told : {S : Type 0} (old new : HashMap (Vec ℕ Global) (Vec ℕ Global) S) (told : List Telling) (facts : Facts)
+    → SetsName (changed_name facts) (holder_after facts) old new → AreNamesTold old told → AreNamesTold new (told ++ (Read facts ∷ []))
+names_told old new told facts sets before name =
+    sets name ∙ same_holders (changed_name facts) (holder_after facts) (holder_in old) (mail told).holders before name
+    ∙ sym (ap (λ (m : Mail). m.holders name) (fold_push mail_after no_mail told (Read facts)))

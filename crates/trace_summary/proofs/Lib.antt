@@ -1,7 +1,9 @@
 pub mod CountLemmas
+mod EndsLemmas
 mod KindLemmas
 mod OpenLemmas
 pub mod RowLemmas
 mod StackLemmas
 mod StreamLemmas
 mod TableLemmas
+pub mod TakenLemmas

@@ -3,7 +3,7 @@ use Rattle.std.proofs.Common.{◌≡◌, ◌==◌, ℕ, ◌+◌, ◌≤◌, Bool
 use Rattle.std.specs.declared.alloc.Global.{Global}
 use Rattle.std.specs.Cmp.Lexicographic.{nat_list_eq_equiv}
 use Rattle.std.specs.HashMap.{HashMap}
-use Rattle.std.specs.List.{All, AllByRecursion, IsDistinct, cons_option, count_by, filter_map}
+use Rattle.std.specs.List.{All, AllByRecursion, IsDistinct, cons_option, count_by}
 use Rattle.std.specs.Bool.{then_some}
 use Rattle.std.specs.Map.{keys_of, lookup}
 use Rattle.std.specs.Option.{is_some, option_map}

@@ -1,5 +1,8 @@
 -- What is counted of the messages of a trace.
-use Rattle.std.specs.Prelude.{ℕ, ◌+◌, ◌-◌, max, Bool, true, false, ◌&&◌, ◌||◌, ◌==◌, Option, Some, None, List, [], ◌∷◌, ◌++◌, map, count_by, fold, sum_by, codes, if◌then◌else◌}
+use Rattle.std.specs.Prelude.{ℕ, ◌+◌, ◌-◌, max, Bool, true, false, ◌&&◌, ◌||◌, ◌==◌, Option, Some, None, List, [], ◌∷◌, ◌++◌, map, count_by, fold, sum_by, codes, nat_lt, if◌then◌else◌}
+use Rattle.std.specs.Bool.{then_some}
+use Rattle.std.specs.Map.{update}
+use Rattle.std.specs.Option.{unwrap_or}
 use Rattle.std.specs.Str.{bytes_eq}
 use Rattle.entry_codec.specs.Entries.{Entry, Message, Drop}
 use Rattle.trace_text.specs.MessageFacts.{Facts, facts_in, as_told}
@@ -81,9 +84,44 @@ tells function test facts = is_told function facts.function && test facts
 abbrev pub does : List ℕ → (Facts → Bool) → Facts → Bool
 does process test facts = is_told process facts.tracee && test facts
 
--- whether it is sent to this process, which is there
-abbrev pub is_to : List ℕ → Facts → Bool
-is_to process facts = is_told process facts.receiver
+-- ---- registered names
+
+-- the process that has a name, as far as that is told
+abbrev pub Holders : Type 0
+Holders = List ℕ → Option (List ℕ)
+
+-- the name that a process gets by a message, or that none has any more
+abbrev pub changed_name : Facts → Option (List ℕ)
+changed_name facts = if is_of (codes "register") facts || is_of (codes "unregister") facts then facts.name else None
+
+-- who has it then
+abbrev pub holder_after : Facts → Option (List ℕ)
+holder_after facts = if is_of (codes "register") facts then facts.tracee else None
+
+abbrev pub with_holder : Option (List ℕ) → Option (List ℕ) → Holders → Holders
+with_holder None holder holders = holders
+with_holder (Some name) holder holders = update bytes_eq holders name holder
+
+abbrev pub holders_with : Holders → Telling → Holders
+holders_with holders (Read facts) = with_holder (changed_name facts) (holder_after facts) holders
+holders_with holders telling = holders
+
+-- who a message is for that is sent to a name: the process that has it, or the name itself where none is told to have it
+abbrev pub by_name : Holders → Option (List ℕ) → Option (List ℕ)
+by_name holders None = None
+by_name holders (Some name) = Some (unwrap_or (holders name) name)
+
+abbrev pub to_one : Option (List ℕ) → Option (List ℕ) → Option (List ℕ)
+to_one None named = named
+to_one (Some process) named = Some process
+
+-- who a message is sent to
+abbrev pub to_whom : Holders → Facts → Option (List ℕ)
+to_whom holders facts = to_one facts.receiver (by_name holders (if is_of (codes "send") facts then facts.name else None))
+
+-- whether it is sent to this one
+abbrev pub is_to : Holders → List ℕ → Facts → Bool
+is_to holders process facts = is_told process (to_whom holders facts)
 
 -- ---- messages that wait
 
@@ -110,12 +148,35 @@ abbrev pub goes_if : Bool → Waiting → Waiting
 goes_if goes waiting = if goes then one_goes waiting else waiting
 
 -- an entry tells one or the other, or neither
-abbrev pub waits_after : List ℕ → Waiting → Telling → Waiting
-waits_after process waiting telling = comes_if (passes (is_to process) telling) (goes_if (passes (does process (is_of (codes "receive"))) telling) waiting)
+abbrev pub waits_after : Holders → List ℕ → Waiting → Telling → Waiting
+waits_after holders process waiting telling = comes_if (passes (is_to holders process) telling) (goes_if (passes (does process (is_of (codes "receive"))) telling) waiting)
 
--- the messages that wait for a process behind all entries
+-- who has each name, and the messages that wait for each process, and for each name that none is told to have
+pub record Mail : Type 0 where
+  pub holders : Holders
+  pub waiting : List ℕ → Waiting
+
+abbrev pub no_mail : Mail
+no_mail = record { holders = λ _. None; waiting = λ _. none_waits }
+
+abbrev pub mail_after : Mail → Telling → Mail
+mail_after before telling = record { holders = holders_with before.holders telling; waiting = λ process. waits_after before.holders process (before.waiting process) telling }
+
+-- behind all entries
+abbrev pub mail : List Telling → Mail
+mail told = fold mail_after no_mail told
+
 abbrev pub waiting_for : List ℕ → List Telling → Waiting
-waiting_for process told = fold (waits_after process) none_waits told
+waiting_for process told = (mail told).waiting process
+
+-- whether a text is of a process or a port, and not of a name
+abbrev pub is_process : List ℕ → Bool
+is_process [] = false
+is_process (byte ∷ bytes) = byte == 60 || byte == 35
+
+-- the most that waited for a process, where any was sent to it; of a name, and of one to which none is told to be sent, it isn't known
+abbrev pub known_waiting : List ℕ → ℕ → Option ℕ
+known_waiting text most = then_some (is_process text && nat_lt 0 most) most
 
 -- ---- rows
 

@@ -8,7 +8,7 @@ use Rattle.std.specs.Map.{update}
 use Rattle.std.specs.Option.{option_map, unwrap_or}
 use Rattle.std.specs.Str.{bytes_eq}
 use Rattle.trace_text.specs.MessageFacts.{Facts}
-use Rattle.trace_summary.specs.Counting.{Telling, Waiting, none_waits, one_comes, goes_if, FunctionCounts, ProcessCounts, function_row, process_row, kind_row}
+use Rattle.trace_summary.specs.Counting.{Telling, Waiting, none_waits, one_comes, goes_if, FunctionCounts, ProcessCounts, function_row, process_row, kind_row, mail, with_holder}
 use Rattle.trace_summary.specs.declared.messages.KindRow.{KindRow}
 use Rattle.trace_summary.specs.declared.row.FunctionRow.{FunctionRow}
 use Rattle.trace_summary.specs.declared.row.ProcessRow.{ProcessRow}
@@ -79,6 +79,19 @@ module _ {S : Type 0} where
   abbrev pub PutsIfTold : Option (List ℕ) → (ProcessCounts → ProcessCounts) → HashMap (Vec ℕ Global) ProcessRow S → HashMap (Vec ℕ Global) ProcessRow S → Type 0
   PutsIfTold None change old new = (process : List ℕ) → row_at new process ≡ row_at old process
   PutsIfTold (Some process) change old new = PutsProcess old new process (change (process_counts_at old process))
+
+module _ {S : Type 0} where
+  -- the process that has a name
+  abbrev pub holder_in : HashMap (Vec ℕ Global) (Vec ℕ Global) S → List ℕ → Option (List ℕ)
+  holder_in names name = option_map (λ process. process.items) (row_at names name)
+
+  -- a name is given to a process or to none, where one is; the others stay
+  abbrev pub SetsName : Option (List ℕ) → Option (List ℕ) → HashMap (Vec ℕ Global) (Vec ℕ Global) S → HashMap (Vec ℕ Global) (Vec ℕ Global) S → Type 0
+  SetsName name holder old new = (other : List ℕ) → holder_in new other ≡ with_holder name holder (holder_in old) other
+
+  -- each name has the process that is told to have it
+  abbrev pub AreNamesTold : HashMap (Vec ℕ Global) (Vec ℕ Global) S → List Telling → Type 0
+  AreNamesTold names told = (name : List ℕ) → holder_in names name ≡ (mail told).holders name
 
 -- the kinds that are counted of functions
 abbrev pub is_of_functions : List ℕ → Bool

@@ -1,19 +1,19 @@
 -- What a table tells as an object of JSON.
-use Rattle.std.specs.Prelude.{◌≡◌, ◌≤◌, ℕ, Bool, Option, Some, List, [], ◌∷◌, ◌++◌, map, take, count_by, codes}
+use Rattle.std.specs.Prelude.{◌≡◌, ◌≤◌, ℕ, Bool, Option, Some, None, List, [], ◌∷◌, ◌++◌, map, take, count_by, codes}
 use Rattle.std.specs.Io.KnownBytes.{Appends}
 use Rattle.std.specs.List.{AllByRecursion, AllZip}
 use Rattle.std.specs.Map.{keys_of}
 use Rattle.std.specs.Option.{is_some}
 use Rattle.std.specs.Str.{bytes_eq}
 use Rattle.std.specs.Str.Lossy.{utf8_lossy}
-use Rattle.serde_json.specs.Data.{Data, number, unsigned, string, array, depth, items_depth}
+use Rattle.serde_json.specs.Data.{Data, null, number, unsigned, string, array, depth, items_depth}
 use Rattle.serde_json.specs.Find.{get}
 use Rattle.serde_json.specs.Read.{read}
 use Rattle.serde_json.specs.View.{items_of, items_view, view}
 use Rattle.command_line.specs.declared.ranking.Grouping.{Grouping}
 use Rattle.command_line.specs.declared.ranking.Grouping.TheVariants as by
 use Rattle.command_line.specs.declared.ranking.Ranking.{Ranking}
-use Rattle.trace_summary.specs.Counting.{Telling, FunctionCounts, ProcessCounts, counted_of_function, counted_of_process, function_row, process_row, kind_row, how_many, is_of, messages, unread, lost}
+use Rattle.trace_summary.specs.Counting.{Telling, FunctionCounts, ProcessCounts, counted_of_function, counted_of_process, known_waiting, function_row, process_row, kind_row, how_many, is_of, messages, unread, lost}
 use Rattle.trace_summary.specs.Lines.{line_pairs}
 use Rattle.trace_summary.specs.Rows.{counts_of_function, counts_of_process, one_if}
 use Rattle.trace_summary.specs.declared.table.Rows.{Rows}
@@ -38,6 +38,11 @@ told_text bytes = string (utf8_lossy bytes)
 abbrev pub HasMembers : List Member → Data → Type 0
 HasMembers members told = AllByRecursion (λ member. get member.0 told ≡ Some member.1) members
 
+-- a number, or null where there is none
+abbrev pub number_or_null : Option ℕ → Data
+number_or_null None = null
+number_or_null (Some n) = told_number n
+
 -- those of the row of a function
 abbrev pub function_members : List ℕ → FunctionCounts → List Member
 function_members function counts = (codes "function", told_text function) ∷ (codes "calls", told_number counts.calls) ∷ (codes "returns", told_number counts.returns) ∷ (codes "exceptions", told_number counts.exceptions) ∷ []
@@ -45,7 +50,7 @@ function_members function counts = (codes "function", told_text function) ∷ (c
 -- of a process
 abbrev pub process_members : List ℕ → ProcessCounts → List Member
 process_members process counts =
-    (codes "process", told_text process) ∷ (codes "calls", told_number counts.calls) ∷ (codes "sent", told_number counts.sent) ∷ (codes "received", told_number counts.received) ∷ (codes "waiting", told_number counts.waiting.most) ∷ []
+    (codes "process", told_text process) ∷ (codes "calls", told_number counts.calls) ∷ (codes "sent", told_number counts.sent) ∷ (codes "received", told_number counts.received) ∷ (codes "waiting", number_or_null (known_waiting process counts.waiting.most)) ∷ []
 
 -- of a kind
 abbrev pub kind_members : List ℕ → ℕ → List Member

@@ -1,5 +1,5 @@
--- A code for lists of entries, for the ghost field of what keeps them.
-use Rattle.std.specs.Prelude.{◌≡◌, ◌⊎◌, ℕ, List, refl}
+-- The entries that a view took: a code for lists of them, for the ghost field of what keeps them, and those of two looks.
+use Rattle.std.specs.Prelude.{◌≡◌, ◌⊎◌, ℕ, List, [], ◌∷◌, refl}
 use Rattle.std.specs.Coded.{Coded, code_by, coded_ℕ, coded_list, coded⊎}
 use Rattle.std.proofs.Common.{inl, inr}
 use Rattle.entry_codec.specs.Entries.{Entry, Message, Drop}
@@ -19,3 +19,8 @@ joined_parted (Drop count) = refl
 -- entries, in numbers
 abbrev pub coded_entries : Coded (List Entry)
 coded_entries = coded_list (code_by (List ℕ ⊎ ℕ) (coded⊎ (coded_list coded_ℕ) coded_ℕ) parted joined joined_parted)
+
+-- those of a first look and of the look after it in one list, which tells where the first one ends
+abbrev pub in_two_looks : List Entry → List Entry → List Entry
+in_two_looks [] after = Message [] ∷ after
+in_two_looks (entry ∷ before) after = Drop 0 ∷ entry ∷ in_two_looks before after

@@ -3,13 +3,14 @@ use Rattle.std.specs.Prelude.{◌≡◌, ℕ, List, Option, None, refl}
 use Rattle.std.specs.Coded.{Coded, Coded-set, code_by, coded×, coded_list, coded_ℕ, coded_option}
 use Rattle.entry_codec.specs.Entries.{Entry}
 use Rattle.trace_summary.specs.Counting.{Telling, tellings, FunctionCounts, ProcessCounts, messages, unread, lost}
-use Rattle.trace_summary.specs.Rows.{AreFunctionsCounted, AreProcessesCounted, AreKindsCounted}
+use Rattle.trace_summary.specs.Rows.{AreFunctionsCounted, AreNamesTold, AreProcessesCounted, AreKindsCounted}
 use Rattle.trace_summary.specs.declared.tallies.Tallies.{Tallies}
 
 -- the counts are those of what is told
 pub record IsCounted (tallies : Tallies) (told : List Telling) : Type 0 where
   pub functions : AreFunctionsCounted tallies.functions.rows told
   pub processes : AreProcessesCounted tallies.processes.rows told
+  pub names : AreNamesTold tallies.processes.names told
   pub kinds : AreKindsCounted tallies.kinds.rows.items told
   pub messages : tallies.messages ≡ messages told
   pub unread : tallies.unread ≡ unread told
@@ -34,6 +35,7 @@ pub IsCounted-prop : (tallies : Tallies) (told : List Telling) → IsProp (IsCou
 IsCounted-prop tallies told p q i = record {
   functions = λ text. Coded-set (coded_option coded_function_counts) _ _ (p.functions text) (q.functions text) i;
   processes = λ text. Coded-set (coded_option coded_process_counts) _ _ (p.processes text) (q.processes text) i;
+  names = λ name. Coded-set (coded_option (coded_list coded_ℕ)) _ _ (p.names name) (q.names name) i;
   kinds = λ word. Coded-set (coded_list coded_ℕ) _ _ (p.kinds word) (q.kinds word) i;
   messages = Coded-set coded_ℕ _ _ p.messages q.messages i;
   unread = Coded-set coded_ℕ _ _ p.unread q.unread i;

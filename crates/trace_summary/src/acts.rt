@@ -19,10 +19,17 @@ pub enum Act<'t> {
         process: &'t [u8],
         function: &'t [u8],
     },
+    /// It is back in one that it called.
+    ReturnTo {
+        process: &'t [u8],
+        function: &'t [u8],
+    },
     /// It ends.
     Exit {
         process: &'t [u8],
     },
+    /// Messages were lost, or one isn't read: of no process is it known any more which calls are open.
+    Loss,
     /// Nothing of these.
     Other,
 }
@@ -45,6 +52,9 @@ pub fn act_of<'t>(facts: &MessageFacts<'t>) -> Act<'t>
     }
     if facts.kind == "return" || facts.kind == "exception" {
         return Act::Return { process, function };
+    }
+    if facts.kind == "return_to" {
+        return Act::ReturnTo { process, function };
     }
     Act::Other
 }

@@ -1,5 +1,6 @@
 //! The numbers of a row, as a table shows them.
-ghost use Rattle.std.specs.Prelude.{◌≤◌};
+ghost use Rattle.std.specs.Prelude.{◌≡◌, ◌≤◌};
+ghost use Rattle.trace_summary.specs.Counting.{is_process, known_waiting};
 
 use crate::row::{FunctionRow, ProcessRow};
 use std::fmt;
@@ -10,6 +11,7 @@ pub enum Figure {
     Calls,
     Exceptions,
     Total,
+    Own,
     Mean,
     Longest,
     Open,
@@ -26,6 +28,7 @@ impl Figure {
             Figure::Calls => "calls",
             Figure::Exceptions => "exceptions",
             Figure::Total => "total",
+            Figure::Own => "own",
             Figure::Mean => "mean",
             Figure::Longest => "longest",
             Figure::Open => "open",
@@ -71,6 +74,14 @@ impl Cell {
         }
     }
 
+    /// Of a number, where there is one.
+    fn of_some_count(count: Option<u64>) -> Cell {
+        match count {
+            Some(count) => Cell::Count(count),
+            None => Cell::None,
+        }
+    }
+
     /// How many characters it has.
     pub fn width(self) -> usize {
         match self {
@@ -108,44 +119,67 @@ fn digits(number: u64) -> usize
 
 /// A row, of which a table shows numbers.
 pub trait Shown: Copy {
-    /// One of them; of a function with the open calls of each, by its number.
-    fn cell(&self, figure: Figure, open: &[u64]) -> Cell;
+    /// One of them, of the row of this text; of a function with the open calls of each, by its number.
+    fn cell(&self, figure: Figure, text: &[u8], open: &[u64]) -> Cell;
 }
 
 impl Shown for FunctionRow {
-    fn cell(&self, figure: Figure, open: &[u64]) -> Cell {
+    fn cell(&self, figure: Figure, _text: &[u8], open: &[u64]) -> Cell {
         let mean = self.times.mean();
         match figure {
             Figure::Calls => Cell::Count(self.calls),
             Figure::Exceptions => Cell::Count(self.exceptions),
             Figure::Total => Cell::of_some_time(mean.map(|_| self.times.total)),
+            Figure::Own => Cell::of_some_time(self.times.own),
             Figure::Mean => Cell::of_some_time(mean),
             Figure::Longest => Cell::of_some_time(mean.map(|_| self.times.longest)),
-            Figure::Open => Cell::Count(open_of(open, self.number)),
+            Figure::Open => Cell::Count(open_of(open, *self)),
             _ => Cell::None,
         }
     }
 }
 
 impl Shown for ProcessRow {
-    fn cell(&self, figure: Figure, _open: &[u64]) -> Cell {
+    fn cell(&self, figure: Figure, text: &[u8], _open: &[u64]) -> Cell {
         match figure {
             Figure::Calls => Cell::Count(self.calls),
             Figure::Sent => Cell::Count(self.sent),
             Figure::Received => Cell::Count(self.received),
-            Figure::Waiting => Cell::Count(self.waiting.most),
+            Figure::Waiting => Cell::of_some_count(waiting_of(text, *self)),
             _ => Cell::None,
         }
     }
 }
 
 impl Shown for u64 {
-    fn cell(&self, _figure: Figure, _open: &[u64]) -> Cell {
+    fn cell(&self, _figure: Figure, _text: &[u8], _open: &[u64]) -> Cell {
         Cell::Count(*self)
     }
 }
 
-/// How many calls of the function of this number are open.
-pub fn open_of(open: &[u64], number: u32) -> u64 {
-    open.get(number as usize).copied().unwrap_or(0)
+/// How many calls of a function are open. None is where no end of it is told: it is never told when these are over.
+pub fn open_of(open: &[u64], row: FunctionRow) -> u64 {
+    if row.has_end() {
+        open.get(row.number as usize).copied().unwrap_or(0)
+    } else {
+        0
+    }
+}
+
+/// Whether a row is for a process or a port, by its text, and not for a registered name.
+fn is_process(text: &[u8]) -> bool
+    ensures { result ≡ is_process text.now }
+{
+    matches!(text, [b'<' | b'#', ..])
+}
+
+/// The most messages that waited for a process. It isn't known of one to which none is told to be sent, and of a name.
+pub fn waiting_of(text: &[u8], row: ProcessRow) -> Option<u64>
+    ensures { result ≡ known_waiting text.now row.waiting.most }
+{
+    if is_process(text) && row.waiting.most > 0 {
+        Some(row.waiting.most)
+    } else {
+        None
+    }
 }

@@ -6,6 +6,7 @@ ghost use Rattle.trace_summary.specs.Drawings.{ending};
 use crate::acts::{Act, act_of};
 use crate::arrows::Arrows;
 use crate::clock::Clock;
+use crate::ends::Ends;
 use crate::event::{Event, Phase, Told};
 use crate::events::Events;
 use crate::member_text::{received_in, sent_in};
@@ -45,41 +46,50 @@ pub struct Drawing<'w, W> {
     tracks: Tracks,
     arrows: Arrows,
     events: Events<'w, W>,
+    /// The functions that tell their ends: calls of others are marks.
+    ends: Ends,
 }
 
 impl<'w, W: Write> Drawing<'w, W> {
     /// Nothing was drawn yet.
-    pub fn new(alloc: Global, out: Option<&'w mut W>) -> Drawing<'w, W> {
+    pub fn new(alloc: Global, out: Option<&'w mut W>, ends: Ends) -> Drawing<'w, W> {
         Drawing {
             clock: Clock::new(),
             tracks: Tracks::new(alloc),
             arrows: Arrows::new(alloc),
             events: Events::new(alloc, out),
+            ends,
         }
     }
 
     /// Draws messages that were lost.
     pub fn lost(&mut self, count: u32) -> Result<(), ViewFault> {
-        self.mark_all(b"lost", None, Told::Number("messages", u64::from(count)))
+        self.lose(b"lost", Told::Number("messages", u64::from(count)))
     }
 
     /// Draws a message of so many bytes that isn't read.
     pub fn unread(&mut self, size: usize) -> Result<(), ViewFault> {
-        self.mark_all(b"opaque", None, Told::Number("bytes", size as u64))
+        self.lose(b"opaque", Told::Number("bytes", size as u64))
+    }
+
+    /// Ends all slices, since no call is known to be open any more, and draws what was lost.
+    fn lose(&mut self, name: &[u8], told: Told<'_>) -> Result<(), ViewFault> {
+        let time = self.clock.next(None);
+        let busy = self.tracks.lose();
+        for place in busy.iter() {
+            let spot = self.spot_at(*place, time);
+            self.end_all(spot)?;
+        }
+        self.mark_all(name, time, told)
     }
 
     /// Draws what is of no process.
-    fn mark_all(
-        &mut self,
-        name: &[u8],
-        time: Option<i64>,
-        told: Told<'_>,
-    ) -> Result<(), ViewFault> {
+    fn mark_all(&mut self, name: &[u8], time: u64, told: Told<'_>) -> Result<(), ViewFault> {
         self.events.put(&Event {
             name,
             phase: Phase::MarkOfAll,
             track: 0,
-            time: self.clock.next(time),
+            time,
             told,
         })
     }
@@ -89,6 +99,7 @@ impl<'w, W: Write> Drawing<'w, W> {
         let time = time_in(facts.text);
         let told = Told::Text(facts.kind, facts.text);
         let Some(process) = facts.tracee else {
+            let time = self.clock.next(time);
             return self.mark_all(facts.kind.as_bytes(), time, told);
         };
         let spot = self.spot(process, time)?;
@@ -101,11 +112,18 @@ impl<'w, W: Write> Drawing<'w, W> {
                 process: _,
                 function,
             } => self.leave(spot, function, facts.kind, told),
+            Act::ReturnTo {
+                process: _,
+                function,
+            } => {
+                self.end_within(spot, function)?;
+                self.mark(spot, facts.kind, told)
+            }
             Act::Exit { process: _ } => {
                 self.end_all(spot)?;
                 self.mark(spot, facts.kind, told)
             }
-            Act::Other => self.other(spot, process, facts, told),
+            Act::Loss | Act::Other => self.other(spot, process, facts, told),
         }
     }
 
@@ -140,9 +158,9 @@ impl<'w, W: Write> Drawing<'w, W> {
             .put(&spot.event(kind.as_bytes(), Phase::Mark, told))
     }
 
-    /// Draws a call.
+    /// Draws a call: the begin of a slice, or a mark where its function may never tell its end.
     fn call(&mut self, spot: Spot, function: &[u8], told: Told<'_>) -> Result<(), ViewFault> {
-        let phase = if self.tracks.call(spot.place, function)? {
+        let phase = if self.ends.has(function) && self.tracks.call(spot.place, function)? {
             Phase::Begin
         } else {
             Phase::Mark
@@ -150,7 +168,7 @@ impl<'w, W: Write> Drawing<'w, W> {
         self.events.put(&spot.event(function, phase, told))
     }
 
-    /// Draws a return or an exception: the end of the slices that it ends, or a mark where it ends none.
+    /// Draws a return or an exception: the end of the slices that it ends, or a mark where it ends none of its function.
     fn leave(
         &mut self,
         spot: Spot,
@@ -158,16 +176,29 @@ impl<'w, W: Write> Drawing<'w, W> {
         kind: &str,
         told: Told<'_>,
     ) -> Result<(), ViewFault> {
-        let count = match self.tracks.at(spot.place) {
+        self.ends.learn(function)?;
+        let left = match self.tracks.at(spot.place) {
             Some(track) => track.leave(function),
-            None => 0,
+            None => None,
         };
-        if count == 0 {
+        let Some(left) = left else {
+            return self.mark(spot, kind, told);
+        };
+        self.end_slices(spot, left.within)?;
+        if !left.is_slice {
             return self.mark(spot, kind, told);
         }
-        self.end_slices(spot, count - 1)?;
         let _innermost = self.tracks.end(spot.place);
         self.events.put(&spot.event(function, Phase::End, told))
+    }
+
+    /// Ends the slices within the innermost open call of a function, which a process is back in.
+    fn end_within(&mut self, spot: Spot, function: &[u8]) -> Result<(), ViewFault> {
+        let count = match self.tracks.at(spot.place) {
+            Some(track) => track.come_back(function),
+            None => 0,
+        };
+        self.end_slices(spot, count)
     }
 
     /// Ends so many slices of a track, the innermost first.

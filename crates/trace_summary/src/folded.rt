@@ -4,9 +4,11 @@ ghost use Rattle.std.specs.Prelude.{◌≡◌, ◌++◌, ◌∷◌, [], List, �
 ghost use Rattle.std.specs.{Io.KnownBytes.Appends, Coded.→_prop};
 ghost use Rattle.entry_codec.specs.{Entries.Entry, Entries.Message, Seen.lent};
 ghost use Rattle.trace_summary.specs.Acts.{act_in, acts_in};
+ghost use Rattle.trace_summary.specs.Taking.{in_two_looks};
 ghost use Rattle.trace_summary.specs.Stacks.{Act as TheAct, AreOrdered, IsFolded, IsFolded-prop, calls_at, calls_of, lines_of};
 
 use crate::acts::{Act, act_of};
+use crate::ends_seen::EndsSeen;
 use crate::stacks::Stacks;
 use crate::taken::Taken;
 use crate::times::time_in;
@@ -23,19 +25,26 @@ pub struct Folded {
     stacks: Stacks,
     /// Why no more is taken.
     fault: Option<ViewFault>,
+    /// Those that told before which functions tell their ends.
+    before: Taken,
     taken: Taken,
-    ghost folded: { fault ≡ None → IsFolded stacks (acts_in taken.entries) } by { →_prop (IsFolded-prop stacks (acts_in taken.entries)) },
+    ghost folded: { fault ≡ None → IsFolded (acts_in before.entries) stacks (acts_in taken.entries) } by { →_prop (IsFolded-prop (acts_in before.entries) stacks (acts_in taken.entries)) },
 }
 
 impl Folded {
-    /// No entry was taken yet.
-    pub fn new(alloc: Global) -> Folded
-        ensures { result.taken.entries ≡ [] }
+    /// No entry was taken yet, but by a first look at which functions tell their ends. Calls of others open nothing; a function
+    /// of which no end was seen there tells its ends from the first one on.
+    pub fn new(alloc: Global, seen: EndsSeen) -> Folded
+        requires { seen.fault ≡ None }
+        ensures taken { result.taken.entries ≡ [] }
+        ensures before { result.before.entries ≡ seen.taken.entries }
+        ensures fault { result.fault ≡ None }
     {
         Folded {
             reader: FactReader::new(alloc),
-            stacks: Stacks::new(alloc),
+            stacks: Stacks::new(alloc, seen.ends),
             fault: None,
+            before: seen.taken,
             taken: Taken::new(),
         }
     }
@@ -49,7 +58,7 @@ impl Folded {
         ensures ordered { OnOk result (AreOrdered self.now.stacks.rows.rows) }
         // Each stack has as many calls as the entries tell. After a fault nothing is written.
         ensures calls { OnOk result ((text : List ℕ) → calls_at self.now.stacks.rows.rows text
-            ≡ calls_of text (acts_in self.now.taken.entries)) }
+            ≡ calls_of text (acts_in self.now.before.entries) (acts_in self.now.taken.entries)) }
     {
         if self.fault.is_some() {
             return Err(io::Error::from(ErrorKind::Other));
@@ -59,7 +68,7 @@ impl Folded {
 }
 
 impl View for Folded {
-    ghost seen = { λ folded. folded.taken.entries };
+    ghost seen = { λ folded. in_two_looks folded.before.entries folded.taken.entries };
 
     ghost failed = { λ folded. folded.fault };
 
@@ -86,22 +95,22 @@ fn fold_entry(
     stacks: &mut Stacks,
     entry: EntryRef<'_>,
 ) -> Result<(), ViewFault>
-    ensures { (acts : List TheAct) → IsFolded stacks.old acts
-        → OnOk result (IsFolded stacks.new (acts ++ (act_in (lent entry.entry) ∷ []))) }
+    ensures { (before acts : List TheAct) → IsFolded before stacks.old acts
+        → OnOk result (IsFolded before stacks.new (acts ++ (act_in (lent entry.entry) ∷ []))) }
 {
     match entry {
         EntryRef::Message(bytes) => fold_message(reader, stacks, bytes),
-        EntryRef::Drop(_) => stacks.note(Act::Other, None),
+        EntryRef::Drop(_) => stacks.note(Act::Loss, None),
     }
 }
 
 /// Takes what a message tells.
 fn fold_message(reader: &mut FactReader, stacks: &mut Stacks, bytes: &[u8]) -> Result<(), ViewFault>
-    ensures { (acts : List TheAct) → IsFolded stacks.old acts
-        → OnOk result (IsFolded stacks.new (acts ++ (act_in (Message bytes.now) ∷ []))) }
+    ensures { (before acts : List TheAct) → IsFolded before stacks.old acts
+        → OnOk result (IsFolded before stacks.new (acts ++ (act_in (Message bytes.now) ∷ []))) }
 {
     match reader.read(bytes)? {
         Some(facts) => stacks.note(act_of(&facts), time_in(facts.text)),
-        None => stacks.note(Act::Other, None),
+        None => stacks.note(Act::Loss, None),
     }
 }

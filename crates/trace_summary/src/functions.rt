@@ -4,7 +4,8 @@ ghost use Rattle.trace_summary.specs.Counting.{Telling, with_read};
 ghost use Rattle.trace_summary.specs.Rows.{AreFunctionsCounted, Puts, counts_of_function, function_counts_with, function_counts_at, is_of_functions};
 ghost use Rattle.trace_summary.specs.declared.row.FunctionRow.{FunctionRow as TheRow};
 
-use crate::open_calls::{OpenCall, OpenCalls};
+use crate::calls::Calls;
+use crate::open_calls::OpenCall;
 use crate::row::FunctionRow;
 use crate::rows::put_new;
 use crate::view::{ViewFault, or_too_many};
@@ -19,12 +20,12 @@ fn is_of_functions(kind: &str) -> bool
     kind == "call" || kind == "return" || kind == "exception"
 }
 
-/// The functions, with what is counted of them and the calls that are open.
+/// The functions, with what is counted of them, and their calls.
 #[derive(Drop)]
 pub struct Functions {
     alloc: Global,
     pub rows: HashMap<Vec<u8>, FunctionRow>,
-    pub open: OpenCalls,
+    pub calls: Calls,
 }
 
 impl Functions {
@@ -35,7 +36,7 @@ impl Functions {
         Functions {
             alloc,
             rows: HashMap::new(alloc),
-            open: OpenCalls::new(alloc),
+            calls: Calls::new(alloc),
         }
     }
 
@@ -50,7 +51,7 @@ impl Functions {
             → OnOk result (AreFunctionsCounted self.new.rows (with_read told facts.now)) }
     {
         if !is_of_functions(facts.kind) {
-            self.note_end(facts);
+            self.note_other(facts);
             return Ok(());
         }
         let Some(function) = facts.function else {
@@ -59,15 +60,29 @@ impl Functions {
         self.count_one(function, facts, time, most)
     }
 
-    /// Forgets the open calls of a process that exits.
-    fn note_end(&mut self, facts: &MessageFacts<'_>)
+    /// Notes what a message that isn't counted tells of the calls of a process.
+    fn note_other(&mut self, facts: &MessageFacts<'_>)
         ensures { self.new.rows ≡ self.old.rows }
     {
-        if facts.kind == "exit"
-            && let Some(process) = facts.tracee
-        {
-            self.open.end(process);
+        let Some(process) = facts.tracee else {
+            return;
+        };
+        if facts.kind == "exit" {
+            self.calls.end(process);
         }
+        if facts.kind == "return_to"
+            && let Some(function) = facts.function
+            && let Some(row) = self.rows.get(function)
+        {
+            self.calls.come_back(process, row.number);
+        }
+    }
+
+    /// Messages were lost, or one isn't read: which calls are open isn't known any more.
+    pub fn lose(&mut self)
+        ensures { self.new.rows ≡ self.old.rows }
+    {
+        self.calls.lose();
     }
 
     /// Counts a message that tells of this function.
@@ -83,13 +98,13 @@ impl Functions {
             (function_counts_at self.old.rows function.now))) }
     {
         if let Some(row) = self.rows.get_mut(function) {
-            *row = with_message(*row, &mut self.open, facts, time)?;
+            *row = with_message(*row, &mut self.calls, facts, time)?;
             return Ok(());
         }
         let Ok(number) = u32::try_from(self.rows.len()) else {
             return Err(ViewFault::TooMany);
         };
-        let row = with_message(FunctionRow::new(number), &mut self.open, facts, time)?;
+        let row = with_message(FunctionRow::new(number), &mut self.calls, facts, time)?;
         put_new(&mut self.rows, self.alloc, function, row, most)
     }
 }
@@ -97,17 +112,13 @@ impl Functions {
 /// The row of a function with one message more, which opens a call or ends one.
 fn with_message(
     row: FunctionRow,
-    open: &mut OpenCalls,
+    calls: &mut Calls,
     facts: &MessageFacts<'_>,
     time: Option<i64>,
 ) -> Result<FunctionRow, ViewFault>
     ensures { IfOk result (λ counted. counts_of_function counted
         ≡ function_counts_with facts.now.kind.now (counts_of_function row)) }
 {
-    let call = OpenCall {
-        function: row.number,
-        time,
-    };
-    let took = open.note(facts.tracee, facts.kind, call)?;
-    Ok(or_too_many(row.with(facts.kind))?.timed(took))
+    let ended = calls.note(facts.tracee, facts.kind, OpenCall::new(row.number, time))?;
+    Ok(or_too_many(row.with(facts.kind))?.timed(ended))
 }

@@ -1,10 +1,11 @@
 //! A trace in numbers.
 ghost use Rattle.std.specs.Prelude.{◌≡◌, ◌≤◌, Some, None, length, IsTrue, IsErr, OnOk, MatchResult};
 
+use crate::stamp::Stamp;
 use recovery::{Outlined, RecoverFault};
 use std::alloc::{AllocError, Global};
 use std::str;
-use trace_reader::{Counted, End, FileFound, FileSummary};
+use trace_reader::{Counted, End, FileFound, FileSummary, Unfinished};
 
 /// The word for parts of long messages.
 pub const PART: &str = "part";
@@ -16,6 +17,37 @@ pub struct Part {
     /// Which of the trace's files it is.
     pub file: u32,
     pub summary: FileSummary,
+}
+
+/// Numbers of entries, from the first to the last one.
+#[derive(Clone, Copy)]
+pub struct Range {
+    pub first: u64,
+    pub last: u64,
+}
+
+impl Range {
+    /// The numbers of the entries of a file; None where it has none.
+    fn of(part: &Part) -> Option<Range> {
+        let first = part.summary.header.entries_before;
+        let more = part.summary.counted.tally.entries.checked_sub(1)?;
+        Some(Range {
+            first,
+            last: first.saturating_add(more),
+        })
+    }
+
+    /// With the numbers of another one, where these begin right behind it.
+    fn joined(self, next: Range) -> Option<Range> {
+        if self.last.checked_add(1) == Some(next.first) {
+            Some(Range {
+                first: self.first,
+                last: next.last,
+            })
+        } else {
+            None
+        }
+    }
 }
 
 /// A trace, in numbers.
@@ -36,7 +68,8 @@ pub struct Info {
 pub struct Totals {
     pub entries: u64,
     pub drops: u64,
-    /// None where it has no value in u64.
+    /// The messages that drop records count, and the long ones that begin there and aren't whole. None where that has no value
+    /// in u64.
     pub lost: Option<u64>,
     pub bytes: u64,
 }
@@ -120,17 +153,26 @@ impl Info {
         }
     }
 
-    /// How many entries come before the first damage in its file.
-    pub fn before_damage(&self) -> u64 {
-        let Some(RecoverFault::Damaged { file, place: _ }) = self.fault() else {
-            return 0;
-        };
+    /// How many entries come before the first damage in its file, and how many are counted in the other ones.
+    pub fn around_damage(&self) -> (u64, u64) {
+        let (mut before, mut elsewhere): (u64, u64) = (0, 0);
         for part in &self.parts {
-            if part.file == file {
-                return part.summary.counted.tally.entries;
+            let entries = part.summary.counted.tally.entries;
+            if self.damaged_file() == Some(part.file) {
+                before = entries;
+            } else {
+                elsewhere = elsewhere.saturating_add(entries);
             }
         }
-        0
+        (before, elsewhere)
+    }
+
+    /// Which file is the first that is damaged.
+    fn damaged_file(&self) -> Option<u32> {
+        match self.fault()? {
+            RecoverFault::Damaged { file, place: _ } => Some(file),
+            _ => None,
+        }
     }
 
     /// Whether the run of a part is kept; of files that aren't one whole trace each is.
@@ -158,7 +200,66 @@ impl Info {
             totals.entries = outlined.total.saturating_sub(outlined.first);
             totals.lost = Some(outlined.drops.saturating_sub(outlined.lost));
         }
+        totals.lost = match totals.lost {
+            Some(lost) => lost.checked_add(self.unfinished()),
+            None => None,
+        };
         totals
+    }
+
+    /// How many long messages begin in the runs that are kept, and aren't whole in these.
+    fn unfinished(&self) -> u64 {
+        let mut unfinished = Unfinished::new();
+        let mut end = None;
+        for part in &self.parts {
+            if self.is_kept(part) {
+                let summary = &part.summary;
+                let first = summary.header.entries_before;
+                if end != Some(first) {
+                    unfinished.part();
+                }
+                unfinished.add(&summary.counted.kinds);
+                end = first.checked_add(summary.counted.tally.entries);
+            }
+        }
+        unfinished.count()
+    }
+
+    /// The numbers of the entries of a part, where its run is kept and it has some.
+    fn numbers(&self, part: &Part) -> Option<Range> {
+        if self.is_kept(part) {
+            Range::of(part)
+        } else {
+            None
+        }
+    }
+
+    /// The first numbers, without a gap, of the entries of the parts from this place on; and the place behind these parts.
+    pub fn range_from(&self, place: usize) -> Option<(Range, usize)> {
+        let mut found: Option<Range> = None;
+        for at in place..self.parts.len() {
+            let Some(next) = self.numbers(&self.parts[at]) else {
+                continue;
+            };
+            found = match found {
+                None => Some(next),
+                Some(range) => match range.joined(next) {
+                    None => return Some((range, at)),
+                    joined => joined,
+                },
+            };
+        }
+        Some((found?, self.parts.len()))
+    }
+
+    /// The number of the last entry.
+    pub fn last(&self) -> Option<u64> {
+        for part in self.parts.iter().rev() {
+            if let Some(range) = self.numbers(part) {
+                return Some(range.last);
+            }
+        }
+        None
     }
 
     /// How many entries came before the first that is kept, and how many messages were lost by them.
@@ -217,6 +318,11 @@ impl Info {
             }
         }
         count
+    }
+
+    /// How many nanoseconds come between the first time stamp and the last one.
+    pub fn length(&self) -> Option<i64> {
+        Stamp(self.first_stamp()?).before(Stamp(self.last_stamp()?))
     }
 
     /// The first time stamp.

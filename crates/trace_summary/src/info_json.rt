@@ -1,6 +1,7 @@
 //! A trace in numbers, as one JSON object.
 
 use crate::info::{Info, PART, Part};
+use crate::stamp::Stamp;
 use segment::StoreSpec;
 use serde_json::{Map, Value, json, put};
 use std::alloc::{AllocError, Global};
@@ -15,21 +16,30 @@ fn text(alloc: Global, text: Option<&str>) -> Result<Value, AllocError> {
     }
 }
 
+/// A time stamp as a person reads it, or null.
+fn time(alloc: Global, stamp: Option<&str>) -> Result<Value, AllocError> {
+    match stamp {
+        Some(stamp) => {
+            let stamp = Stamp(stamp);
+            let text = format!(in alloc; "{stamp}")?;
+            Value::try_from_str(alloc, text.as_str())
+        }
+        None => Ok(Value::Null),
+    }
+}
+
 impl Info {
     /// The text of the object.
     pub fn to_json(&self, alloc: Global) -> Result<String, AllocError> {
         let totals = self.totals();
         let (first, lost_before) = self.before();
-        let last = match totals.entries {
-            0 => None,
-            entries => Some(first.saturating_add(entries - 1)),
-        };
         let object = json!(in alloc; {
             "trace": self.trace_as_json(alloc)?,
             "state": self.state(),
             "entries": totals.entries,
             "first": first,
-            "last": last,
+            "last": self.last(),
+            "ranges": self.ranges_as_json(alloc)?,
             "lost_before": lost_before,
             "drop_records": totals.drops,
             "lost": totals.lost,
@@ -38,6 +48,9 @@ impl Info {
             "kinds": self.kinds_as_json(alloc)?,
             "first_time_stamp": text(alloc, self.first_stamp())?,
             "last_time_stamp": text(alloc, self.last_stamp())?,
+            "first_time": time(alloc, self.first_stamp())?,
+            "last_time": time(alloc, self.last_stamp())?,
+            "length": self.length(),
         })?;
         object.to_string(alloc)
     }
@@ -63,6 +76,20 @@ impl Info {
                 "time": millis,
             }),
         }
+    }
+
+    /// The numbers of its entries: the first and the last of each range.
+    fn ranges_as_json(&self, alloc: Global) -> Result<Vec<Value>, AllocError> {
+        let mut ranges = Vec::new(alloc);
+        let mut place = 0;
+        for _ in 0..self.parts.len() {
+            let Some((range, behind)) = self.range_from(place) else {
+                break;
+            };
+            ranges.push(json!(in alloc; [range.first, range.last])?)?;
+            place = behind;
+        }
+        Ok(ranges)
     }
 
     /// Its open files, the oldest first.

@@ -5,17 +5,21 @@
 //!
 //! A `View` takes entries one by one; `StreamView` hands it those of an entry stream that is written to it (`into_view`). `Top`
 //! counts functions, processes and kinds exactly, and how many messages waited for a process at most (`IsCounted`), and tells
-//! that in JSON (`WritesTable`); `Folded` counts how often each stack of calls was called (`IsFolded`). `Perfetto` writes events
-//! for each entry as it takes it, and answers what ends the drawing (`ending`). No contract says how long calls took, how numbers
-//! are laid out for people, or what events tell: tests of the program show it. No file is read here.
+//! that in JSON (`WritesTable`); `Folded` counts how often each stack of calls was called (`IsFolded`), and `Perfetto` writes
+//! events for each entry as it takes it, and answers what ends the drawing (`ending`); which functions tell their ends is seen
+//! before (`EndsSeen`). No contract says how long calls took, how numbers are laid out for people, or what events tell: tests of
+//! the program show it. No file is read here.
 #![tactic(auto)]
 
 mod acts;
 mod arrows;
 mod bars;
+mod calls;
 mod cells;
 mod clock;
 mod drawing;
+mod ends;
+mod ends_seen;
 mod event;
 mod events;
 mod folded;
@@ -32,6 +36,7 @@ mod row;
 mod rows;
 mod stack_rows;
 mod stacks;
+mod stamp;
 mod stream_laws;
 mod stream_start;
 mod stream_view;
@@ -45,9 +50,10 @@ mod top;
 mod tracks;
 mod view;
 
+pub use ends_seen::EndsSeen;
 pub use folded::Folded;
 pub use info::{Info, Part, Totals};
-pub use open_calls::{Closed, OpenCall, OpenCalls};
+pub use open_calls::{Closed, Ended, OpenCall, OpenCalls};
 pub use perfetto::{Ending, Perfetto};
 pub use stream_laws::lawful_fit;
 pub use stream_view::StreamView;

@@ -4,6 +4,7 @@ ghost use Rattle.std.specs.Prelude.{◌≡◌, [], IfErr, IfOk, IsErr, IsSome, S
 ghost use Rattle.trace_summary.specs.Drawings.{ending};
 
 use crate::drawing::Drawing;
+use crate::ends_seen::EndsSeen;
 use crate::taken::Taken;
 use crate::view::{View, ViewFault};
 use entry_codec::EntryRef;
@@ -30,13 +31,13 @@ pub struct Perfetto<'w, W> {
 }
 
 impl<'w, W: Write> Perfetto<'w, W> {
-    /// No entry was taken yet. Without a writer nothing is written.
-    pub fn new(alloc: Global, out: Option<&'w mut W>) -> Perfetto<'w, W>
+    /// No entry was taken yet, but by a first look at which functions tell their ends. Without a writer nothing is written.
+    pub fn new(alloc: Global, out: Option<&'w mut W>, seen: EndsSeen) -> Perfetto<'w, W>
         ensures { result.taken.entries ≡ [] }
     {
         Perfetto {
             reader: FactReader::new(alloc),
-            drawing: Drawing::new(alloc, out),
+            drawing: Drawing::new(alloc, out, seen.ends),
             fault: None,
             taken: Taken::new(),
         }

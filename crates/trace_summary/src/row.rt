@@ -2,32 +2,51 @@
 
 ghost use Rattle.std.specs.Prelude.{◌≡◌, ◌^◌, ◌-◌, IfSome, MatchOption};
 
-/// How long calls took, in nanoseconds. Of a function that calls itself the inner calls count too.
+use crate::open_calls::Ended;
+
+/// How long calls took, in nanoseconds.
 #[derive(Clone, Copy)]
 pub struct Times {
-    /// How many calls that returned have a time.
+    /// How many calls have a time, of those that lie in no other call of their function.
     pub timed: u64,
+    /// How long these took.
     pub total: u64,
     pub longest: u64,
+    /// How long all calls took that have a time, without the calls within them.
+    pub own: Option<u64>,
 }
 
 impl Times {
-    /// No call returned yet.
+    /// No call ended yet.
     pub const NONE: Times = Times {
         timed: 0,
         total: 0,
         longest: 0,
+        own: None,
     };
 
-    /// With one call more, where it has a time.
-    fn with(self, time: Option<u64>) -> Times {
-        match time {
-            Some(time) => Times {
-                timed: self.timed.saturating_add(1),
-                total: self.total.saturating_add(time),
-                longest: self.longest.max(time),
+    /// With a call that ended.
+    fn with(self, ended: Ended) -> Times {
+        let times = match ended.own {
+            Some(own) => Times {
+                own: Some(self.own.unwrap_or(0).saturating_add(own)),
+                ..self
             },
             None => self,
+        };
+        match ended.took {
+            Some(took) if ended.is_outermost => times.with_outermost(took),
+            _ => times,
+        }
+    }
+
+    /// With a call that lies in no other one of its function.
+    fn with_outermost(self, took: u64) -> Times {
+        Times {
+            timed: self.timed.saturating_add(1),
+            total: self.total.saturating_add(took),
+            longest: self.longest.max(took),
+            ..self
         }
     }
 
@@ -78,14 +97,22 @@ impl FunctionRow {
         })
     }
 
-    /// With the time of one call more, where it has one.
-    pub fn timed(self, time: Option<u64>) -> FunctionRow
+    /// With a call that ended, where one did.
+    pub fn timed(self, ended: Option<Ended>) -> FunctionRow
         ensures { counts_of_function result ≡ counts_of_function self }
     {
-        FunctionRow {
-            times: self.times.with(time),
-            ..self
+        match ended {
+            Some(ended) => FunctionRow {
+                times: self.times.with(ended),
+                ..self
+            },
+            None => self,
         }
+    }
+
+    /// Whether an end of it is told.
+    pub fn has_end(self) -> bool {
+        self.returns > 0 || self.exceptions > 0
     }
 }
 

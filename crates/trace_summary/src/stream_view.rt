@@ -80,6 +80,7 @@ impl<V: View> StreamView<V> {
     pub fn into_view(self) -> (V, Option<ViewFault>)
         ensures view { result.0 ≡ self.view }
         ensures why { result.1 ≡ why_stopped (V.failed self.view) self.no_room }
+        ensures fits { FitHeads (V.seen result.0) }
         // Where the bytes that came are those of entries, the view has seen these.
         ensures seen { (entries : List Entry) → FitHeads entries
             → stream_contents (V.seen self.view) self.pending.items ≡ Some (bytes_of entries)

@@ -5,6 +5,7 @@ ghost use Rattle.std.specs.Str.{bytes_eq};
 ghost use Rattle.trace_summary.specs.{Counting.Telling, TableObjects.AreTold, TableObjects.word_of, Tables.HasEachRow, Tables.IsTableOf, Tallies.IsCounted};
 
 use crate::bars::{Bar, Bars};
+use crate::calls::Unpaired;
 use crate::cells::{Figure, Shown};
 use crate::lines::{Line, lines_of, lines_of_kinds};
 use crate::row::{FunctionRow, ProcessRow};
@@ -15,10 +16,11 @@ use std::collections::HashMap;
 use std::fmt;
 
 /// The numbers of functions of a trace that has times.
-static TIMED_FUNCTIONS: [Figure; 6] = [
+static TIMED_FUNCTIONS: [Figure; 7] = [
     Figure::Calls,
     Figure::Exceptions,
     Figure::Total,
+    Figure::Own,
     Figure::Mean,
     Figure::Longest,
     Figure::Open,
@@ -66,6 +68,7 @@ pub struct Table<'t> {
     columns: Vec<Column>,
     /// How many calls of a function are open, by the function's number.
     pub open: Vec<u64>,
+    pub unpaired: Unpaired,
     /// How many rows are shown at most.
     pub limit: usize,
     pub messages: u64,
@@ -90,7 +93,7 @@ impl Tallies {
         let rows = self.rows(alloc, ranking.by, ranking.order.unwrap_or(usual))?;
         let open = self
             .functions
-            .open
+            .calls
             .counts(alloc, self.functions.rows.len())?;
         let limit = ranking.limit as usize;
         let columns = columns_of(alloc, &rows, self.span.is_some(), limit, &open)?;
@@ -99,6 +102,7 @@ impl Tallies {
             rows,
             columns,
             open,
+            unpaired: self.functions.calls.unpaired,
             limit,
             messages: self.messages,
             unread: self.unread,
@@ -171,7 +175,7 @@ fn fitted<R: Shown>(
 fn width_of<R: Shown>(figure: Figure, lines: &[Line<'_, R>], limit: usize, open: &[u64]) -> usize {
     let mut width = figure.name().len();
     for line in lines.iter().take(limit) {
-        width = width.max(line.row.cell(figure, open).width());
+        width = width.max(line.row.cell(figure, line.text, open).width());
     }
     width
 }
@@ -183,8 +187,8 @@ impl fmt::Display for Table<'_> {
             Rows::Processes(lines) => self.tell_rows(f, lines)?,
             Rows::Kinds(lines) => self.tell_rows(f, lines)?,
         }
-        if self.span.is_none() && matches!(self.rows, Rows::Functions(_)) {
-            f.write_str(NO_TIMES)?;
+        if matches!(self.rows, Rows::Functions(_)) {
+            self.tell_unpaired(f)?;
         }
         self.tell_course(f)?;
         self.tell_summary(f)
@@ -231,11 +235,26 @@ impl Table<'_> {
         line: &Line<'_, R>,
     ) -> fmt::Result {
         for column in &self.columns {
-            let cell = line.row.cell(column.figure, &self.open);
+            let cell = line.row.cell(column.figure, line.text, &self.open);
             tell_blanks(f, column.width, cell.width())?;
             write!(f, "{cell} ")?;
         }
         writeln!(f, " {}", Readable(line.text))
+    }
+
+    /// How many calls and ends don't belong together, where some don't; and that there are no times, where that is so.
+    fn tell_unpaired<W: fmt::Write>(&self, f: &mut fmt::Formatter<W>) -> fmt::Result {
+        let Unpaired { calls, ends } = self.unpaired;
+        if calls > 0 || ends > 0 {
+            writeln!(
+                f,
+                "{calls} calls without an end, {ends} ends without a call"
+            )?;
+        }
+        if self.span.is_none() {
+            f.write_str(NO_TIMES)?;
+        }
+        Ok(())
     }
 
     /// Where in the trace the messages lie, and those that were lost; and how many came in a second.

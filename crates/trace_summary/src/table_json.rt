@@ -4,9 +4,9 @@ ghost use Rattle.std.specs.List.{AllZip};
 ghost use Rattle.serde_json.specs.{Data.Data, Data.array, Data.depth, Data.items_depth, Find.get, Read.read, View.items_view, View.view};
 ghost use Rattle.trace_summary.specs.Lines.{line_pairs};
 ghost use Rattle.trace_summary.specs.Rows.{counts_of_function, counts_of_process};
-ghost use Rattle.trace_summary.specs.TableObjects.{HasMembers, IsFlat, Member, TellsRows, table_members, function_members, process_members, kind_members, members_in};
+ghost use Rattle.trace_summary.specs.TableObjects.{HasMembers, IsFlat, Member, TellsRows, table_members, function_members, process_members, kind_members, members_in, number_or_null};
 
-use crate::cells::open_of;
+use crate::cells::{open_of, waiting_of};
 use crate::lines::Line;
 use crate::row::{FunctionRow, ProcessRow};
 use crate::table::{Rows, Table};
@@ -19,6 +19,17 @@ fn or_null<N: Into<Number>>(number: Option<N>) -> Value
 {
     match number {
         Some(number) => Value::Number(number.into()),
+        None => Value::Null,
+    }
+}
+
+/// A count, or null.
+fn count_or_null(count: Option<u64>) -> Value
+    ensures told { view result ≡ number_or_null count }
+    ensures flat { depth (view result) ≡ 0 }
+{
+    match count {
+        Some(count) => Value::from(count),
         None => Value::Null,
     }
 }
@@ -46,9 +57,10 @@ impl Told for FunctionRow {
             "returns": self.returns,
             "exceptions": self.exceptions,
             "total": or_null(mean.map(|_| self.times.total)),
+            "own": or_null(self.times.own),
             "mean": or_null(mean),
             "longest": or_null(mean.map(|_| self.times.longest)),
-            "open": open_of(open, self.number),
+            "open": open_of(open, *self),
         })
     }
 }
@@ -62,7 +74,7 @@ impl Told for ProcessRow {
             "calls": self.calls,
             "sent": self.sent,
             "received": self.received,
-            "waiting": self.waiting.most,
+            "waiting": count_or_null(waiting_of(text, *self)),
         })
     }
 }
@@ -168,6 +180,8 @@ impl Table<'_> {
             "messages": self.messages,
             "unread": self.unread,
             "lost": self.lost,
+            "calls_without_end": self.unpaired.calls,
+            "ends_without_call": self.unpaired.ends,
             "from": course.from,
             "to": course.to,
             "share": self.bars.length(),

@@ -112,6 +112,7 @@ impl Tallies {
     {
         self.messages = one_more(self.messages)?;
         self.unread = one_more(self.unread)?;
+        self.functions.lose();
         self.course.note_message(None);
         Ok(())
     }
@@ -124,6 +125,7 @@ impl Tallies {
         match self.lost.checked_add(u64::from(count)) {
             Some(lost) => {
                 self.lost = lost;
+                self.functions.lose();
                 self.course.note_lost(count);
                 Ok(())
             }

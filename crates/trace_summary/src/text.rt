@@ -1,6 +1,7 @@
 //! A trace in numbers, as text for a person.
 
 use crate::info::{Info, PART, Part};
+use crate::stamp::{Seconds, Stamp};
 use segment::{SegHeader, StoreSpec};
 use std::fmt;
 use trace_lookup::Shown;
@@ -42,13 +43,8 @@ fn tell_totals<W: fmt::Write>(f: &mut fmt::Formatter<W>, info: &Info) -> fmt::Re
     if first > 0 {
         writeln!(f, "before: entries {first}, messages lost {lost_before}")?;
     }
-    match totals.entries {
-        0 => writeln!(f, "entries: 0")?,
-        entries => {
-            let last = first.saturating_add(entries - 1);
-            writeln!(f, "entries: {entries} ({first} to {last})")?;
-        }
-    }
+    write!(f, "entries: {}", totals.entries)?;
+    tell_ranges(f, info)?;
     match totals.lost {
         Some(lost) => writeln!(f, "drop records: {}, messages lost: {lost}", totals.drops)?,
         None => writeln!(
@@ -59,6 +55,23 @@ fn tell_totals<W: fmt::Write>(f: &mut fmt::Formatter<W>, info: &Info) -> fmt::Re
         )?,
     }
     writeln!(f, "bytes: {}", totals.bytes)
+}
+
+/// Tells the numbers of the entries, where there are any.
+fn tell_ranges<W: fmt::Write>(f: &mut fmt::Formatter<W>, info: &Info) -> fmt::Result {
+    let mut place = 0;
+    let mut mark = " (";
+    let mut end = "\n";
+    for _ in 0..info.parts.len() {
+        let Some((range, behind)) = info.range_from(place) else {
+            break;
+        };
+        write!(f, "{mark}{} to {}", range.first, range.last)?;
+        place = behind;
+        mark = ", ";
+        end = ")\n";
+    }
+    f.write_str(end)
 }
 
 fn tell_files<W: fmt::Write>(f: &mut fmt::Formatter<W>, info: &Info) -> fmt::Result {
@@ -104,8 +117,11 @@ fn tell_words<W: fmt::Write>(f: &mut fmt::Formatter<W>, info: &Info) -> fmt::Res
 
 fn tell_stamps<W: fmt::Write>(f: &mut fmt::Formatter<W>, info: &Info) -> fmt::Result {
     if let (Some(first), Some(last)) = (info.first_stamp(), info.last_stamp()) {
-        writeln!(f, "first time stamp: {first}")?;
-        writeln!(f, "last time stamp: {last}")?;
+        writeln!(f, "first time: {}", Stamp(first))?;
+        writeln!(f, "last time: {}", Stamp(last))?;
     }
-    Ok(())
+    match info.length() {
+        Some(length) => writeln!(f, "length: {} s", Seconds(length)),
+        None => Ok(()),
+    }
 }

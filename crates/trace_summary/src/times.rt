@@ -24,6 +24,30 @@ pub fn time_in(text: &[u8]) -> Option<i64> {
     }
 }
 
+/// What a time stamp tells, in nanoseconds.
+#[derive(Clone, Copy)]
+pub enum Told {
+    /// The time since the beginning of 1970.
+    Wall(i64),
+    /// That of a monotonic clock.
+    Monotonic(i64),
+}
+
+/// What the text of a time stamp tells. None where that has no value in i64, or it is no time stamp.
+pub fn told_in(stamp: &[u8]) -> Option<Told> {
+    let Some(members) = stamp.strip_suffix(b"}") else {
+        return match last_number(stamp)? {
+            (time, []) => Some(Told::Monotonic(time)),
+            _ => None,
+        };
+    };
+    let time = time_of_members(members)?;
+    match members.iter().filter(|byte| **byte == b',').count() {
+        2 => Some(Told::Wall(time)),
+        _ => Some(Told::Monotonic(time)),
+    }
+}
+
 /// The time of a tuple with these members, at the end of a text.
 fn time_of_members(members: &[u8]) -> Option<i64> {
     let (last, [before @ .., b',']) = last_number(members)? else {

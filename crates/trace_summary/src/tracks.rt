@@ -3,6 +3,7 @@
 use crate::view::ViewFault;
 use std::alloc::{AllocError, Global};
 use std::collections::HashMap;
+use std::mem;
 
 /// The most tracks.
 const MOST_TRACKS: usize = 1_000_000;
@@ -13,15 +14,37 @@ const MOST_SLICES: usize = 256;
 /// The most open calls of all tracks that are slices.
 const MOST_OF_ALL: usize = 1_000_000;
 
+/// The most open calls of one function that are slices directly within each other. Those within these are counted.
+const MOST_OF_RUN: usize = 8;
+
+/// An open call that is a slice.
+#[derive(Drop)]
+struct Slice {
+    function: Vec<u8>,
+    /// How many more calls of its function are open directly within it.
+    run: u64,
+}
+
 /// The track of a process or port.
 #[derive(Drop)]
 pub struct Track {
     /// The time of the last event on it.
     now: u64,
-    /// The functions whose calls are open slices, the outermost first.
-    names: Vec<Vec<u8>>,
+    /// The open calls that are slices, the outermost first.
+    slices: Vec<Slice>,
     /// How many more calls are open within these.
     deeper: u64,
+    /// It has had a slice since the last loss.
+    is_busy: bool,
+}
+
+/// What ends with a call.
+#[derive(Clone, Copy)]
+pub struct Left {
+    /// How many slices are within it.
+    pub within: usize,
+    /// It is a slice itself.
+    pub is_slice: bool,
 }
 
 impl Track {
@@ -31,24 +54,68 @@ impl Track {
         self.now
     }
 
-    /// A function is returned from. How many slices end with that: that of its innermost open call, and those within it. None
-    /// does where it isn't open, or where more calls are open than have slices: one of these is over then.
-    pub fn leave(&mut self, function: &[u8]) -> usize {
+    /// A function is returned from. What ends with its innermost open call. None where it isn't open, or where more calls are
+    /// open than have slices: one of these is over then.
+    pub fn leave(&mut self, function: &[u8]) -> Option<Left> {
         if self.deeper > 0 {
             self.deeper -= 1;
-            return 0;
+            return None;
         }
-        self.names
+        let within = self.within(function)?;
+        let is_slice = !self.leaves_run(within);
+        Some(Left { within, is_slice })
+    }
+
+    /// How many slices are within the innermost one of a function.
+    fn within(&self, function: &[u8]) -> Option<usize> {
+        self.slices
             .iter()
             .rev()
-            .position(|name| name.as_slice() == function)
-            .map_or(0, |within| within.saturating_add(1))
+            .position(|slice| slice.function.as_slice() == function)
+    }
+
+    /// Whether the innermost call of the function of a slice, within which so many are, isn't a slice: it is over then.
+    fn leaves_run(&mut self, within: usize) -> bool {
+        let place = self.slices.len().saturating_sub(within).saturating_sub(1);
+        match self.slices.get_mut(place) {
+            Some(slice) if slice.run > 0 => {
+                slice.run -= 1;
+                true
+            }
+            _ => false,
+        }
+    }
+
+    /// A process is back in a function. How many slices end with that: those within its innermost open call. None does where it
+    /// isn't open, or where more calls are open than have slices.
+    pub fn come_back(&self, function: &[u8]) -> usize {
+        if self.deeper > 0 {
+            return 0;
+        }
+        self.within(function).unwrap_or(0)
     }
 
     /// No call is open but those that have slices. How many these are.
     pub fn leave_all(&mut self) -> usize {
         self.deeper = 0;
-        self.names.len()
+        self.slices.len()
+    }
+
+    /// Whether one more call of a function is within as many slices of it as may be: it is counted then.
+    fn goes_on(&mut self, function: &[u8]) -> bool {
+        let first = self.slices.len().saturating_sub(MOST_OF_RUN);
+        let newest = &self.slices[first..];
+        if newest.len() < MOST_OF_RUN
+            || newest
+                .iter()
+                .any(|slice| slice.function.as_slice() != function)
+        {
+            return false;
+        }
+        if let Some(slice) = self.slices.last_mut() {
+            slice.run = slice.run.saturating_add(1);
+        }
+        true
     }
 }
 
@@ -60,6 +127,8 @@ pub struct Tracks {
     tracks: Vec<Track>,
     /// How many slices are open.
     open: usize,
+    /// Where the tracks are that have had a slice since the last loss.
+    busy: Vec<usize>,
 }
 
 impl Tracks {
@@ -70,6 +139,7 @@ impl Tracks {
             places: HashMap::new(alloc),
             tracks: Vec::new(alloc),
             open: 0,
+            busy: Vec::new(alloc),
         }
     }
 
@@ -100,8 +170,9 @@ impl Tracks {
     fn push(&mut self) -> Result<(), AllocError> {
         let track = Track {
             now: 0,
-            names: Vec::new(self.alloc),
+            slices: Vec::new(self.alloc),
             deeper: 0,
+            is_busy: false,
         };
         Ok(self.tracks.push(track)?)
     }
@@ -116,20 +187,38 @@ impl Tracks {
         let Some(track) = self.tracks.get_mut(place) else {
             return Ok(false);
         };
-        if track.deeper > 0 || track.names.len() >= MOST_SLICES || self.open >= MOST_OF_ALL {
+        if !track.is_busy {
+            self.busy.push(place)?;
+            track.is_busy = true;
+        }
+        if track.deeper > 0 || track.slices.len() >= MOST_SLICES || self.open >= MOST_OF_ALL {
             track.deeper = track.deeper.saturating_add(1);
             return Ok(false);
         }
-        let name = Vec::from_slice(self.alloc, function)?;
-        track.names.push(name)?;
+        if track.goes_on(function) {
+            return Ok(false);
+        }
+        let function = Vec::from_slice(self.alloc, function)?;
+        track.slices.push(Slice { function, run: 0 })?;
         self.open = self.open.saturating_add(1);
         Ok(true)
     }
 
     /// Ends the innermost slice of a track. The function that it is of.
     pub fn end(&mut self, place: usize) -> Option<Vec<u8>> {
-        let name = self.tracks.get_mut(place)?.names.pop()?;
+        let slice = self.tracks.get_mut(place)?.slices.pop()?;
         self.open = self.open.saturating_sub(1);
-        Some(name)
+        Some(slice.function)
+    }
+
+    /// Where the tracks are that have had a slice since the last loss. There was one now.
+    pub fn lose(&mut self) -> Vec<usize> {
+        let busy = mem::replace(&mut self.busy, Vec::new(self.alloc));
+        for place in busy.iter() {
+            if let Some(track) = self.tracks.get_mut(*place) {
+                track.is_busy = false;
+            }
+        }
+        busy
     }
 }

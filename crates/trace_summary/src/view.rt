@@ -35,7 +35,7 @@ pub fn or_too_many<T>(counted: Option<T>) -> Result<T, ViewFault>
 
 /// Looks at entries, the oldest first.
 pub trait View {
-    /// Those that it took.
+    /// Those that it took, behind those of a look before, where it had one.
     ghost seen: { Self → List Entry };
 
     /// Why it takes no more.

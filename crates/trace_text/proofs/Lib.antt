@@ -20,6 +20,8 @@ pub mod PrettyTelling
 pub mod OnePretty
 pub mod Between
 pub mod PartLemmas
+pub mod FourthLemmas
+pub mod Named
 pub mod Suiting
 pub mod ReceiverLemmas
 pub mod Lined

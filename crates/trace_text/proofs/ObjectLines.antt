@@ -1,6 +1,6 @@
 -- Objects that are put part by part.
 use Rattle.std.specs.Prelude.{OnErr}
-use Rattle.std.proofs.Common.{◌≡◌, ℕ, ◌<◌, Bool, true, false, ◌&&◌, cond, Option, Some, None, List, [], ◌∷◌, ◌++◌, length, codes, Result, Ok, Err, refl, sym, ap, ◌∙◌, subst, append_assoc, length-append, arith}
+use Rattle.std.proofs.Common.{◌≡◌, ℕ, ◌<◌, Bool, true, false, cond, Option, Some, None, List, [], ◌∷◌, ◌++◌, length, codes, Result, Ok, Err, refl, sym, ap, ◌∙◌, subst, append_assoc, length-append, arith}
 use Rattle.std.proofs.lemmas.List.{append-nil}
 use Rattle.std.proofs.lemmas.Grind.{flat_map-append}
 use Rattle.std.specs.Fmt.{decimal}
@@ -90,6 +90,10 @@ function_text_put old a b c m n f first second x y z =
 
 pub function_some : (kind : Option Kind) (t : AnyTerm) (f : Function) → tells_function kind ≡ true → function_of t ≡ Some f → function_if (is_of_call (kind_word kind)) (Some t) ≡ Some (function_text f)
 function_some kind t f e is = ap (λ (b : Bool). cond b (option_map function_text (function_of t)) None) (word_tells kind ∙ e) ∙ ap (option_map function_text) is
+
+pub function_none : (tells : Bool) (t : AnyTerm) → function_of t ≡ None → function_if tells (Some t) ≡ None
+function_none true t is = ap (option_map function_text) is
+function_none false t is = refl
 
 -- ---- messages
 

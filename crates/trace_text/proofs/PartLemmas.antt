@@ -25,7 +25,7 @@ use Rattle.trace_text.specs.declared.any_tag.AnyTag.TheVariants as any
 use Rattle.trace_text.specs.AnyReading.{leaf_at as leaf_at_tag, finite, any_members_at, any_tuple_at, any_list_at, any_map_at, fun_head_at, fun_at, any_fields_at, any_term_at, any_whole_at}
 use Rattle.trace_text.specs.BigText.{whole_decimal, whole_signed}
 use Rattle.trace_text.specs.Choosing.{is_count}
-use Rattle.trace_text.specs.Facts.{tells_function, is_tag, is_tracee, leaf_if, Function, with_names, function_in, function_behind, behind_tag, tracee_of, traced, function_of, arity_told}
+use Rattle.trace_text.specs.Facts.{is_tag, is_tracee, leaf_if, Function, with_names, function_in, function_behind, behind_tag, tracee_of, traced, function_of, atom_behind, registered, arity_told}
 use Rattle.trace_text.specs.Objects.{unsigned_told}
 use Rattle.trace_text.specs.Parts.{members_seen, IsFifthAt, IsSeenSo, is_tuple, Opens, PutMessage, PutParts}
 use Rattle.trace_text.specs.Pretty.{is_printable, leaf_text, IsPretty, a_leaf, a_tuple, ArePretty, with_member}
@@ -37,7 +37,6 @@ use Rattle.trace_text.specs.declared.sight.Kind.{Kind}
 use Rattle.trace_text.specs.Sights.{is_atom, is_number, sort_of, sight, sights, shape_of, shape_of_function, is_function_shape, plain, parts_kind, arity_in}
 use Rattle.trace_text.proofs.AnyLemmas.{members_count, tail_alone}
 use Rattle.trace_text.proofs.Steps.{Each, just, after, fails_as, bracketed}
-use Rattle.trace_text.proofs.KindFinding.{tells_so}
 use Rattle.trace_text.proofs.WholeDecimal.{AreGlyphs, whole_glyphs}
 
 -- ---- leaves by their sorts
@@ -229,6 +228,9 @@ module _ (t : AnyTerm) (seen : List Sight) (text : List ℕ) (s : IsSeenSo t see
         function_is : function_of t ≡ function_behind (member of.b (member of.c of.ts))
         function_is = ap (option_and_then (λ _. function_behind (behind_tag t))) (ap tracee_of behind ∙ second_is.1) ∙ ap function_behind behind
 
+        atom_is : registered t ≡ atom_behind (member of.b (member of.c of.ts))
+        atom_is = ap (option_and_then (λ _. atom_behind (behind_tag t))) (ap tracee_of behind ∙ second_is.1) ∙ ap atom_behind behind
+
 -- ---- the function
 
 -- whether two members are atoms, what the third makes of them, and whether all are numbers
@@ -361,19 +363,8 @@ pub record HasFourth (t : AnyTerm) (text : List ℕ) (tag who word more : Sight)
   pub seen : more ≡ sight d
   pub pretty : IsPretty d fourth
   pub is : function_of t ≡ function_in d
+  pub named : registered t ≡ leaf_if is_atom d
   pub some : 0 < length rest
-
--- a message of a kind that tells of a function, by what was seen of it
-pub record SeenTold (tag who word : Sight) : Type 0 where
-  pub tagged : is_tag tag.sort ≡ true
-  pub traced : is_tracee who.sort ≡ true
-  pub worded : is_atom word.sort ≡ true
-
-pub seen_told : (t : AnyTerm) (seen : List Sight) (tag who word : Sight) (more : List Sight) → seen ≡ members_seen t → tells_function (sight t).kind ≡ true → seen ≡ tag ∷ who ∷ word ∷ more → SeenTold tag who word
-seen_told t seen tag who word more is tells there =
-    let o = tells_so t tells in
-    let same : tag ∷ who ∷ word ∷ more ≡ sight o.a ∷ sight o.b ∷ sight o.c ∷ sight o.d ∷ sights o.us = sym there ∙ is ∙ ap members_seen o.is in
-    record { tagged = ap (λ (g : Sight). is_tag g.sort) (let e : tag ≡ sight o.a = cc in e) ∙ o.tagged; traced = ap (λ (g : Sight). is_tracee g.sort) (let e : who ≡ sight o.b = cc in e) ∙ o.traced; worded = ap (λ (g : Sight). is_atom g.sort) (let e : word ≡ sight o.c = cc in e) ∙ o.worded }
 
 pub four_fit : {t : AnyTerm} {text : List ℕ} {tag who word more : Sight} (h : HasFourth t text tag who word more) → tag.sizes.first + who.sizes.first + word.sizes.first + 5 ≤ length text
 four_fit h =
@@ -390,18 +381,22 @@ four_fit h =
       h.word_size,
     )
 
-pub dropped_four : {t : AnyTerm} {text : List ℕ} {tag who word more : Sight} (h : HasFourth t text tag who word more) (place : ℕ) → place ≡ tag.sizes.first + who.sizes.first + word.sizes.first + 5
-    → drop place text ≡ drop 1 (h.fourth ++ h.rest)
-dropped_four {t} {text} {tag} {who} {word} {more} h place is =
+pub dropped_to_four : {t : AnyTerm} {text : List ℕ} {tag who word more : Sight} (h : HasFourth t text tag who word more) (place : ℕ) → place ≡ tag.sizes.first + who.sizes.first + word.sizes.first + 4 → drop place text ≡ h.fourth ++ h.rest
+dropped_to_four {t} {text} {tag} {who} {word} {more} h place is =
     let a = 123 ∷ h.first in
     let b = 44 ∷ h.second in
     let c = 44 ∷ h.third in
     let X = h.fourth ++ h.rest in
     let whole : text ≡ (((a ++ b) ++ c) ++ 44 ∷ []) ++ X =
     h.text_is ∙ sym (append_assoc a b (c ++ 44 ∷ X)) ∙ sym (append_assoc (a ++ b) c (44 ∷ X)) ∙ sym (append_assoc ((a ++ b) ++ c) (44 ∷ []) X) in
-    let long : place ≡ length (((a ++ b) ++ c) ++ 44 ∷ []) + 1 =
-    omega (arith, is, length-append ((a ++ b) ++ c) (44 ∷ []), length-append (a ++ b) c, length-append a b, h.tag_size, h.who_size, h.word_size) in
-    ap (λ (n : ℕ). drop n text) long ∙ sym (drop-drop 1 (length (((a ++ b) ++ c) ++ 44 ∷ [])) text) ∙ ap (drop 1) (dropped (((a ++ b) ++ c) ++ 44 ∷ []) X text _ whole refl)
+    dropped (((a ++ b) ++ c) ++ 44 ∷ []) X text place whole
+    (omega (arith, is, length-append ((a ++ b) ++ c) (44 ∷ []), length-append (a ++ b) c, length-append a b, h.tag_size, h.who_size, h.word_size))
+
+pub dropped_four : {t : AnyTerm} {text : List ℕ} {tag who word more : Sight} (h : HasFourth t text tag who word more) (place : ℕ) → place ≡ tag.sizes.first + who.sizes.first + word.sizes.first + 5
+    → drop place text ≡ drop 1 (h.fourth ++ h.rest)
+dropped_four {t} {text} {tag} {who} {word} {more} h place is =
+    let before = tag.sizes.first + who.sizes.first + word.sizes.first + 4 in
+    ap (λ (n : ℕ). drop n text) (let e : place ≡ before + 1 = omega (arith, is) in e) ∙ sym (drop-drop 1 before text) ∙ ap (drop 1) (dropped_to_four h before refl)
 
 -- after who is traced
 module _ (t : AnyTerm) (seen : List Sight) (text : List ℕ) (s : IsSeenSo t seen text) (tag who word more : Sight) (others : List Sight) (there : seen ≡ tag ∷ who ∷ word ∷ more ∷ others)
@@ -414,6 +409,9 @@ module _ (t : AnyTerm) (seen : List Sight) (text : List ℕ) (s : IsSeenSo t see
 
   behind_is : function_of t ≡ option_and_then (λ _. function_in four.d) (leaf_if is_atom three.c)
   behind_is = function_is t seen text s tag who word (more ∷ others) there tagged_so traced_so ∙ ap (λ (ts : AnyMembers). function_behind (member three.b (member three.c ts))) four.is
+
+  name_is_behind : registered t ≡ option_and_then (λ _. leaf_if is_atom four.d) (leaf_if is_atom three.c)
+  name_is_behind = atom_is t seen text s tag who word (more ∷ others) there tagged_so traced_so ∙ ap (λ (ts : AnyMembers). atom_behind (member three.b (member three.c ts))) four.is
 
   module _ (worded_so : is_atom word.sort ≡ true) where
     abbrev pub rest_of : List ℕ
@@ -452,6 +450,7 @@ module _ (t : AnyTerm) (seen : List Sight) (text : List ℕ) (s : IsSeenSo t see
           seen = four.seen;
           pretty = fourth.2;
           is = behind_is ∙ ap (option_and_then (λ _. function_in four.d)) third_is.1;
+          named = name_is_behind ∙ ap (option_and_then (λ _. leaf_if is_atom four.d)) third_is.1;
           some = omega (arith, length-append fourth.1 (125 ∷ []));
         }
 

@@ -1,18 +1,20 @@
 -- The receiver of a message that is sent, as it is put.
 use Rattle.std.proofs.Common.{◌≡◌, ℕ, ◌+◌, ◌-◌, ◌<◌, ◌≤◌, Bool, true, false, cond, List, [], ◌∷◌, ◌++◌, length, drop, Option, Some, None, Result, Ok, Err, refl, sym, ap, subst, ◌∙◌, append_assoc, length-append, append-nil, get_or, arith}
+use Rattle.std.specs.Prelude.{MatchOption}
 use Rattle.ext_format.specs.declared.fault.DecodeFault.{DecodeFault}
 use Rattle.ext_format.specs.Reading.{Fails, Read}
 use Rattle.trace_text.specs.declared.separator.Separator.TheVariants.{First, Behind}
 use Rattle.trace_text.specs.declared.told.Told.{Told as Written}
 use Rattle.trace_text.specs.declared.sight.Sight.{Sight}
 use Rattle.trace_text.specs.declared.sight.Kind.{Kind}
-use Rattle.trace_text.specs.AnyTerm.{AnyTerm, leaf, float, tuple, nil, cons, map, any_count, AnyMembers, no_members, member}
+use Rattle.trace_text.specs.declared.sight.Sort.{Sort}
+use Rattle.trace_text.specs.AnyTerm.{Leaf, AnyTerm, leaf, float, tuple, nil, cons, map, any_count, AnyMembers, no_members, member}
 use Rattle.trace_text.specs.AnyReading.{any_members_at, any_whole_at}
-use Rattle.trace_text.specs.Facts.{leaf_if, receiver_in, sent_to, tells_receiver}
+use Rattle.trace_text.specs.Facts.{leaf_if, receiver_if, sent_to, tells_receiver, registered, tells_registered, tells_target, told_name}
 use Rattle.trace_text.specs.Parts.{members_seen, IsFifthAt, IsTheTracee, PutMessage, PutParts}
 use Rattle.trace_text.specs.Pretty.{IsPretty, ArePretty}
 use Rattle.trace_text.specs.Printed.{Puts, PutMembers, TellsMembers}
-use Rattle.trace_text.specs.Sights.{is_pid, sight}
+use Rattle.trace_text.specs.Sights.{is_atom, is_pid, sight}
 use Rattle.ext_format.proofs.FieldLaws.{IsBytes}
 use Rattle.trace_text.specs.Choosing.{term_in}
 use Rattle.trace_text.specs.PrettyLines.{longest_message}
@@ -20,6 +22,7 @@ use Rattle.trace_text.proofs.Suiting.{term_spelled}
 use Rattle.trace_text.proofs.PrettyTelling.{spells_read}
 use Rattle.trace_text.proofs.AnyLemmas.{members_count}
 use Rattle.trace_text.proofs.MembersInRow.{join, separator_after, put_behind, fails_before, fails_behind}
+use Rattle.trace_text.proofs.FourthLemmas.{leaf_none}
 use Rattle.trace_text.proofs.PartLemmas.{OfLeaves, dropped, goes_on_with, leaf_by}
 
 -- ---- where it stands
@@ -92,37 +95,37 @@ module _ (read : List ℕ → Read AnyTerm) (bytes : List ℕ) (n m : ℕ) (long
 pub pids : OfLeaves is_pid
 pids = record { other = refl; list = λ count. refl; of_tuple = λ shape. refl }
 
-not_sent : (t : AnyTerm) (b : Bool) → tells_receiver (sight t).kind ≡ b → sent_to t ≡ cond b (receiver_in t) None
-not_sent t b e = ap (λ (b : Bool). cond b (receiver_in t) None) e
+not_sent : (t : AnyTerm) (b : Bool) → tells_receiver (sight t).kind ≡ b → sent_to t ≡ cond b (receiver_if is_pid t) None
+not_sent t b e = ap (λ (b : Bool). cond b (receiver_if is_pid t) None) e
 
 pub no_receiver : (t : AnyTerm) (k : Option Kind) → k ≡ (sight t).kind → tells_receiver k ≡ false → sent_to t ≡ None
 no_receiver t k is never = not_sent t false (ap tells_receiver (sym is) ∙ never)
 
-few_seen : (t : AnyTerm) → length (members_seen t) < 5 → receiver_in t ≡ None
-few_seen (leaf l) few = refl
-few_seen (float bits) few = refl
-few_seen nil few = refl
-few_seen (cons a b) few = refl
-few_seen (map ts) few = refl
-few_seen (tuple no_members) few = refl
-few_seen (tuple (member a no_members)) few = refl
-few_seen (tuple (member a (member b no_members))) few = refl
-few_seen (tuple (member a (member b (member c no_members)))) few = refl
-few_seen (tuple (member a (member b (member c (member d no_members))))) few = refl
-few_seen (tuple (member a (member b (member c (member d (member e ts)))))) few = absurd (omega (arith, few))
+pub few_seen : (test : Sort → Bool) (t : AnyTerm) → length (members_seen t) < 5 → receiver_if test t ≡ None
+few_seen test (leaf l) few = refl
+few_seen test (float bits) few = refl
+few_seen test nil few = refl
+few_seen test (cons a b) few = refl
+few_seen test (map ts) few = refl
+few_seen test (tuple no_members) few = refl
+few_seen test (tuple (member a no_members)) few = refl
+few_seen test (tuple (member a (member b no_members))) few = refl
+few_seen test (tuple (member a (member b (member c no_members)))) few = refl
+few_seen test (tuple (member a (member b (member c (member d no_members))))) few = refl
+few_seen test (tuple (member a (member b (member c (member d (member e ts)))))) few = absurd (omega (arith, few))
 
 pub not_so_many : (t : AnyTerm) (seen : List Sight) → tells_receiver (sight t).kind ≡ true → seen ≡ members_seen t → length seen < 5 → sent_to t ≡ None
-not_so_many t seen tells is few = not_sent t true tells ∙ few_seen t (let e = ap length is in omega (arith, e, few))
+not_so_many t seen tells is few = not_sent t true tells ∙ few_seen is_pid t (let e = ap length is in omega (arith, e, few))
 
 -- the fifth member of a term, and what is seen of it
 pub record OfFive (t : AnyTerm) (to : Sight) : Type 0 where
   pub e : AnyTerm
   pub is_to : to ≡ sight e
-  pub is : receiver_in t ≡ leaf_if is_pid e
+  pub is : (test : Sort → Bool) → receiver_if test t ≡ leaf_if test e
   pub stands : (text : List ℕ) (place : ℕ) → IsFifthAt t text place → (front own rest : List ℕ) × IsPretty e own × (place ≡ length front) × (text ≡ front ++ 44 ∷ (own ++ rest))
 
 five_of : (t : AnyTerm) (a b c d to : Sight) (more : List Sight) → a ∷ b ∷ c ∷ d ∷ to ∷ more ≡ members_seen t → OfFive t to
-five_of (tuple (member a (member b (member c (member d (member e ts)))))) x y z w to more is = record { e = e; is_to = cc; is = refl; stands = λ text place h. h }
+five_of (tuple (member a (member b (member c (member d (member e ts)))))) x y z w to more is = record { e = e; is_to = cc; is = λ test. refl; stands = λ text place h. h }
 five_of (tuple (member a (member b (member c (member d no_members))))) x y z w to more is = absurd cc
 five_of (tuple (member a (member b (member c no_members)))) x y z w to more is = absurd cc
 five_of (tuple (member a (member b no_members))) x y z w to more is = absurd cc
@@ -145,27 +148,38 @@ five_at (a ∷ b ∷ c ∷ d ∷ []) other long = absurd (omega (arith, long))
 pub five_there : (t : AnyTerm) (seen : List Sight) (other : Sight) → seen ≡ members_seen t → 5 ≤ length seen → OfFive t (get_or seen 4 other)
 five_there t seen other is long = five_of t _ _ _ _ _ _ (sym (five_at seen other long) ∙ is)
 
-no_pid : (e : AnyTerm) → is_pid (sight e).sort ≡ false → leaf_if is_pid e ≡ None
-no_pid (leaf l) never = ap (λ (b : Bool). cond b (Some l) None) never
-no_pid (float bits) never = refl
-no_pid (tuple ts) never = refl
-no_pid nil never = refl
-no_pid (cons a b) never = refl
-no_pid (map ts) never = refl
+module _ (t : AnyTerm) (to : Sight) (five : OfFive t to) (test : Sort → Bool) where
+  pub not_such : test to.sort ≡ false → receiver_if test t ≡ None
+  not_such never = five.is test ∙ leaf_none test five.e (ap (λ (s : Sight). test s.sort) (sym five.is_to) ∙ never)
+
+  -- it is told by the text that stands behind the place, as long as was seen
+  pub the_fifth : OfLeaves test → (text rest shown : List ℕ) (place next : ℕ) → IsFifthAt t text place → test to.sort ≡ true → next ≡ place + 1 → rest ≡ drop next text
+      → ((own more : List ℕ) → rest ≡ own ++ more → to.sizes.first ≡ length own → shown ≡ own) → IsTheTracee shown (receiver_if test t)
+  the_fifth leaves text rest shown place next fifth is_such at from cut =
+      let h = five.stands text place fifth in
+      let o = leaf_by test leaves five.e h.1 (ap (λ (s : Sight). test s.sort) (sym five.is_to) ∙ is_such) h.3 in
+      let parted : text ≡ (h.0 ++ 44 ∷ []) ++ (h.1 ++ h.2) = h.5 ∙ sym (append_assoc h.0 (44 ∷ []) (h.1 ++ h.2)) in
+      let there : rest ≡ h.1 ++ h.2 = from ∙ dropped (h.0 ++ 44 ∷ []) (h.1 ++ h.2) text next parted (let l = length-append h.0 (44 ∷ []) in let p = h.4 in omega (arith, l, p, at)) in
+      record { l = o.0.l; is = five.is test ∙ o.1; text = cut h.1 h.2 there (ap (λ (s : Sight). s.sizes.first) five.is_to ∙ o.0.size) ∙ o.0.text }
 
 module _ (t : AnyTerm) (to : Sight) (five : OfFive t to) (tells : tells_receiver (sight t).kind ≡ true) where
   pub no_process : is_pid to.sort ≡ false → sent_to t ≡ None
-  no_process never = not_sent t true tells ∙ five.is ∙ no_pid five.e (ap (λ (s : Sight). is_pid s.sort) (sym five.is_to) ∙ never)
+  no_process never = not_sent t true tells ∙ not_such t to five is_pid never
 
-  -- it is told by the text that stands behind the place, as long as was seen
   pub the_process : (text rest shown : List ℕ) (place next : ℕ) → IsFifthAt t text place → is_pid to.sort ≡ true → next ≡ place + 1 → rest ≡ drop next text
       → ((own more : List ℕ) → rest ≡ own ++ more → to.sizes.first ≡ length own → shown ≡ own) → IsTheTracee shown (sent_to t)
-  the_process text rest shown place next fifth is_process at from cut =
-      let h = five.stands text place fifth in
-      let o = leaf_by is_pid pids five.e h.1 (ap (λ (s : Sight). is_pid s.sort) (sym five.is_to) ∙ is_process) h.3 in
-      let parted : text ≡ (h.0 ++ 44 ∷ []) ++ (h.1 ++ h.2) = h.5 ∙ sym (append_assoc h.0 (44 ∷ []) (h.1 ++ h.2)) in
-      let there : rest ≡ h.1 ++ h.2 = from ∙ dropped (h.0 ++ 44 ∷ []) (h.1 ++ h.2) text next parted (let l = length-append h.0 (44 ∷ []) in let p = h.4 in omega (arith, l, p, at)) in
-      record { l = o.0.l; is = not_sent t true tells ∙ five.is ∙ o.1; text = cut h.1 h.2 there (ap (λ (s : Sight). s.sizes.first) five.is_to ∙ o.0.size) ∙ o.0.text }
+  the_process text rest shown place next fifth is_process at from cut = subst (IsTheTracee shown) (sym (not_sent t true tells)) (the_fifth t to five is_pid pids text rest shown place next fifth is_process at from cut)
+
+-- ---- a name
+
+pub name_by : (t : AnyTerm) (k : Option Kind) (b c : Bool) → k ≡ (sight t).kind → tells_registered k ≡ b → tells_target k ≡ c → told_name t ≡ cond b (registered t) (cond c (receiver_if is_atom t) None)
+name_by t k b c is gets sends =
+    ap (λ (b : Bool). cond b (registered t) (cond (tells_target (sight t).kind) (receiver_if is_atom t) None)) (ap tells_registered (sym is) ∙ gets)
+    ∙ ap (λ (c : Bool). cond b (registered t) (cond c (receiver_if is_atom t) None)) (ap tells_target (sym is) ∙ sends)
+
+-- it is told by what is found of the one or the other
+pub name_as : {R : Type 0} (now : R → List ℕ) (o : Option R) (t : AnyTerm) (l : Option Leaf) → told_name t ≡ l → MatchOption o (l ≡ None) (λ own. IsTheTracee (now own) l) → MatchOption o (told_name t ≡ None) (λ own. IsTheTracee (now own) (told_name t))
+name_as now o t l is m = subst (λ (l : Option Leaf). MatchOption o (l ≡ None) (λ own. IsTheTracee (now own) l)) (sym is) m
 
 -- ---- what is read
 

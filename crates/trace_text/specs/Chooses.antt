@@ -5,7 +5,7 @@ use Rattle.std.specs.Option.{option_map}
 use Rattle.entry_codec.specs.Entries.{Entry}
 use Rattle.trace_text.specs.declared.choice.Choice.{Choice}
 use Rattle.trace_text.specs.Choosing.{Asks, asks_of, chooses}
-use Rattle.trace_text.specs.Lines.{asks_opaque}
+use Rattle.trace_text.specs.Lines.{asks_part}
 
 -- what a choice asks for, where there is one
 abbrev pub asks_where : Option (Bor Choice) → Option Asks
@@ -16,7 +16,7 @@ abbrev pub is_chosen : Option Asks → ℕ → Entry → Bool
 is_chosen None n e = true
 is_chosen (Some asks) n e = chooses asks n e
 
--- messages of this number that aren't read are asked for
-abbrev pub is_opaque_chosen : Option Asks → ℕ → Bool
-is_opaque_chosen None n = true
-is_opaque_chosen (Some asks) n = asks_opaque asks n
+-- parts of this number are asked for
+abbrev pub is_part_chosen : Option Asks → ℕ → Bool
+is_part_chosen None n = true
+is_part_chosen (Some asks) n = asks_part asks n

@@ -1,5 +1,5 @@
 -- Which entries a choice asks for.
-use Rattle.std.specs.Prelude.{ℕ, Bool, true, false, not, map, ◌&&◌, ◌||◌, Option, Some, None, List, [], ◌∷◌, ◌++◌, ◌==◌, nat_le, length, codes, is_none, string_bytes, Result, Ok, Err, if◌then◌else◌}
+use Rattle.std.specs.Prelude.{ℕ, Bool, true, false, not, map, ◌&&◌, ◌||◌, Option, Some, None, List, [], ◌∷◌, ◌++◌, ◌==◌, nat_le, length, drop, codes, is_none, string_bytes, Result, Ok, Err, if◌then◌else◌}
 use Rattle.std.specs.Fmt.{decimal}
 use Rattle.std.specs.List.{slice_split, list_any}
 use Rattle.std.specs.Option.{option_map}
@@ -97,10 +97,38 @@ names_kind (Some words) kind = has_word words kind
 abbrev pub is_text : ℕ → ℕ → List ℕ → List ℕ → Bool
 is_text opening closing asked shown = bytes_eq shown asked || bytes_eq shown (opening ∷ (asked ++ closing ∷ []))
 
--- the process or port is one of those that a listing shows so, with or without angle brackets
+-- such a byte is in it
+abbrev pub has_byte : ℕ → List ℕ → Bool
+has_byte byte text = list_any (λ x. x == byte) text
+
+-- what stands before the last such byte; nothing where there is none
+abbrev pub before_last : ℕ → List ℕ → List ℕ
+before_last byte [] = []
+before_last byte (x ∷ xs) = if has_byte byte xs then x ∷ before_last byte xs else []
+
+-- what stands between two signs, of a text that begins with the first of them; any other text as it is
+abbrev pub inside : ℕ → ℕ → List ℕ → List ℕ
+inside opening closing [] = []
+inside opening closing (x ∷ xs) = if x == opening then before_last closing xs else x ∷ xs
+
+-- the texts by which the process NODE.ID.SERIAL.CREATION is asked for beside that one: with its creation and without, NODE with its quotes and without, and 0.ID.SERIAL
+abbrev pub names_by : (node whole short : List ℕ) → List (List ℕ)
+names_by node whole short =
+    short ∷ (inside 39 39 node ++ drop (length node) whole) ∷ (inside 39 39 node ++ drop (length node) short) ∷ (48 ∷ drop (length node) short) ∷ []
+
+-- by where the last points stand
+abbrev pub names_of : List ℕ → List (List ℕ)
+names_of whole = names_by (before_last 46 (before_last 46 (before_last 46 whole))) whole (before_last 46 whole)
+
+-- the text that a listing has for a process or a port is this one, with or without angle brackets, or this one but for a creation; or it is a process of such a name, in angle brackets or not
+abbrev pub is_named : List ℕ → List ℕ → Bool
+is_named asked shown =
+    is_text 60 62 asked shown || (bytes_eq asked (before_last 46 shown ++ 62 ∷ []) || list_any (λ name. bytes_eq (inside 60 62 asked) name) (names_of (inside 60 62 shown)))
+
+-- the process or port is one of those that are asked for
 abbrev pub is_one_traced : List (List ℕ) → Option Leaf → Bool
 is_one_traced pids None = false
-is_one_traced pids (Some who) = list_any (λ asked. is_text 60 62 asked (leaf_text who)) pids
+is_one_traced pids (Some who) = list_any (λ asked. is_named asked (leaf_text who)) pids
 
 -- the atom is the one that a listing shows so, with or without its quotes, where one is asked for
 abbrev pub is_shown : Option (List ℕ) → List ℕ → Bool
@@ -151,6 +179,15 @@ suits asks t = is_of_each asks.only t && not (is_of_any asks.not t)
 abbrev pub suits_opaque : Asks → Bool
 suits_opaque asks =
     is_of_kinds asks.only.kinds (codes "opaque") && (length asks.only.pids == 0 && (length asks.only.functions == 0 && not (names_kind asks.not.kinds (codes "opaque"))))
+
+-- parts of long messages are named by their own word, or with what isn't read
+abbrev pub names_part : Option (List ℕ) → Bool
+names_part kinds = names_kind kinds (codes "part") || names_kind kinds (codes "opaque")
+
+-- nor is more told of a part of a message that isn't whole
+abbrev pub suits_part : Asks → Bool
+suits_part asks =
+    (is_none asks.only.kinds || names_part asks.only.kinds) && (length asks.only.pids == 0 && (length asks.only.functions == 0 && not (names_part asks.not.kinds)))
 
 -- what was read, where it takes so many bytes
 abbrev pub if_all : Result (AnyTerm × ℕ) DecodeFault → ℕ → Option AnyTerm

@@ -4,6 +4,7 @@ use Rattle.std.specs.Fmt.{decimal}
 use Rattle.std.specs.Option.{option_map, option_and_then}
 use Rattle.trace_message.specs.declared.word.Word.TheVariants as words
 use Rattle.trace_message.specs.declared.seen.Seen.TheVariants as events
+use Rattle.trace_text.specs.declared.other_word.OtherWord.TheVariants as others
 use Rattle.trace_text.specs.declared.sight.Heading.TheVariants as headings
 use Rattle.trace_text.specs.declared.sight.Kind.{Kind}
 use Rattle.trace_text.specs.declared.sight.Kind.TheVariants as kinds
@@ -79,19 +80,24 @@ tells_function (Some (kinds.Seen events.Return)) = true
 tells_function (Some (kinds.Seen events.Exception)) = true
 tells_function kind = false
 
+-- these kinds, and the one that tells to which function a process is back
+abbrev pub names_function : Option Kind → Bool
+names_function (Some (kinds.Other others.ReturnTo)) = true
+names_function kind = tells_function kind
+
 -- the kind that tells to whom a message is sent
 abbrev pub tells_receiver : Option Kind → Bool
 tells_receiver (Some (kinds.Seen events.Send)) = true
 tells_receiver kind = false
 
--- {trace,Who,send,Message,To,..}, where To is a process
-abbrev pub receiver_in : AnyTerm → Option Leaf
-receiver_in (tuple (member tag (member who (member word (member message (member to ts)))))) = leaf_if is_pid to
-receiver_in t = None
+-- {trace,Who,send,Message,To,..}, where To is of such a sort
+abbrev pub receiver_if : (Sort → Bool) → AnyTerm → Option Leaf
+receiver_if test (tuple (member tag (member who (member word (member message (member to ts)))))) = leaf_if test to
+receiver_if test t = None
 
 -- the process that a message tells another to be sent to
 abbrev pub sent_to : AnyTerm → Option Leaf
-sent_to t = if tells_receiver (sight t).kind then receiver_in t else None
+sent_to t = if tells_receiver (sight t).kind then receiver_if is_pid t else None
 
 -- the function that stands behind who is traced
 abbrev pub function_of : AnyTerm → Option Function
@@ -100,3 +106,34 @@ function_of t = option_and_then (λ _. function_behind (behind_tag t)) (traced t
 -- the function that a message tells to be called or returned from
 abbrev pub called : AnyTerm → Option Function
 called t = if tells_function (sight t).kind then function_of t else None
+
+-- the function that it tells to be called, returned from or returned to
+abbrev pub told_function : AnyTerm → Option Function
+told_function t = if names_function (sight t).kind then function_of t else None
+
+-- ---- registered names
+
+-- the kinds that tell of a name that a process gets or loses
+abbrev pub tells_registered : Option Kind → Bool
+tells_registered (Some (kinds.Other others.Register)) = true
+tells_registered (Some (kinds.Other others.Unregister)) = true
+tells_registered kind = false
+
+-- the kinds that tell of a message that is sent, to whomever
+abbrev pub tells_target : Option Kind → Bool
+tells_target (Some (kinds.Seen events.Send)) = true
+tells_target (Some (kinds.Seen events.SendLost)) = true
+tells_target kind = false
+
+-- the atom that stands after the process and an atom
+abbrev pub atom_behind : AnyMembers → Option Leaf
+atom_behind (member who (member word (member t ts))) = option_and_then (λ _. leaf_if is_atom t) (leaf_if is_atom word)
+atom_behind ts = None
+
+-- the atom that stands there behind who is traced
+abbrev pub registered : AnyTerm → Option Leaf
+registered t = option_and_then (λ _. atom_behind (behind_tag t)) (traced t)
+
+-- the name that a process gets or loses, or the one by which a message is sent
+abbrev pub told_name : AnyTerm → Option Leaf
+told_name t = if tells_registered (sight t).kind then registered t else (if tells_target (sight t).kind then receiver_if is_atom t else None)

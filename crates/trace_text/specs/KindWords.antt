@@ -26,6 +26,10 @@ word_or place None = if place == 29 then codes "opaque" else codes "other"
 abbrev pub word_at : ℕ → List ℕ
 word_at place = word_or place (slice_get shown_kinds place)
 
+-- the words for what is no message that was read: a drop record, or a part of a long message that isn't whole
+abbrev pub is_no_message : List ℕ → Bool
+is_no_message word = bytes_eq word (codes "drop") || bytes_eq word (codes "part")
+
 -- a listing may have a kind of this word
 abbrev pub is_kind_word : List ℕ → Bool
-is_kind_word word = bytes_eq word (codes "drop") || list_any (λ place. bytes_eq (word_at place) word) (range_with_len 0 31)
+is_kind_word word = is_no_message word || list_any (λ place. bytes_eq (word_at place) word) (range_with_len 0 31)

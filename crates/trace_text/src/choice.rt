@@ -1,12 +1,13 @@
 //! Which entries are listed.
 ghost use Rattle.std.specs.Prelude.{◌≡◌, ◌∷◌, ◌++◌, ℕ, List, [], length};
+ghost use Rattle.std.specs.List.{list_any};
 ghost use Rattle.std.specs.Option.{option_map};
 ghost use Rattle.std.specs.Prelude.{string_bytes};
 ghost use Rattle.std.specs.Str.{bytes_eq};
-ghost use Rattle.trace_text.specs.Choosing.{asked_of, asks_of, asks_no_text, asks_nothing, has_word, is_from, is_to, ends, is_text, is_shown, names_kind, names_nothing, suits_opaque};
-ghost use Rattle.trace_text.specs.Lines.{asks_opaque};
+ghost use Rattle.trace_text.specs.Choosing.{asked_of, asks_of, asks_no_text, asks_nothing, has_word, is_from, is_to, ends, before_last, inside, is_named, is_text, is_shown, names_by, names_kind, names_nothing, names_of, names_part, suits_opaque, suits_part};
+ghost use Rattle.trace_text.specs.Lines.{asks_opaque, asks_part};
 
-use crate::message::front;
+use crate::message::{behind, front};
 
 /// A function that is called or returned from.
 #[derive(Drop)]
@@ -24,7 +25,7 @@ pub struct FunctionAsked {
 pub struct Filter {
     /// Words for kinds, with commas between them.
     pub kinds: Option<String>,
-    /// Traced processes, as a listing shows them, with or without their angle brackets.
+    /// Traced processes: the texts by which they are asked for.
     pub pids: Vec<String>,
     pub functions: Vec<FunctionAsked>,
 }
@@ -47,6 +48,13 @@ impl Filter {
             Some(words) => is_among(kind, words.as_bytes()),
             None => false,
         }
+    }
+
+    /// Whether it names parts of long messages that aren't whole: by their word, or with messages that can't be read.
+    fn names_part(&self) -> bool
+        ensures { result ≡ names_part (asked_of self.now).kinds }
+    {
+        self.names_kind(b"part") || self.names_kind(b"opaque")
     }
 }
 
@@ -101,6 +109,13 @@ impl Choice {
         self.is_not_later(number) && self.is_not_before(number) && self.suits_opaque()
     }
 
+    /// Whether parts of this number are asked for.
+    pub fn asks_part(&self, number: u64) -> bool
+        ensures { result ≡ asks_part (asks_of self.now) number }
+    {
+        self.is_not_later(number) && (self.is_not_before(number) && self.suits_part())
+    }
+
     /// Whether no entry that comes after the one of this number is to be listed.
     pub fn ends_with(&self, number: u64) -> bool
         ensures { result ≡ ends (asks_of self.now) number }
@@ -118,6 +133,16 @@ impl Choice {
             && only.pids.is_empty()
             && only.functions.is_empty()
             && !self.not.names_kind(b"opaque")
+    }
+
+    /// Whether a part of a long message that isn't whole suits the choice: the kinds that it names, if it does, have `part` or
+    /// `opaque`, it names no process and no function, and it excludes neither.
+    fn suits_part(&self) -> bool
+        ensures { result ≡ suits_part (asks_of self.now) }
+    {
+        let only = &self.only;
+        let is_named = only.kinds.is_none() || only.names_part();
+        is_named && only.pids.is_empty() && only.functions.is_empty() && !self.not.names_part()
     }
 }
 
@@ -185,4 +210,70 @@ pub fn is_name(asked: &Option<String>, text: &[u8], size: usize) -> bool
         Some(asked) => begins_so(asked.as_bytes(), text, size),
         None => true,
     }
+}
+
+/// What stands before the last such byte of a text; nothing where there is none.
+#[tactic(auto, using(crate::proofs::Named::goes_on, crate::proofs::Named::stops, crate::proofs::Named::runs_out))]
+fn before_last(byte: u8, text: &[u8]) -> &[u8]
+    ensures { result.now ≡ before_last byte text.now }
+{
+    let mut front = text;
+    while let Some((last, before)) = front.split_last() {
+        if *last == byte {
+            return before;
+        }
+        front = before;
+    }
+    front
+}
+
+/// What stands between two signs, of a text that begins with the first of them; any other text as it is.
+fn inside(opening: u8, closing: u8, text: &[u8]) -> &[u8]
+    ensures { result.now ≡ inside opening closing text.now }
+{
+    match text.split_first() {
+        Some((first, rest)) if *first == opening => before_last(closing, rest),
+        _ => text,
+    }
+}
+
+/// Whether a text is two others in a row.
+fn is_joined(text: &[u8], first: &[u8], second: &[u8]) -> bool
+    ensures { result ≡ bytes_eq text.now (first.now ++ second.now) }
+{
+    match text.strip_prefix(first) {
+        Some(rest) => rest == second,
+        None => false,
+    }
+}
+
+/// Whether `asked` is a text by which a process of this node is asked for, that has this text with its creation and without.
+fn is_name_by(asked: &[u8], node: &[u8], whole: &[u8], short: &[u8]) -> bool
+    ensures { result ≡ list_any (λ name. bytes_eq asked.now name)
+        (names_by node.now whole.now short.now) }
+{
+    let bare = inside(b'\'', b'\'', node);
+    let numbers = behind(short, node.len());
+    asked == short
+        || is_joined(asked, bare, behind(whole, node.len()))
+        || is_joined(asked, bare, numbers)
+        || is_joined(asked, b"0", numbers)
+}
+
+/// Whether `asked` is another text by which a process is asked for, that has this text without its angle brackets.
+fn is_other_name(asked: &[u8], whole: &[u8]) -> bool
+    ensures { result ≡ list_any (λ name. bytes_eq asked.now name) (names_of whole.now) }
+{
+    let short = before_last(b'.', whole);
+    let node = before_last(b'.', before_last(b'.', short));
+    is_name_by(asked, node, whole, short)
+}
+
+/// Whether a process or a port that a listing shows so is asked for by this text.
+pub fn is_named(asked: &[u8], shown: &[u8]) -> bool
+    ensures { result ≡ is_named asked.now shown.now }
+{
+    is_text(b'<', b'>', asked, shown)
+        || is_joined(asked, before_last(b'.', shown), b">")
+        || is_other_name(inside(b'<', b'>', asked), inside(b'<', b'>', shown))
 }

@@ -4,7 +4,7 @@ ghost use Rattle.std.specs.Prelude.{◌≡◌, ◌∷◌, ◌++◌, [], ◌+◌,
 ghost use Rattle.std.specs.List.{AllByRecursion};
 ghost use Rattle.entry_codec.specs.Entries.{Entry};
 ghost use Rattle.trace_text.specs.declared.style.Style.{Style};
-ghost use Rattle.trace_text.specs.Choosing.{Asks, chooses, ends};
+ghost use Rattle.trace_text.specs.Choosing.{Asks, chooses, ends, has_byte, inside, names_of};
 ghost use Rattle.trace_text.specs.Lines.{AreLines, EachLine, HasRow, asks_in, ends_in, kept};
 
 /// Without a choice a listing has a line, or an object, for each entry. Of these a listing by a choice has those of the
@@ -34,4 +34,16 @@ pub fn chosen_lines_are_kept()
     // Behind an entry at which a listing ends none is asked for.
     ensures over { (asks : Asks) (n m : ℕ) (e : Entry) → ends asks n ≡ true → n < m
         → chooses asks m e ≡ false }
+{}
+
+/// The texts by which a process is asked for, beside the one that a listing shows and without angle brackets: `NODE.ID.SERIAL`;
+/// these with its creation and without, where the quotes of NODE are left out; and `0.ID.SERIAL`.
+pub fn processes_have_names()
+    ensures { (node id serial creation : List ℕ) → has_byte 46 id ≡ false
+        → has_byte 46 serial ≡ false → has_byte 46 creation ≡ false
+        → names_of (inside 60 62
+        (60 ∷ (((node ++ 46 ∷ (id ++ 46 ∷ serial)) ++ 46 ∷ creation) ++ 62 ∷ [])))
+        ≡ (node ++ 46 ∷ (id ++ 46 ∷ serial))
+        ∷ (inside 39 39 node ++ 46 ∷ ((id ++ 46 ∷ serial) ++ 46 ∷ creation))
+        ∷ (inside 39 39 node ++ 46 ∷ (id ++ 46 ∷ serial)) ∷ (48 ∷ (46 ∷ (id ++ 46 ∷ serial))) ∷ [] }
 {}

@@ -22,7 +22,7 @@ pub struct Chooser<'c> {
 impl<'c> Chooser<'c> {
     ghost use Rattle.std.specs.Prelude.{◌≡◌, IfOk, OnErr, IsSome};
     ghost use Rattle.entry_codec.specs.Seen.{lent};
-    ghost use Rattle.trace_text.specs.Chooses.{asks_where, is_chosen, is_opaque_chosen};
+    ghost use Rattle.trace_text.specs.Chooses.{asks_where, is_chosen, is_part_chosen};
 
     /// It takes no memory before the first message that a choice has to look at.
     pub fn new(alloc: Global, choice: Option<&'c Choice>) -> Chooser<'c>
@@ -48,12 +48,12 @@ impl<'c> Chooser<'c> {
         }
     }
 
-    /// Whether messages of this number that aren't read are asked for.
-    pub fn chooses_opaque(&self, number: u64) -> bool
-        ensures { result ≡ is_opaque_chosen (asks_where self.now.choice) number }
+    /// Whether parts of this number are asked for.
+    pub fn chooses_part(&self, number: u64) -> bool
+        ensures { result ≡ is_part_chosen (asks_where self.now.choice) number }
     {
         match self.choice {
-            Some(choice) => choice.asks_opaque(number),
+            Some(choice) => choice.asks_part(number),
             None => true,
         }
     }

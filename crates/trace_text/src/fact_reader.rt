@@ -1,19 +1,20 @@
-//! What a message of any terms tells: its kind, who is traced, the function that is called or returned from, and the process that
-//! a message is sent to.
+//! What a message of any terms tells: its kind, who is traced, the function that is called, returned from or returned to, the
+//! process that a message is sent to, and a registered name.
 
 ghost use Rattle.std.specs.Prelude.{◌≡◌, ◌≤◌, ◌++◌, Some, length, IfOk, OnOk, OnErr};
 ghost use Rattle.std.specs.Bool.{then_some};
 ghost use Rattle.std.specs.Fmt.{decimal};
 ghost use Rattle.std.specs.Option.{option_map};
 ghost use Rattle.trace_text.specs.{AnyTerm.AnyTerm, PrettyLines.longest_message, Sights.sight};
-ghost use Rattle.trace_text.specs.Facts.{Function, arity_told};
+ghost use Rattle.trace_text.specs.Facts.{Function, arity_told, names_function};
 ghost use Rattle.trace_text.specs.MessageFacts.{IsHeld, IsTextTold, as_told, called_text, facts_in, facts_of};
 ghost use Rattle.trace_text.specs.Objects.{arity_text, function_text, unsigned_told};
 ghost use Rattle.trace_text.specs.Parts.{IsArity, IsCalledBy, IsSeenSo};
 
 use crate::any_term::Sighted;
 use crate::facts::tells_function;
-use crate::message::{Arity, Called, function, receiver, tracee};
+use crate::message::{Arity, Called, function, name, receiver, tracee};
+use crate::other_word::OtherWord;
 use crate::pretty::{read_message, word_of};
 use crate::sight::{Kind, Sight};
 use crate::term_text::put_byte;
@@ -27,10 +28,12 @@ pub struct MessageFacts<'t> {
     pub kind: &'static str,
     /// The process or port that is traced.
     pub tracee: Option<&'t [u8]>,
-    /// The function that is called or returned from, as `lists:seq/2`.
+    /// The function that is called, returned from or returned to, as `lists:seq/2`.
     pub function: Option<&'t [u8]>,
     /// The process that a message is sent to.
     pub receiver: Option<&'t [u8]>,
+    /// The registered name that a process gets or loses, or by which a message is sent.
+    pub name: Option<&'t [u8]>,
     /// The message's term.
     pub text: &'t [u8],
 }
@@ -75,9 +78,17 @@ impl FactReader {
             tracee: tracee(&self.told.seen, &self.told.text),
             function: tells.then_some(self.function.as_slice()),
             receiver: receiver(&self.told, kind),
+            name: name(&self.told, kind),
             text: &self.told.text,
         }
     }
+}
+
+/// Whether messages of this kind tell of a function, also of one to which a process is back.
+fn names_function(kind: Option<Kind>) -> bool
+    ensures { result ≡ names_function kind }
+{
+    matches!(kind, Some(Kind::Other(OtherWord::ReturnTo))) || tells_function(kind)
 }
 
 /// Puts the text of the function that a message of this kind tells of in place of another one; answers whether it tells of
@@ -92,7 +103,7 @@ fn put_called_text(
         → IfOk result (λ tells. then_some tells out.new.items ≡ called_text t) }
 {
     out.clear();
-    if !tells_function(kind) {
+    if !names_function(kind) {
         return Ok(false);
     }
     let Some(called) = function(seen, text) else {

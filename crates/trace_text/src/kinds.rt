@@ -2,7 +2,7 @@
 
 ghost use Rattle.std.specs.Prelude.{◌≡◌, Option, true};
 ghost use Rattle.trace_text.specs.declared.sight.Kind.{Kind};
-ghost use Rattle.trace_text.specs.KindWords.{word_at, is_kind_word};
+ghost use Rattle.trace_text.specs.KindWords.{word_at, is_kind_word, is_no_message};
 ghost use Rattle.trace_text.specs.PrettyLines.{kind_word};
 
 use crate::other_word::OtherWord;
@@ -62,10 +62,17 @@ pub fn kind_at(place: usize) -> &'static str
     }
 }
 
+/// Whether this is the word for a drop record, or for a part of a long message that isn't whole.
+fn is_no_message(word: &str) -> bool
+    ensures { result ≡ is_no_message word.now }
+{
+    word == "drop" || word == "part"
+}
+
 /// Whether a listing may have a kind of this word.
 pub fn is_kind(word: &str) -> bool
     ensures is { result ≡ is_kind_word word.now }
     ensures each { (kind : Option Kind) → word.now ≡ kind_word kind → result ≡ true }
 {
-    word == "drop" || (0..KIND_COUNT).any(|place| kind_at(place) == word)
+    is_no_message(word) || (0..KIND_COUNT).any(|place| kind_at(place) == word)
 }

@@ -8,8 +8,9 @@
 //! entries by their numbers and terms (`chooses`): its listing has the lines of the whole one whose entries it asks for, in
 //! order, and an empty line where it ends (law `chosen_lines_are_kept`). A `Chooser` tells which entries are asked for where none
 //! has a line, as in an export (`is_chosen`). A `FactReader` tells of a message its kind, who is traced, the function that is
-//! called or returned from and the process to which it is sent, and its text (`facts_in`, `IsTextTold`). Where memory runs out,
-//! nothing is said of the text. Nothing is read or written out here, and no message is put together from several entries.
+//! called, returned from or returned to, the process to which it is sent and the registered name that it tells, and its text
+//! (`facts_in`, `IsTextTold`). Where memory runs out, nothing is said of the text. Nothing is read or written out here, and no
+//! message is put together from several entries.
 #![tactic(auto)]
 
 mod any_laws;
@@ -51,7 +52,7 @@ pub use any_laws::{
 };
 pub use atom_text::is_plain;
 pub use choice::{Choice, Filter, FunctionAsked};
-pub use choice_laws::chosen_lines_are_kept;
+pub use choice_laws::{chosen_lines_are_kept, processes_have_names};
 pub use chooser::Chooser;
 pub use fact_reader::{FactReader, MessageFacts};
 pub use kinds::{KIND_COUNT, is_kind, kind_at};

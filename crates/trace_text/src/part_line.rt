@@ -74,7 +74,7 @@ fn put_chosen(
     ensures { OnOk result (text.new.items
         ≡ text.old.items ++ part_line notation (Some (asks_of choice.now)) number part of size) }
 {
-    if choice.asks_opaque(number) {
+    if choice.asks_part(number) {
         put_row(text, notation, number, part, of, size)?;
     }
     put_mark(text, choice, number)

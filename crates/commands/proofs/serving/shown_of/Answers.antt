@@ -5,6 +5,9 @@ use Rattle.commands.specs.Serving.{IsShownOf, as_asked, from_now}
 use Rattle.commands.proofs.LookedAhead.{ahead-once}
 use Rattle.commands.proofs.serving.shown_of.Goals as goal
 
+pub returns-then-was_awaited : goal.returns-then-was_awaited
+returns-then-was_awaited g c = as_asked (inl refl)
+
 pub returns-then-not-shows_new : goal.returns-then-not-shows_new
 returns-then-not-shows_new g c = as_asked (inl refl)
 

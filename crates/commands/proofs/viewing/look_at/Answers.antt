@@ -4,10 +4,10 @@ use Rattle.segment.proofs.Taking.{reads_both}
 use Rattle.stores.specs.FolderStore.{honest_of, reads_of, images_of, moments_of, clock_of}
 use Rattle.trace_lookup.specs.declared.place.Place.{Place}
 use Rattle.trace_text.specs.Chooses.{asks_where}
-use Rattle.trace_summary.specs.Streams.{IsWhyStopped, stream_contents, why_stopped}
+use Rattle.trace_summary.specs.Streams.{FitHeads, IsWhyStopped, stream_contents, why_stopped}
 use Rattle.faults.specs.Faults.{read_fault}
 use Rattle.commands.specs.Live.{most_to_read}
-use Rattle.commands.specs.Viewing.{IsReadInto, TellsStop, refused}
+use Rattle.commands.specs.Viewing.{HasSeen, IsReadInto, TellsStop, refused}
 use Rattle.commands.specs.declared.live.ReadFailure.{ReadFailure}
 use Rattle.commands.proofs.Bounds.{tell_after}
 use Rattle.commands.proofs.Naming.{told_moved}
@@ -26,7 +26,8 @@ returns-in-Ok-None-clause-viewed g c =
     let stream = c.replace-stream.result in
     let was : Option (List ℕ) = stream_contents (seen first.view) first.pending.items in
     let now : Option (List ℕ) = stream_contents (seen last.view) last.pending.items in
-    let none : seen first.view ≡ [] = cc in
+    let start : first.view ≡ c.args.view = cc in
+    let fits : FitHeads (seen first.view) = subst (λ view. FitHeads (seen view)) (sym start) c.requires.fits in
     let empty : first.pending.items ≡ [] = cc in
     let same : stream_contents (seen stream.view) stream.pending.items ≡ now = cc in
     let done : c.read_into-done.result ≡ Ok c.in-Ok-None.field-0-0 = cc in
@@ -37,8 +38,9 @@ returns-in-Ok-None-clause-viewed g c =
       at_most = e.at_most;
       told = λ h.
           let read = subst (λ (r : Result Unit ReadFailure). IsReadInto asks (reads_of old) was now r) done (e.told h) in (
-            exported asks (reads_of old) (seen first.view) first.pending.items (seen last.view) last.pending.items (seen c.into_view-view.result.0)
-                (bytes_read old (e.only_reads.was_honest h)) none empty read.0 read.1 (λ entries fit is. c.into_view-view.ensures.seen entries fit (same ∙ is)),
+            subst (λ view. HasSeen asks (reads_of old) (seen view) (seen c.into_view-view.result.0)) start
+                (exported asks (reads_of old) (seen first.view) first.pending.items (seen last.view) last.pending.items (seen c.into_view-view.result.0)
+                (bytes_read old (e.only_reads.was_honest h)) fits empty read.0 read.1 (λ entries fit is. c.into_view-view.ensures.seen entries fit (same ∙ is))),
             goes_on,
           );
     }
@@ -74,3 +76,10 @@ returns-in-Err-None-clause-viewed g c =
           let read = subst (λ (r : Result Unit ReadFailure). IsReadInto (asks_where c.args.choice) (reads_of old.store) was now r) done (e.told (more.was_honest h)) in
           refused failure.fault read (told_moved old.place mid.place new (read_fault failure.fault) (read_fault failure.fault) c.told.result c.read_into-done.ensures.place refl c.told.ensures.told);
     }
+
+pub returns-in-Ok-None-clause-goes_on : goal.returns-in-Ok-None-clause-goes_on
+returns-in-Ok-None-clause-goes_on g c =
+    let failed = g.V.View.failed in
+    let stream = c.replace-stream.result in
+    let none_why : None ≡ why_stopped (failed stream.view) stream.no_room = cc in
+    subst (λ view. failed view ≡ None) (sym c.into_view-view.ensures.view) (not_failed (failed stream.view) stream.no_room none_why)

@@ -1,12 +1,19 @@
-use Rattle.std.proofs.Common.{Err, inr, subst}
+use Rattle.std.proofs.Common.{Err, inr, subst, sym}
 use Rattle.std.proofs.KnownBytes.{Keeps-refl}
 use Rattle.std.proofs.lemmas.Result.{err_from_is_err_and}
 use Rattle.trace_text.specs.Chooses.{asks_where}
 use Rattle.trace_lookup.specs.declared.place.Place.{Place}
+use Rattle.trace_summary.specs.Streams.{FitHeads}
 use Rattle.trace_summary.specs.declared.top.Top.{Top}
 use Rattle.commands.specs.Viewing.{TellsStop, not_shown}
-use Rattle.commands.proofs.Viewed.{reads_on, shown_so, stopped, table_so, tells_on}
+use Rattle.commands.proofs.Viewed.{all_seen, reads_on, shown_so, stopped, table_so, tells_on}
 use Rattle.commands.proofs.viewing.top.Goals as goal
+
+pub look_at-requires-clause-fits : goal.look_at-requires-clause-fits
+look_at-requires-clause-fits g c = subst FitHeads (sym c.new.ensures.seen) tt
+
+pub look_at-requires-clause-other : goal.look_at-requires-clause-other
+look_at-requires-clause-other g c = subst FitHeads (sym c.new-2.ensures.seen) tt
 
 pub returns-in_err-top-clause-ended : goal.returns-in_err-top-clause-ended
 returns-in_err-top-clause-ended g c =
@@ -19,7 +26,7 @@ returns-in-Ok-clause-ended g c =
     let entries = top.taken.entries in
     let out = c.write_out.ensures in
     reads_on _ _ c.write_out.result c.in_ok-top.ensures.viewed (λ viewed.
-    shown_so _ _ _ (asks_where c.args.choice) _ _ _ entries c.in-Ok.written c.write_out.result (table_so c.args.ranking c.args.is_json _ _ _ entries top.tallies c.in-Ok.written c.in-Ok.ensures.counted c.in-Ok.ensures.told out.stays) out.well out.failed viewed.0)
+    shown_so _ _ _ (asks_where c.args.choice) _ _ _ entries c.in-Ok.written c.write_out.result (table_so c.args.ranking c.args.is_json _ _ _ entries top.tallies c.in-Ok.written c.in-Ok.ensures.counted c.in-Ok.ensures.told out.stays) out.well out.failed (all_seen _ _ _ entries c.new.ensures.seen viewed.0))
 
 pub returns-clause-ended : goal.returns-clause-ended
 returns-clause-ended g c =

@@ -1,4 +1,4 @@
-use Rattle.std.proofs.Common.{◌≡◌, ◌++◌, ◌∷◌, [], ℕ, List, Option, drop, append_assoc, ◌∙◌, ap, sym}
+use Rattle.std.proofs.Common.{◌≡◌, ◌++◌, ◌∷◌, [], ℕ, List, append_assoc, ◌∙◌, ap, sym}
 use Rattle.std.specs.Prelude.{option_to_list}
 use Rattle.shown_listings.specs.declared.noted.Noted.{Noted}
 use Rattle.shown_listings.specs.Rows.{rows_in, text_of_rows}

@@ -5,4 +5,4 @@ use Rattle.trace_summary.proofs.open_calls.resume.Goals as goal
 pub returns-in-Some : goal.returns-in-Some
 returns-in-Some g c =
     let all : deque_len c.args.stack.now - 1 + 1 ≡ length c.args.stack.now.items = search rules in
-    going_on-last c.args.time c.args.stack.now.items (deque_len c.args.stack.now - 1) c.in-Some.call.now all (search rules)
+    going_on-last c.args.stack.now.items (deque_len c.args.stack.now - 1) c.in-Some.call.now all (search rules) c.args.time

@@ -8,10 +8,10 @@ use Rattle.trace_text.specs.KindWords.{word_at, is_kind_word}
 use Rattle.trace_text.proofs.KindPlaces.{kind_is_word}
 use Rattle.trace_text.proofs.kinds.is_kind.Goals as goal
 
-pub returns-else-eq-clause-is : goal.returns-else-eq-clause-is
-returns-else-eq-clause-is c =
+pub returns-else-is_no_message-clause-is : goal.returns-else-is_no_message-clause-is
+returns-else-is_no_message-clause-is c =
     any_from_yields_List (λ place. bytes_eq (word_at place) c.args.word.now) _ _ c.any.result c.any.ensures.ran (YieldsList-from_range 0 31 31 refl refl) (λ x b q k. search (rules, tests))
-    ∙ sym (ap (λ (b : Bool). b || list_any (λ place. bytes_eq (word_at place) c.args.word.now) (range_with_len 0 31)) (sym c.eq.ensures ∙ c.if-eq.false))
+    ∙ sym (ap (λ (b : Bool). b || list_any (λ place. bytes_eq (word_at place) c.args.word.now) (range_with_len 0 31)) (sym c.is_no_message.ensures ∙ c.if-is_no_message.false))
 
-pub returns-else-eq-clause-each : goal.returns-else-eq-clause-each
-returns-else-eq-clause-each c = λ kind same. returns-else-eq-clause-is c ∙ ap is_kind_word same ∙ kind_is_word kind
+pub returns-else-is_no_message-clause-each : goal.returns-else-is_no_message-clause-each
+returns-else-is_no_message-clause-each c = λ kind same. returns-else-is_no_message-clause-is c ∙ ap is_kind_word same ∙ kind_is_word kind

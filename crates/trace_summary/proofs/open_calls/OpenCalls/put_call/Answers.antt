@@ -2,7 +2,7 @@ use Rattle.std.proofs.Common.{◌≡◌, ◌∙◌, IsSome, Some, ap, sym, rever
 use Rattle.std.specs.HashMap.{get_by}
 use Rattle.std.specs.Str.{bytes_eq}
 use Rattle.std.proofs.lemmas.Result.{on_ok_weaker}
-use Rattle.trace_summary.specs.Opens.{calls_in, open_calls, with_call}
+use Rattle.trace_summary.specs.Opens.{calls_in, newest_of, open_calls, placed, with_call}
 use Rattle.trace_summary.proofs.OpenLemmas.{has_calls}
 use Rattle.trace_summary.proofs.open_calls.OpenCalls.put_call.Goals as goal
 
@@ -10,7 +10,9 @@ pub returns-in-Some-clause-calls : goal.returns-in-Some-clause-calls
 returns-in-Some-clause-calls g c =
     let process = c.args.process.now in
     let old = c.args.self.now in
+    let full = c.args.is_full in
     let found : IsSome (get_by (λ k. bytes_eq process k.items) old.stacks) = subst IsSome c.in-Some.ensures.value (search rules) in
     let had : open_calls old process ≡ reverse c.in-Some.stack.now.items = sym (ap calls_in c.in-Some.ensures.value) in
     on_ok_weaker c.push.result (λ is. has_calls process old.stacks (c.get_mut.follows.lender c.push.new.stack) (Some c.push.new.stack) _ ((c.get_mut.follows.holds c.push.new.stack).3 found)
-    (is ∙ ap (with_call c.args.is_full c.args.call) (sym had))) c.push.ensures.is
+    (is ∙ ap (λ one. with_call full one (reverse c.in-Some.stack.now.items)) c.placed_on-call.ensures
+    ∙ ap (λ calls. with_call full (placed g.F.PartialEq.eq c.args.call (newest_of calls)) calls) (sym had))) c.push.ensures.is

@@ -3,8 +3,8 @@ use Rattle.trace_summary.specs.Rows.{counts_of_process, process_counts_with, no_
 use Rattle.trace_summary.proofs.RowLemmas.{updated}
 use Rattle.trace_summary.proofs.processes.Processes.count_one.Goals as goal
 
-pub returns-in-Some : goal.returns-in-Some
-returns-in-Some c =
+pub returns-in-Some-clause-rows : goal.returns-in-Some-clause-rows
+returns-in-Some-clause-rows c =
     let had = c.in-Some.ensures.value in
     let row = c.in_ok-row.field-0 in
     let counted = rw c.in_ok-row.ensures at c.with.ensures in (

@@ -1,4 +1,0 @@
-use Rattle.shown_listings.proofs.listing.list_laid_out.Given as goal
-
-abbrev pub ghost-new : goal.ghost-new
-ghost-new g a = g.W.Write.contents a.out
