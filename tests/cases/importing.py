@@ -89,7 +89,7 @@ def what_can_be_refused_by_looking_is_refused_before_the_input_is_read(program):
     with program.start("import", "u", "--keep-open") as holder:
         holder.write(drop(1))
         same(holder.line(), "created")
-        for words in (("notes",), ("u",), ("w", "--kind", "file", "--count", "0")):
+        for words in (("notes",), ("u",), ("u", "--keep-open"), ("w", "--kind", "file", "--count", "0")):
             with program.start("import", *words) as importer:
                 # its input is open, and nothing comes
                 same(importer.process.wait(PATIENCE) in (1, 2), True)

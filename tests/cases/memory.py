@@ -261,6 +261,27 @@ def a_resumed_import_that_is_refused_memory_is_gone_on_with(program):
 
 
 @case
+def an_import_of_the_rest_of_a_message_that_is_refused_memory_is_gone_on_with(program):
+    rest, whole = b"x" * 100_000, b"".join(ENTRIES)
+    passed = b"dbgrec: 100000 bytes of a message that began before are passed over\n"
+
+    def check(refused):
+        outcome = refused.short("import", "t", "--keep-open", stdin=rest + whole)
+        left = refused.run("export", "t").output
+        assert whole.startswith(left), left
+        if outcome.status == 0:
+            same((left, outcome.errors), (whole, passed))
+            return
+        tells_no_memory(Outcome(outcome.status, outcome.output, outcome.errors.removeprefix(passed)))
+        if left != whole:
+            goes_on = refused.run("import", "t", "--keep-open", stdin=rest + whole[len(left) :])
+            same((goes_on.status, goes_on.errors), (0, passed))
+            same(refused.good("export", "t"), whole)
+
+    each_refusal(program, check, what="import --keep-open")
+
+
+@case
 def an_import_of_long_messages_that_is_refused_memory_is_gone_on_with(program):
     # none of them is left in part
     entries = [ENTRIES[0], message(LONGER), ENTRIES[5], opaque(140_000), ENTRIES[1]]

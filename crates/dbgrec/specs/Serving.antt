@@ -4,11 +4,9 @@ use Rattle.std.specs.Io.KnownBytes.{Keeps}
 use Rattle.stores.specs.Events.{World}
 use Rattle.command_line.specs.declared.request.Request.{Request}
 use Rattle.command_line.specs.declared.request.Request.TheVariants as requests
-use Rattle.command_line.specs.declared.request.Rules.{Rules}
 use Rattle.command_line.specs.declared.request.Shown.{Shown}
 use Rattle.command_line.specs.declared.request.TraceRequest.{TraceRequest}
 use Rattle.command_line.specs.declared.request.TraceRequest.TheVariants as asks
-use Rattle.command_line.specs.declared.request.Wanted.{Wanted}
 use Rattle.faults.specs.Complaints.{IsToldAs, status_told}
 use Rattle.faults.specs.declared.complaint.Complaint.{Complaint}
 use Rattle.script_runner.specs.declared.fault.SimFault.{SimFault}
@@ -16,19 +14,13 @@ use Rattle.simulator.specs.Simulated.{IsRun}
 use Rattle.shown_listings.specs.Listings.{Shows}
 use Rattle.commands.specs.Serving.{ServesFiles, ListsFiles, FollowsFiles, ListsStream}
 use Rattle.commands.specs.declared.serving.Served.{Served}
-use Rattle.prepared_requests.specs.Ahead.{BeginsImport, IsReadAhead, IsUnread}
+use Rattle.prepared_requests.specs.AheadImport.{ImportsFiles}
 use Rattle.prepared_requests.specs.Input.{ReadsInput, ServesInput}
 use Rattle.prepared_requests.specs.NamesLooked.{IsPrepared}
 
--- an import was done: its stream is read from where entries begin in it on; or that can't be read, and nothing is written
-pub data Imports (world : World) (wanted : Wanted) (rules : Rules) (shown : Shown) (had was now : Option (List ℕ)) : Result Unit Complaint → Type 0 where
-  begun : {result : Result Unit Complaint} (left : Option Served) (bytes : List ℕ) (remaining has : Option (List ℕ)) (later : Rules) → IsReadAhead had bytes remaining has → BeginsImport rules remaining bytes later
-      → ServesFiles world (asks.Import wanted later) shown has was now result left → Imports world wanted rules shown had was now result
-  unread : (complaint : Complaint) → IsUnread complaint → Keeps was now → Imports world wanted rules shown had was now (Err complaint)
-
 -- what is asked of a trace was done, by the bytes that the input had
 abbrev pub ServesTrace : World → TraceRequest → Shown → Option (List ℕ) → Option (List ℕ) → Option (List ℕ) → Result Unit Complaint → Type 0
-ServesTrace world (asks.Import wanted rules) shown had was now result = Imports world wanted rules shown had was now result
+ServesTrace world (asks.Import wanted rules) shown had was now result = (left : Option Served) × ImportsFiles world wanted rules shown had was now result left
 ServesTrace world request shown had was now result = (left : Option Served) × ServesFiles world request shown had was now result left
 
 -- or of the stream that comes in, where that is named in its place

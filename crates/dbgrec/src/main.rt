@@ -2,7 +2,7 @@
 //!
 //! The program hands each request of its command line to the crate that does it, and ends with an exit status. `serve` does what
 //! a request asks (`IsServed`), of the processes that had the names in it (`IsPrepared`): with the files of a trace (`ServesFiles`,
-//! `ListsFiles`, `FollowsFiles`), a stream in their place (`ServesInput`) or one that is imported (`Imports`), with a stream of
+//! `ListsFiles`, `FollowsFiles`), a stream in their place (`ServesInput`) or one that is imported (`ImportsFiles`), with a stream of
 //! entries as a node writes it (`ListsStream`), or with a script over a store in memory (`IsRun`). `run` does so for what the words
 //! ask, or tells that they are no command line (`Answers`). The exit status of `serve_words` is that of what was done, or of such
 //! words, or 1 where there was no memory to ask (`Ends`). These contracts speak of some files, input and words: that they are the
@@ -13,14 +13,14 @@
 ghost use Rattle.std.specs.Prelude.{◌≡◌, Result};
 ghost use Rattle.std.specs.Process.{exit_status};
 ghost use Rattle.stores.specs.Events.{World};
-ghost use Rattle.dbgrec.specs.Serving.{Imports, ServesAsked, IsDone, IsServed};
+ghost use Rattle.dbgrec.specs.Serving.{ServesAsked, IsDone, IsServed};
 ghost use Rattle.dbgrec.specs.Statuses.{EndsSo, Answers, Ends};
 
-use command_line::{Misuse, Request, Rules, Shown, TraceRequest, Wanted, asked_for};
+use command_line::{Misuse, Request, Shown, TraceRequest, asked_for};
 use commands::{StreamListing, follow_files, list_files, serve_files};
 use faults::{Complaint, Reasons, code_of, correct, no_memory};
 use prepared_requests::{
-    begin_import, reads_input, serve_input, table_asked, tell_salvage, with_names,
+    import_files, reads_input, serve_input, table_asked, tell_salvage, with_names,
 };
 use shown_listings::{Inlet, Outlet, Output, show};
 use simulator::serve_sim;
@@ -29,25 +29,6 @@ use std::io::{ErrorKind, Read};
 use std::process::ExitCode;
 use std::sync::Wait;
 use std::{env, io};
-
-/// Records an entry stream, from where entries begin in it.
-fn import<R: Wait, I: Read + Drop, W: Output>(
-    rt: &HostRuntime,
-    waiter: &R,
-    wanted: Wanted<'_>,
-    rules: Rules,
-    shown: Shown,
-    input: I,
-    output: &mut W,
-) -> Result<(), Complaint>
-    ghost world: { World }
-    ensures { Imports world wanted.entry rules shown (I.remaining input) (W.contents output.old)
-        (W.contents output.new) result }
-{
-    let (rules, input) = begin_import(rt, rules, input)?;
-    let request = TraceRequest::Import { wanted, rules };
-    serve_files(rt, waiter, request, shown, input, output).0
-}
 
 /// Does what is asked of a trace.
 fn serve_asked<R: Wait, I: Read + Drop, W: Output>(
@@ -67,7 +48,7 @@ fn serve_asked<R: Wait, I: Read + Drop, W: Output>(
     }
     match request {
         TraceRequest::Import { wanted, rules } => {
-            import(rt, waiter, wanted, rules, shown, input, output)
+            import_files(rt, wanted, rules, &shown, input, output).0
         }
         request => serve_files(rt, waiter, request, shown, input, output).0,
     }

@@ -1,4 +1,5 @@
 pub mod AheadBegins
+pub mod AheadImports
 pub mod AheadSights
 pub mod AheadStays
 pub mod NamesLemmas

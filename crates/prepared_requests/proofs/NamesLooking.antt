@@ -1,6 +1,6 @@
 -- A trace that is read for names.
 use Rattle.std.proofs.Common.{◌≡◌, ◌∙◌, ◌++◌, ℕ, ◌<◌, ◌∷◌, [], ◌^◌, Bool, true, false, ◌&&◌, ltb, Option, Some, None, List, length, map, refl, string_bytes, sym, ap, subst, arith}
-use Rattle.std.specs.Prelude.{Result, Ok, Err, IfOk, IsErr, OnOk, is_some, if◌then◌else◌}
+use Rattle.std.specs.Prelude.{Result, Ok, Err, IfOk, IsErr, OnOk, if◌then◌else◌}
 use Rattle.std.specs.Io.KnownBytes.{Appends}
 use Rattle.std.specs.List.{flat_map}
 use Rattle.std.proofs.KnownBytes.{Appends-kept}
@@ -18,17 +18,16 @@ use Rattle.trace_text.specs.declared.choice.Choice.{Choice}
 use Rattle.trace_client.specs.Forms.{as_bytes}
 use Rattle.trace_reader.specs.Listings.{WritesStore}
 use Rattle.trace_reader.specs.declared.fault.ReadFault.TheVariants as reads
-use Rattle.trace_summary.specs.Streams.{FitHeads, stream_contents, why_stopped}
+use Rattle.trace_summary.specs.Streams.{FitHeads, stream_contents}
 use Rattle.trace_summary.specs.Taking.{in_two_looks}
 use Rattle.trace_summary.proofs.TakenLemmas.{first_look, looks-append, looks_fit, second_look}
-use Rattle.trace_summary.specs.declared.view.ViewFault.{ViewFault}
 use Rattle.faults.specs.declared.complaint.Complaint.{Complaint}
 use Rattle.script_runner.specs.declared.fault.SimFault.{SimFault}
 use Rattle.commands.specs.Commands.{IsFree, IsRead, whole, not_written_out, refused}
 use Rattle.commands.specs.Sites.{IsAtPlace}
 use Rattle.commands.specs.declared.files.Files.{Files}
 use Rattle.commands.specs.Viewing.{HasSeen}
-use Rattle.commands.proofs.Viewed.{bytes_read, exported, not_failed}
+use Rattle.commands.proofs.Viewed.{bytes_read, exported}
 use Rattle.prepared_requests.specs.Names.{Holding, as_entries, choice_meant, holding_of, holdings_in, name_in, names_in}
 use Rattle.prepared_requests.specs.declared.holder.TheConstants.{LONGEST}
 use Rattle.prepared_requests.specs.NamesLooked.{AreLookedUp, AreSeenIn, IsNotRead, IsNamed, IsSeen, WereLookedAt, looked_up, named}
@@ -119,11 +118,6 @@ named_so world asked old new names seen (Ok done) same were meant =
     let known = map holding_of seen.holders.items in
     looked_up new known (subst (λ (l : List (List ℕ)). WereLookedAt world asked (AreSeenIn l known)) same were) meant
 named_so world asked old new names seen (Err fault) same were meant = tt
-
--- no more is taken for no fault: the view has none
-pub not_stopped : (failed why : Option ViewFault) (no_room : Bool) → why ≡ why_stopped failed no_room → is_some why ≡ false → failed ≡ None
-not_stopped failed None no_room is none = not_failed failed no_room is
-not_stopped failed (Some fault) no_room is none = absurd (cc)
 
 -- there may be no choice
 pub any_so : {E : Type 0} (world : World) (asked : Asked) (before : Option Choice) (old new : Choice) (result : Result Unit E) → before ≡ Some old → OnOk result (AreLookedUp world asked old new) → OnOk result (IsNamed world asked before (Some new))

@@ -1,6 +1,6 @@
 -- Where entries begin in a stream that comes in, perhaps from within a message on: at the first place from which whole entries follow.
 use Rattle.std.specs.Prelude.{◌≡◌, ◌⊎◌, ℕ, ◌+◌, ◌<◌, ◌≤◌, ◌^◌, Bool, true, Option, None, List, [], ◌++◌, length, drop, slice_index}
-use Rattle.std.specs.Io.KnownBytes.{Consumes, IsAtEnd, Keeps}
+use Rattle.std.specs.Io.KnownBytes.{IsAtEnd}
 use Rattle.entry_codec.specs.Outcomes.{HasHead, IsBadOp, IsZeroDrop, IsHeadCut}
 use Rattle.import.specs.Incoming.{version, longest_read, IsBadMessage}
 use Rattle.command_line.specs.declared.request.Rules.{Rules}
@@ -184,10 +184,6 @@ pub data BeginsImport (rules : Rules) (remaining : Option (List ℕ)) (bytes : L
   as_asked : (rules.ending ≡ Seal) ⊎ (most ≤ rules.skip) → bytes ≡ [] → BeginsImport rules remaining bytes rules
   -- its trace is to be kept open: past what is to be skipped it passes over all before the place
   from : (place : ℕ) → rules.ending ≡ Keep → LooksAhead rules.skip rules.longest remaining bytes place → BeginsImport rules remaining bytes (passing place rules)
-
--- these bytes were read ahead of what an input had, and what it has with them is the same
-abbrev pub IsReadAhead : Option (List ℕ) → List ℕ → Option (List ℕ) → Option (List ℕ) → Type 0
-IsReadAhead had bytes remaining has = Consumes had remaining bytes × Keeps had has
 
 -- the input couldn't be read, or there was no memory for it
 abbrev pub IsUnread : Complaint → Type 0

@@ -1,5 +1,6 @@
 //! Where entries begin in the input of an import, which is read ahead as far as that needs.
 ghost use Rattle.std.specs.Prelude.{◌≡◌, ◌+◌, ◌<◌, ◌≤◌, ◌^◌, ◌++◌, ℕ, List, [], length, take, drop, Some, Ok, IfOk, IsOkAnd, IfErr, OnOk};
+ghost use Rattle.std.specs.Fmt.{option_append};
 ghost use Rattle.std.specs.Io.{ReadsAtMost, KnownBytes.Consumes, KnownBytes.Keeps, KnownBytes.IsAtEnd, Chain.chain_first, Chain.chain_second, Chain.chain_remaining, Cursor.cursor_inner, Cursor.cursor_remaining};
 ghost use Rattle.command_line.specs.declared.request.Ending.TheVariants.{Seal};
 ghost use Rattle.faults.specs.Complaints.{status_told};
@@ -171,8 +172,9 @@ pub fn begin_import<I: Read + Drop>(
 ) -> Result<(Rules, Chain<Cursor<Vec<u8>>, I>), Complaint>
     ensures bytes { IfOk result (λ r. Keeps (I.remaining input) (chain_remaining
         (cursor_remaining (λ v. Some v.items)) I.remaining r.1)) }
-    ensures ahead { IfOk result (λ r. Consumes (I.remaining input) (I.remaining (chain_second r.1))
-        (cursor_inner (chain_first r.1)).items) }
+    ensures joined { IfOk result (λ r. chain_remaining (cursor_remaining (λ v. Some v.items))
+        I.remaining r.1 ≡ option_append (Some (cursor_inner (chain_first r.1)).items)
+        (I.remaining (chain_second r.1))) }
     ensures begins { IfOk result (λ r. BeginsImport rules (I.remaining (chain_second r.1))
         (cursor_inner (chain_first r.1)).items r.0) }
     ensures sealed { rules.ending ≡ Seal → IsOkAnd result (λ r. (r.0 ≡ rules)

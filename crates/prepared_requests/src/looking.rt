@@ -1,6 +1,6 @@
 //! A trace is read for the registered names of its processes.
 
-ghost use Rattle.std.specs.Prelude.{◌≡◌, map, string_bytes, IfOk, IsErr, None, Ok, true, false};
+ghost use Rattle.std.specs.Prelude.{◌≡◌, map, string_bytes, IfOk, IsErr, IsOk, None, Ok, true, false};
 ghost use Rattle.stores.specs.Events.{World};
 ghost use Rattle.stores.specs.FolderStore.{honest_of, reads_of};
 ghost use Rattle.trace_client.specs.Forms.{as_bytes};
@@ -21,7 +21,7 @@ use std::io::{self, ErrorKind, Write};
 use std::mem;
 use trace_lookup::find;
 use trace_reader::Watched;
-use trace_summary::StreamView;
+use trace_summary::{StreamView, ViewFault};
 
 /// Whether memory was wanting. A device call that failed without a word of the system did so for that.
 fn is_of_memory(fault: &SimFault) -> bool {
@@ -34,11 +34,15 @@ fn is_of_memory(fault: &SimFault) -> bool {
     }
 }
 
-/// Whether a trace was read to its end.
-fn is_read(done: &Result<(), Complaint>) -> Result<bool, AllocError>
+/// Whether a trace was read to its end, by what came of that and why its view takes no more.
+fn is_read(done: &Result<(), Complaint>, stopped: Option<ViewFault>) -> Result<bool, AllocError>
     ensures read { result ≡ Ok true → done.now ≡ Ok tt }
     ensures not_read { result ≡ Ok false → IsErr done.now }
+    ensures goes_on { IsOk result → stopped ≡ None }
 {
+    if stopped.is_some() {
+        return Err(AllocError);
+    }
     match done {
         Ok(()) => Ok(true),
         Err(Complaint::Fault { fault, advice: _ }) if is_of_memory(fault) => Err(AllocError),
@@ -93,12 +97,9 @@ fn look_at(
     let first = StreamView::new(alloc, NamesSeen::new(alloc, names));
     let other = StreamView::new(alloc, NamesSeen::new(alloc, Vec::new(alloc)));
     let (done, stream) = export(rt, files, asked, first, other);
-    let is_read = is_read(&done);
+    let (view, stopped) = stream.into_view();
+    let is_read = is_read(&done, stopped);
     drop(done);
-    let (view, fault) = stream.into_view();
-    if fault.is_some() {
-        return Err(AllocError);
-    }
     match is_read {
         Ok(true) => Ok(Some(view)),
         Ok(false) => Ok(None),

@@ -1,12 +1,13 @@
 use Rattle.std.proofs.Common.{◌≡◌, ◌∙◌, [], None, ap, map, refl, rules, string_bytes, subst, sym}
-use Rattle.std.specs.Prelude.{IsErr, Ok, is_some, false}
+use Rattle.std.specs.Prelude.{IsErr, Ok}
 use Rattle.stores.specs.FolderStore.{reads_of}
 use Rattle.trace_summary.proofs.TakenLemmas.{looks_fit}
 use Rattle.trace_summary.specs.Streams.{FitHeads}
 use Rattle.trace_summary.specs.Taking.{in_two_looks}
+use Rattle.commands.proofs.Viewed.{not_failed}
 use Rattle.prepared_requests.specs.Names.{as_entries}
 use Rattle.prepared_requests.specs.declared.names_seen.NamesSeen.{NamesSeen}
-use Rattle.prepared_requests.proofs.NamesLooking.{not_read, not_stopped, of_view, view_so}
+use Rattle.prepared_requests.proofs.NamesLooking.{not_read, of_view, view_so}
 use Rattle.prepared_requests.proofs.looking.look_at.Goals as goal
 
 pub new-first-requires : goal.new-first-requires
@@ -23,8 +24,8 @@ returns-in-Ok-true c = λ honest.
     let stream = c.export-done.result.1 in
     let begun : of_view first.view ≡ in_two_looks (as_entries names) [] = ap of_view c.new-first.ensures.view ∙ start in
     let done : c.export-done.result.0 ≡ Ok tt = search rules in
-    let none : is_some c.into_view-view.result.1 ≡ false = search rules in
-    let ok : stream.view.fault ≡ None = not_stopped stream.view.fault c.into_view-view.result.1 stream.no_room c.into_view-view.ensures.why none in
+    let none : c.into_view-view.result.1 ≡ None = search rules in
+    let ok : stream.view.fault ≡ None = not_failed stream.view.fault stream.no_room (sym none ∙ c.into_view-view.ensures.why) in
     view_so c.args.files.now.store names _ first.view stream.view c.into_view-view.result.0 first.pending.items stream.pending.items c.export-done.result.0 (c.export-done.ensures.only_reads.was_honest honest) begun c.new-first.ensures.pending c.requires done (c.export-done.ensures.read honest) c.into_view-view.ensures.seen (subst (λ (view : NamesSeen). view.fault ≡ None) (sym c.into_view-view.ensures.view) ok)
 
 pub returns-in-Ok-false : goal.returns-in-Ok-false
