@@ -1,13 +1,14 @@
 //! Records traces as `dbg` of Erlang does, and lists what a crash has left of them.
 //!
 //! The program hands each request of its command line to the crate that does it, and ends with an exit status. `serve` does what
-//! a request asks (`IsServed`), of the processes that had the names in it (`IsPrepared`): with the files of a trace (`ServesFiles`,
-//! `ListsFiles`, `FollowsFiles`), a stream in their place (`ServesInput`) or one that is imported (`ImportsFiles`), with a stream of
-//! entries as a node writes it (`ListsStream`), or with a script over a store in memory (`IsRun`). `run` does so for what the words
-//! ask, or tells that they are no command line (`Answers`). The exit status of `serve_words` is that of what was done, or of such
-//! words, or 1 where there was no memory to ask (`Ends`). These contracts speak of some files, input and words: that they are the
-//! program's own is to be read in the code. Which words ask for what has no contract (`asked_for`), nor has `main`, which takes
-//! the system's words, input and output. docs/PROOFS.md has the way from each command to its clauses.
+//! a request asks (`IsServed`), of the processes that had the names in it (`IsPrepared`): with the files of a trace
+//! (`ServesFiles`, `ListsFiles`, `FollowsFiles`), a stream in their place (`ServesInput`) or one that is imported
+//! (`ImportsFiles`), with a stream of entries as a node writes it (`ListsStream`), or with a script over a store in memory
+//! (`IsRun`). `run` does so for what the words ask, or tells that they are no command line (`Answers`). The exit status of
+//! `serve_words` is that of what was done, or of such words, or 1 where there was no memory to ask (`Ends`). These contracts
+//! speak of some files, input and words: that they are the program's own is to be read in the code. Which words ask for what has
+//! no contract (`asked_for`), nor has `main`, which takes the system's words, input and output. docs/PROOFS.md has the way from
+//! each command to its clauses.
 #![tactic(auto)]
 
 ghost use Rattle.std.specs.Prelude.{◌≡◌, Result};

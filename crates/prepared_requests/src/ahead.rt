@@ -163,8 +163,8 @@ fn tell_passed(rt: &impl Eprint, count: u64) {
     };
 }
 
-/// Begins an import: where its trace is to be kept open, its input is read ahead until it is known where in it entries begin. The
-/// rules pass over what stands before that, and what was read ahead stands before the rest of the input.
+/// Begins an import: where its trace is to be kept open, its input is read ahead until it is known where in it entries begin.
+/// The rules pass over what stands before that, and what was read ahead stands before the rest of the input.
 pub fn begin_import<I: Read + Drop>(
     rt: &HostRuntime,
     rules: Rules,

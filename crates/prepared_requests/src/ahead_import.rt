@@ -40,8 +40,8 @@ fn do_over<I: Read + Drop, W: Output>(
     (done, observed)
 }
 
-/// Imports into the files of a trace, and hands these on, where they could be had. Where the trace is to be kept open, what stands
-/// before the first entry of the input is passed over.
+/// Imports into the files of a trace, and hands these on, where they could be had. Where the trace is to be kept open, what
+/// stands before the first entry of the input is passed over.
 pub fn import_files<'a, I: Read + Drop, W: Output>(
     rt: &HostRuntime,
     wanted: Wanted<'a>,
