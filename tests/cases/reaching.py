@@ -48,6 +48,8 @@ STORES = {
     ("commands/src/sites.rt", "files_to_read"): ["Files::at"],
     ("commands/src/sites.rt", "files_to_wipe"): ["Files::locked_at"],
     ("commands/src/sites.rt", "files_to_write"): ["Files::locked_at"],
+    ("prepared_requests/src/ahead_import.rt", "import_files"): ["files_for"],
+    ("prepared_requests/src/looking.rt", "see_names"): ["Files::at"],
     ("stores/src/named_files.rt", "marks_failures_at"): ["FailureMark::new"],
     ("trace_lookup/src/lookup.rt", "header_in"): ["FolderStore::over"],
 }
@@ -71,7 +73,7 @@ LOOKS = {
 # the modules whose functions may be handed the runtime: none of those that read or change a trace
 RUNTIME = {
     "dbgrec": ["main"],
-    "prepared_requests": ["input", "input_folder"],
+    "prepared_requests": ["advice", "ahead", "ahead_import", "input", "input_folder", "looking", "names"],
     "commands": ["awaiting", "crowded", "files", "serving", "sites", "state", "streaming", "unshown"],
     "shown_listings": ["console", "counted", "inlet", "inventory", "listing", "outlet", "screen", "zone"],
     "stores": ["failure_mark", "folder", "folder_store", "named_file", "named_files"],
