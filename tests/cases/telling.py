@@ -114,9 +114,10 @@ def missing_from(program, base, name, what):
     for command in ("list", "export"):
         outcome = program.run(command, base)
         same((outcome.status, outcome.errors), (1, f"dbgrec: refused 3 Sequence\n{second}\n".encode()))
-    for command in ("info", "top"):
+    counted = f"dbgrec export --salvage {base} | dbgrec top - counts what its files hold\n"
+    for command, more in (("info", ""), ("top", counted)):
         outcome = program.run(command, base)
-        same((outcome.status, outcome.errors), (1, f"dbgrec: refused 3 Sequence\n{second}\n".encode()))
+        same((outcome.status, outcome.errors), (1, f"dbgrec: refused 3 Sequence\n{second}\n{more}".encode()))
     for command in ("import", "record"):
         program.refused(command, base, stdin=drop(1), says=f"dbgrec: refused 5 Recover 3 Sequence\n{second}")
 
