@@ -153,8 +153,9 @@ def names_that_are_looked_up_without_memory_are_told(program):
         kept = Kept(program, kind[-1])
         registered = [told_at(number, "register", short_atom("worker")) for number in (2, 3, 2)]
         kept.program.good("import", "t", *kind, stdin=b"".join([*registered, sends(1), sends(2)]))
-        for words in (("export", "t", "--pid", "worker"), ("list", "t", "--pid", "worker", "--not-pid", "nobody")):
-            kept.reads(*words)
+        kept.reads("export", "t", "--pid", "worker")
+        nobody = b"dbgrec: t: no register message names nobody: trace with the flag procs to have those\n"
+        kept.reads("list", "t", "--pid", "worker", "--not-pid", "nobody", note=nobody)
 
 
 @case
@@ -200,11 +201,13 @@ def a_stream_that_is_recorded_first_leaves_no_folder_where_memory_is_refused(pro
     room = program.folder / "room"
     room.mkdir()
     kept = Kept(program)
+    # what the recording tells is written into memory; of two faults the first is told
+    others = (b"dbgrec: refused 2 Write\n", b"dbgrec: refused 3 Truncated at 0\n")
     with unittest.mock.patch.dict(os.environ, TMPDIR=str(room)):
         for words in (("export", "-"), ("export", "-", "--as", "folded"), ("export", "-", "--as", "perfetto"), ("info", "-"), ("top", "-", "--json")):
-            kept.reads(*words, stdin=b"".join([*ENTRIES[:6], call(1, "f", 10), returns(1, "f", 20)]))
-        kept.reads("top", "-")
-        kept.reads("info", "-", stdin=ENTRIES[0][:-1])
+            kept.reads(*words, stdin=b"".join([*ENTRIES[:6], call(1, "f", 10), returns(1, "f", 20)]), others=others)
+        kept.reads("top", "-", note=b"dbgrec: nothing came\n", others=others)
+        kept.reads("info", "-", stdin=ENTRIES[0][:-1], others=others)
     same(list(room.iterdir()), [])
 
 

@@ -149,8 +149,9 @@ class Kept:
         for name, data in stored(self.program.folder).items():
             (folder / name).write_bytes(data)
 
-    def reads(self, *words, stdin=b""):
-        """Checks a command that changes no file: it writes a beginning of what it writes with memory enough."""
+    def reads(self, *words, stdin=b"", note=b"", others=()):
+        """Checks a command that changes no file: it writes a beginning of what it writes with memory enough. It may tell a note
+        first, and other faults in the place of want of memory."""
         before = stored(self.program.folder)
         whole = self.program.run(*words, stdin=stdin)
         same(stored(self.program.folder), before)
@@ -160,7 +161,11 @@ class Kept:
             outcome = refused.short(*words, stdin=stdin)
             same(stored(refused.folder), before)
             if outcome != whole:
-                tells_no_memory(outcome)
+                outcome.errors = outcome.errors.removeprefix(note)
+                if outcome.errors in others:
+                    same(outcome.status, 1)
+                else:
+                    tells_no_memory(outcome)
                 assert whole.output.startswith(outcome.output), outcome
 
         return each_refusal(self.case, check, what=" ".join(words))
