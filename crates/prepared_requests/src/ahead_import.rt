@@ -60,7 +60,10 @@ pub fn import_files<'a, I: Read + Drop, W: Output>(
     };
     let (rules, input) = match begin_import(rt, rules, input) {
         Ok(begun) => begun,
-        Err(complaint) => return (Err(complaint), None),
+        Err(complaint) => {
+            let observed = Observed::new();
+            return (Err(complaint), Some(Served { files, observed }));
+        }
     };
     let request = TraceRequest::Import { wanted, rules };
     let console = console_for(rt, &request);

@@ -2,15 +2,15 @@ use Rattle.std.proofs.KnownBytes.{Keeps-refl}
 use Rattle.std.specs.Io.Chain.{chain_first, chain_second}
 use Rattle.std.specs.Io.Cursor.{cursor_inner}
 use Rattle.commands.specs.declared.serving.Served.{Served}
-use Rattle.prepared_requests.specs.AheadImport.{not_begun}
+use Rattle.prepared_requests.specs.AheadImport.{no_files, unread}
 use Rattle.prepared_requests.proofs.AheadImports.{imported_by}
 use Rattle.prepared_requests.proofs.ahead_import.import_files.Goals as goal
 
 pub returns-in-Err : goal.returns-in-Err
-returns-in-Err g c = not_begun _ c.in-Err.ensures.refused (Keeps-refl _)
+returns-in-Err g c = no_files _ c.in-Err.ensures.refused (Keeps-refl _)
 
 pub returns-in-Err-begin_import : goal.returns-in-Err-begin_import
-returns-in-Err-begin_import g c = not_begun _ c.in-Err-begin_import.ensures.refused (Keeps-refl _)
+returns-in-Err-begin_import g c = unread _ _ c.in-Ok.ensures.made c.in-Err-begin_import.ensures.unread (Keeps-refl _)
 
 pub returns : goal.returns
 returns g c =
