@@ -15,6 +15,10 @@ use Rattle.trace_reader.specs.Listings.{TellsFailures, WritesStore}
 use Rattle.trace_reader.specs.Reading.{IsWhyNotRead}
 use Rattle.trace_reader.specs.WritesOut.{WritesTrace}
 use Rattle.trace_reader.specs.declared.fault.ReadFault.{ReadFault}
+use Rattle.trace_reader.specs.declared.fault.ReadFault.TheVariants as faults
+use Rattle.recovery.specs.declared.fault.RecoverFault.TheVariants as causes
+use Rattle.trace_reader.specs.Openings.{IsOfOpening}
+use Rattle.trace_reader.proofs.Looking.{nothing_written}
 use Rattle.trace_reader.specs.Windows.{IsWrittenInTurn}
 use Rattle.commands.specs.Files.{OnlyLooks}
 use Rattle.commands.specs.Live.{OpensInTurn}
@@ -95,3 +99,15 @@ trace_same honest form image now old new count result same out = record {
   why_not = λ h. subst (λ (i : Image). IfErr result (λ fault. IsWhyNotRead fault i)) (same h) (out.why_not h);
   written = λ h. subst (λ (i : Image). IfErr result (λ fault. IsWrittenInTurn form fault i old new count)) (same h) (out.written h);
 }
+
+-- where files couldn't be opened, nothing is written
+pub opening_left : (form : Form) (fault : ReadFault) (image : Image) (out : Option (List ℕ)) (count : ℕ) → IsOfOpening fault → count ≡ 0 → IsWrittenInTurn form fault image out out count
+opening_left form (faults.Refused causes.NoMemory) image out count is none = inl (nothing_written form (faults.Refused causes.NoMemory) image out count none tt)
+opening_left form (faults.Refused causes.Device) image out count is none = inl (nothing_written form (faults.Refused causes.Device) image out count none is)
+opening_left form (faults.Refused (causes.Damaged file place)) image out count is none = absurd is
+opening_left form (faults.Refused causes.Mixed) image out count is none = absurd is
+opening_left form (faults.Refused causes.Sequence) image out count is none = absurd is
+opening_left form faults.Write image out count is none = absurd is
+opening_left form faults.NoMemory image out count is none = absurd is
+opening_left form (faults.Foreign file is_stream) image out count is none = inl (nothing_written form (faults.Foreign file is_stream) image out count none is)
+opening_left form faults.Absent image out count is none = inl (nothing_written form faults.Absent image out count none is)

@@ -2,10 +2,9 @@ use Rattle.std.proofs.Common.{◌≤◌, ◌+◌, inr, subst, rules, arith}
 use Rattle.trace_store.specs.Disk.{Image}
 use Rattle.stores.specs.FolderStore.{reads_of, clock_of}
 use Rattle.trace_reader.specs.WritesOut.{form_of}
-use Rattle.trace_reader.proofs.Windowing.{opening_left}
 use Rattle.trace_reader.specs.Windows.{IsWrittenInTurn}
 use Rattle.commands.specs.Live.{most_opened}
-use Rattle.commands.proofs.Readings.{looks_both, failures_both, trace_same}
+use Rattle.commands.proofs.Readings.{looks_both, failures_both, trace_same, opening_left}
 use Rattle.commands.proofs.live.write_live.Goals as goal
 
 pub returns-in-Ok-clause-writes : goal.returns-in-Ok-clause-writes
@@ -35,5 +34,5 @@ returns-in-Err-clause-writes g c = record {
   why_not = λ h. c.in-Err.ensures.why_not h;
   written = λ h.
       subst (λ w. IsWrittenInTurn (form_of c.args.output_form) c.in-Err.fault (reads_of c.args.files.now.store) (g.W.Write.contents c.args.watched.now.writer.now) (g.W.Write.contents w) c.begin.new.self.entries) (search rules)
-      (opening_left (form_of c.args.output_form) c.in-Err.fault (reads_of c.args.files.now.store) (g.W.Write.contents c.args.watched.now.writer.now) c.begin.new.self.entries c.in-Err.ensures.fault c.requires.several c.begin.ensures.none);
+      (opening_left (form_of c.args.output_form) c.in-Err.fault (reads_of c.args.files.now.store) (g.W.Write.contents c.args.watched.now.writer.now) c.begin.new.self.entries c.in-Err.ensures.fault c.begin.ensures.none);
 }
