@@ -11,7 +11,7 @@ use faults::{Complaint, fault_of_reading};
 use script_runner::SimFault;
 use std::alloc::{AllocError, Global};
 use std::io::{self, Write};
-use trace_reader::{Host, ReadFault, TraceSummary, Watched};
+use trace_reader::{Host, ReadFault, TraceSummary, Watched, sum_up_trace};
 use trace_summary::Info;
 
 /// How often a trace that isn't whole is read again at most, while another process writes it.
@@ -40,7 +40,7 @@ fn look_once(files: &mut Files<'_>) -> Result<Info, ReadFault>
         (most_to_sum (reads_of files.old.store)) (IsGathered (reads_of files.old.store) result) }
     ensures place { files.new.place ≡ files.old.place }
 {
-    let summary = files.sum_up()?;
+    let summary = sum_up_trace(files.alloc(), &mut files.store)?;
     match gathered(files, summary) {
         Ok(info) => Ok(info),
         Err(_) => Err(ReadFault::NoMemory),

@@ -7,6 +7,7 @@ ghost use Rattle.trace_client.specs.Forms.{Form as Written};
 ghost use Rattle.trace_reader.specs.WritesOut.{form_of};
 ghost use Rattle.commands.specs.{Files.LooksOver, Commands.IsWrittenAs, Naming.IsToldAt, Salvaging.most_to_salvage, Salvaging.TellsSum, Salvaging.IsSalvage, Telling.IsOfMemory};
 
+use crate::absence::is_absent;
 use crate::commands::{chosen, style, written_out};
 use crate::files::Files;
 use crate::informing::told;
@@ -68,13 +69,18 @@ pub fn salvage<W: Write, H: Host>(
     ensures never { IsErr result }
     ensures status { IfErr result (λ complaint. status_told complaint ≡ 1) }
 {
-    let done = files.salvage(output_form(form, shown), watched);
+    let done = trace_reader::salvage(
+        files.alloc(),
+        output_form(form, shown),
+        &mut files.store,
+        watched,
+    );
     let flushed = watched.flush();
     watched.host.clear();
     match done {
         Ok(salvaged) => match written_out(flushed) {
             Ok(()) => {
-                if files.is_absent(salvaged.files) {
+                if is_absent(&mut files.store, salvaged.files) {
                     Err(told(files, ReadFault::Absent, Stage::Other))
                 } else {
                     Err(summary_at_least(files, &salvaged, watched.shown()))

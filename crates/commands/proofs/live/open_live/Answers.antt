@@ -30,13 +30,14 @@ returns-then-not-is_to_repeat-clause-at_most c = λ h.
     let read = c.open_trace-opened.ensures in
     let s0 = c.args.files.now.store in
     let s1 = c.openings.files.store in
-    let s2 = c.open_trace-opened.new.self.store in
+    let s2 = c.open_trace-opened.new.store in
     let h1 = read.device.only_reads.was_honest h in
     let same = same_behind s0 s1 inv.only_reads h1 in
-    openings_at_most (clock_of s0) (clock_of s1) (clock_of s2) c.openings.made (most_to_open (reads_of s0)) inv.few (inv.calls h1) (subst (λ (image : Image). clock_of s2 ≤ clock_of s1 + most_to_open image) same (read.device.at_most h))
+    let made : clock_of s2 ≤ clock_of s1 + most_to_open (reads_of s1) = omega (arith, read.device.at_most h) in
+    openings_at_most (clock_of s0) (clock_of s1) (clock_of s2) c.openings.made (most_to_open (reads_of s0)) inv.few (inv.calls h1) (subst (λ (image : Image). clock_of s2 ≤ clock_of s1 + most_to_open image) same made)
 
 pub returns-then-not-is_to_repeat-clause-only_reads : goal.returns-then-not-is_to_repeat-clause-only_reads
-returns-then-not-is_to_repeat-clause-only_reads c = looks_both c.args.files.now.store c.openings.files.store c.open_trace-opened.new.self.store c.openings.invariant.only_reads c.open_trace-opened.ensures.device.only_reads
+returns-then-not-is_to_repeat-clause-only_reads c = looks_both c.args.files.now.store c.openings.files.store c.open_trace-opened.new.store c.openings.invariant.only_reads c.open_trace-opened.ensures.device.only_reads
 
 pub returns-then-not-is_to_repeat-clause-in_turn : goal.returns-then-not-is_to_repeat-clause-in_turn
 returns-then-not-is_to_repeat-clause-in_turn c = record {
@@ -44,7 +45,7 @@ returns-then-not-is_to_repeat-clause-in_turn c = record {
   few = c.openings.invariant.few;
   mid = c.openings.files.store;
   openings = c.openings.invariant.openings;
-  last = opened_tells (failures_of c.openings.files.store) (failures_of c.open_trace-opened.new.self.store) c.open_trace-opened.result c.open_trace-opened.ensures.device.no_failure c.open_trace-opened.ensures.device.failures;
+  last = opened_tells (failures_of c.openings.files.store) (failures_of c.open_trace-opened.new.store) c.open_trace-opened.result c.open_trace-opened.ensures.device.no_failure c.open_trace-opened.ensures.device.failures;
 }
 
 pub openings-preserved : goal.openings-preserved
@@ -53,14 +54,14 @@ openings-preserved c =
     let read = c.open_trace-opened.ensures in
     let s0 = c.args.files.now.store in
     let s1 = c.openings.files.store in
-    let s2 = c.open_trace-opened.new.self.store in
+    let s2 = c.open_trace-opened.new.store in
     let s3 = c.reopen.new.self.store in
     let anew = c.reopen.ensures.same in
     let torn : MayBeTorn c.open_trace-opened.result = search rules in
     let few : c.openings.made < 31 = search rules in
     record {
       few = omega arith;
-      place = c.reopen.ensures.place ∙ (c.open_trace-opened.ensures.place ∙ inv.place);
+      place = c.reopen.ensures.place ∙ inv.place;
       only_reads = inr (looks_same s0 s2 s3 (looks_both s0 s1 s2 inv.only_reads read.device.only_reads) anew c.reopen.ensures.closed);
       openings = more c.openings.made s1 s2 s3 c.open_trace-opened.result inv.openings torn
           (opened_tells (failures_of s1) (failures_of s2) c.open_trace-opened.result read.device.no_failure read.device.failures) anew c.reopen.ensures.closed;
@@ -68,6 +69,7 @@ openings-preserved c =
           let h2 : honest_of s2 = subst IsHonest anew.past h in
           let h1 = read.device.only_reads.was_honest h2 in
           let same = same_behind s0 s1 inv.only_reads h1 in
+          let made : clock_of s2 ≤ clock_of s1 + most_to_open (reads_of s1) = omega (arith, read.device.at_most h2) in
           subst (λ (n : ℕ). n ≤ clock_of s0 + (c.openings.made + 1) * most_to_open (reads_of s0)) (sym anew.clock)
-          (one_more (clock_of s0) (clock_of s1) (clock_of s2) c.openings.made (c.openings.made + 1) (most_to_open (reads_of s0)) (omega arith) (inv.calls h1) (subst (λ (image : Image). clock_of s2 ≤ clock_of s1 + most_to_open image) same (read.device.at_most h2)));
+          (one_more (clock_of s0) (clock_of s1) (clock_of s2) c.openings.made (c.openings.made + 1) (most_to_open (reads_of s0)) (omega arith) (inv.calls h1) (subst (λ (image : Image). clock_of s2 ≤ clock_of s1 + most_to_open image) same made));
     }

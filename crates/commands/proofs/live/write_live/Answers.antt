@@ -22,10 +22,11 @@ returns-in-Ok-clause-at_most g c = λ h.
     let e = c.write_opened.ensures in
     let h1 = e.device.only_reads.was_honest h in
     let same = c.in-Ok.ensures.only_reads.same_reads h1 in
-    omega (arith, c.in-Ok.ensures.at_most h1, subst (λ (image : Image). clock_of c.write_opened.new.self.store ≤ clock_of c.open_live.new.files.store + most_opened image) same (e.device.at_most h))
+    let made : clock_of c.write_opened.new.store ≤ clock_of c.open_live.new.files.store + most_opened (reads_of c.open_live.new.files.store) = omega (arith, e.device.at_most h) in
+    omega (arith, c.in-Ok.ensures.at_most h1, subst (λ (image : Image). clock_of c.write_opened.new.store ≤ clock_of c.open_live.new.files.store + most_opened image) same made)
 
 pub returns-in-Ok-clause-only_reads : goal.returns-in-Ok-clause-only_reads
-returns-in-Ok-clause-only_reads g c = looks_both c.args.files.now.store c.open_live.new.files.store c.write_opened.new.self.store (inr c.in-Ok.ensures.only_reads) c.write_opened.ensures.device.only_reads
+returns-in-Ok-clause-only_reads g c = looks_both c.args.files.now.store c.open_live.new.files.store c.write_opened.new.store (inr c.in-Ok.ensures.only_reads) c.write_opened.ensures.device.only_reads
 
 pub returns-in-Err-clause-writes : goal.returns-in-Err-clause-writes
 returns-in-Err-clause-writes g c = record {
