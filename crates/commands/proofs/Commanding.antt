@@ -8,7 +8,7 @@ use Rattle.trace_client.specs.Forms.{Form}
 use Rattle.trace_client.specs.Output.{AppendsPrefix}
 use Rattle.foreign_files.specs.Standing.{IsStanding}
 use Rattle.foreign_files.specs.declared.standing.Standing.TheVariants as standings
-use Rattle.trace_reader.specs.Listings.{WritesStore}
+use Rattle.trace_listings.specs.Listings.{WritesStore}
 use Rattle.trace_reader.specs.declared.wiping.Clearing.{Clearing}
 use Rattle.commands.specs.Commands.{IsRead, whole, not_written_out, IsCleared, IsOfMark, Clears, done, not_told}
 use Rattle.script_runner.specs.declared.fault.SimFault.{SimFault}

@@ -19,7 +19,7 @@ use Rattle.recovery.proofs.Steps.{reading-at}
 use Rattle.trace_text.specs.Choosing.{Asks}
 use Rattle.trace_client.specs.Forms.{AreTexts, IsWindow, as_bytes, is_whole_chosen, longest_message, no_text, one_text, streamed}
 use Rattle.trace_summary.specs.Streams.{FitsHead, FitHeads}
-use Rattle.trace_reader.specs.Listings.{WritesStore, blank, holds as held}
+use Rattle.trace_listings.specs.Listings.{WritesStore, blank, holds as held}
 
 -- ---- what a store holds is lawful
 

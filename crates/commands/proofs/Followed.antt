@@ -5,11 +5,11 @@ use Rattle.stores.specs.FolderStore.{past_of, honest_of, reads_of}
 use Rattle.stores.specs.declared.folder_store.FolderStore.{FolderStore}
 use Rattle.trace_reader.specs.declared.fault.ReadFault.{ReadFault}
 use Rattle.trace_reader.specs.declared.fault.ReadFault.TheVariants as faults
-use Rattle.trace_reader.specs.Looks.{HasLooked, IsWhyGone, IsWhyStopped}
-use Rattle.trace_reader.specs.Sections.{HasTold, IsLookStopped, HasEnded, HasPartlyEnded}
-use Rattle.trace_reader.specs.declared.follower.Follower.{Follower}
-use Rattle.trace_reader.specs.declared.place.Look.{Look}
-use Rattle.trace_reader.specs.declared.place.Look.TheVariants as looks
+use Rattle.trace_listings.specs.Looks.{HasLooked, IsWhyGone, IsWhyStopped}
+use Rattle.trace_listings.specs.Sections.{HasTold, IsLookStopped, HasEnded, HasPartlyEnded}
+use Rattle.trace_listings.specs.declared.follower.Follower.{Follower}
+use Rattle.trace_listings.specs.declared.place.Look.{Look}
+use Rattle.trace_listings.specs.declared.place.Look.TheVariants as looks
 use Rattle.faults.specs.declared.complaint.Complaint.{Complaint}
 use Rattle.trace_lookup.specs.declared.place.Place.{Place}
 use Rattle.commands.specs.Files.{OnlyLooks}

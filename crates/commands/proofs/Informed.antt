@@ -15,7 +15,7 @@ use Rattle.recovery.specs.declared.fault.RecoverFault.{RecoverFault}
 use Rattle.recovery.specs.declared.outlined.Outlined.{Outlined}
 use Rattle.foreign_files.specs.Standing.{IsStanding}
 use Rattle.foreign_files.specs.declared.standing.Standing.TheVariants as standings
-use Rattle.trace_reader.specs.Summaries.{IsOfContents, IsJudged}
+use Rattle.trace_summary.specs.Summaries.{IsOfContents, IsJudged}
 use Rattle.trace_reader.specs.declared.fault.ReadFault.TheVariants as faults
 use Rattle.faults.specs.Faults.{read_fault}
 use Rattle.faults.specs.declared.complaint.Complaint.{Complaint}

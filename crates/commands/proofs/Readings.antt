@@ -11,15 +11,16 @@ use Rattle.segment.proofs.Taking.{reads_both}
 use Rattle.trace_client.specs.Forms.{Form}
 use Rattle.foreign_files.specs.Standing.{IsStanding}
 use Rattle.foreign_files.specs.declared.standing.Standing.TheVariants as standings
-use Rattle.trace_reader.specs.Listings.{TellsFailures, WritesStore}
+use Rattle.trace_reader.specs.Listings.{TellsFailures}
+use Rattle.trace_listings.specs.Listings.{WritesStore}
 use Rattle.trace_reader.specs.Reading.{IsWhyNotRead}
-use Rattle.trace_reader.specs.WritesOut.{WritesTrace}
+use Rattle.trace_listings.specs.WritesOut.{WritesTrace}
 use Rattle.trace_reader.specs.declared.fault.ReadFault.{ReadFault}
 use Rattle.trace_reader.specs.declared.fault.ReadFault.TheVariants as faults
 use Rattle.recovery.specs.declared.fault.RecoverFault.TheVariants as causes
 use Rattle.trace_reader.specs.Openings.{IsOfOpening}
-use Rattle.trace_reader.proofs.Looking.{nothing_written}
-use Rattle.trace_reader.specs.Windows.{IsWrittenInTurn}
+use Rattle.trace_listings.proofs.Looking.{nothing_written}
+use Rattle.trace_listings.specs.Windows.{IsWrittenInTurn}
 use Rattle.commands.specs.Files.{OnlyLooks}
 use Rattle.commands.specs.Live.{OpensInTurn}
 

@@ -10,8 +10,8 @@ use Rattle.stores.specs.declared.folder_store.FolderStore.{FolderStore}
 use Rattle.foreign_files.specs.Standing.{IsStanding}
 use Rattle.foreign_files.specs.declared.standing.Standing.TheVariants as standings
 use Rattle.commands.specs.Files.{OnlyLooks}
-use Rattle.trace_reader.specs.Salvage.{IsSalvaged, IsSalvageBegun, IsLeftOf}
-use Rattle.trace_reader.specs.declared.salvaging.Salvaged.{Salvaged}
+use Rattle.trace_listings.specs.Salvage.{IsSalvaged, IsSalvageBegun, IsLeftOf}
+use Rattle.trace_listings.specs.declared.salvaging.Salvaged.{Salvaged}
 use Rattle.faults.specs.Faults.{read_fault}
 use Rattle.faults.specs.declared.complaint.Complaint.{Complaint}
 use Rattle.script_runner.specs.declared.fault.SimFault.{SimFault}

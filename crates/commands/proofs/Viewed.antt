@@ -31,7 +31,7 @@ use Rattle.trace_summary.specs.declared.stacks.Stacks.{Stacks}
 use Rattle.trace_summary.specs.declared.tallies.Tallies.{Tallies}
 use Rattle.trace_summary.specs.declared.view.ViewFault.{ViewFault}
 use Rattle.trace_summary.specs.declared.view.ViewFault.TheVariants as views
-use Rattle.trace_reader.specs.Listings.{WritesStore}
+use Rattle.trace_listings.specs.Listings.{WritesStore}
 use Rattle.trace_reader.specs.Reading.{IsWhyNotRead}
 use Rattle.faults.specs.declared.complaint.Complaint.{Complaint}
 use Rattle.script_runner.specs.declared.fault.SimFault.{SimFault}

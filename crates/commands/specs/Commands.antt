@@ -25,11 +25,11 @@ use Rattle.trace_text.specs.Lines.{asks_in}
 use Rattle.foreign_files.specs.Clearing.{AreCleared, IsClearing, HasNoForeign}
 use Rattle.foreign_files.specs.Standing.{IsStanding}
 use Rattle.foreign_files.specs.declared.standing.Standing.TheVariants as standings
-use Rattle.trace_reader.specs.Listings.{WritesStore}
+use Rattle.trace_listings.specs.Listings.{WritesStore}
 use Rattle.trace_reader.specs.Observing.{Observations}
 use Rattle.trace_reader.specs.Reading.{IsWhyNotRead}
-use Rattle.trace_reader.specs.Windows.{IsWrittenInTurn}
-use Rattle.trace_reader.specs.Streamed.{StopsBy}
+use Rattle.trace_listings.specs.Windows.{IsWrittenInTurn}
+use Rattle.trace_listings.specs.Streamed.{StopsBy}
 use Rattle.trace_client.specs.declared.stream.StreamStyle.{StreamStyle}
 use Rattle.trace_reader.specs.Wiping.{HasForeign, IsWhyNotWiped, IsNotToWipe}
 use Rattle.trace_reader.specs.declared.fault.ReadFault.{ReadFault}

@@ -12,12 +12,12 @@ use Rattle.trace_text.specs.declared.style.Style.{Style}
 use Rattle.trace_client.specs.SoFar.{Point, point_at}
 use Rattle.trace_reader.specs.declared.fault.ReadFault.{ReadFault}
 use Rattle.trace_reader.specs.declared.fault.ReadFault.TheVariants as faults
-use Rattle.trace_reader.specs.Looks.{HasLooked, IsWhyGone, IsWhyStopped}
-use Rattle.trace_reader.specs.Lists.{point_in}
-use Rattle.trace_reader.specs.Sections.{HasTold, IsLookStopped, HasEnded, HasPartlyEnded}
-use Rattle.trace_reader.specs.declared.follower.Follower.{Follower}
-use Rattle.trace_reader.specs.declared.place.Look.{Look}
-use Rattle.trace_reader.specs.declared.place.Look.TheVariants as looks
+use Rattle.trace_listings.specs.Looks.{HasLooked, IsWhyGone, IsWhyStopped}
+use Rattle.trace_listings.specs.Lists.{point_in}
+use Rattle.trace_listings.specs.Sections.{HasTold, IsLookStopped, HasEnded, HasPartlyEnded}
+use Rattle.trace_listings.specs.declared.follower.Follower.{Follower}
+use Rattle.trace_listings.specs.declared.place.Look.{Look}
+use Rattle.trace_listings.specs.declared.place.Look.TheVariants as looks
 use Rattle.faults.specs.Faults.{read_fault}
 use Rattle.command_line.specs.declared.request.Shown.{Shown}
 use Rattle.commands.specs.Commands.{IsStyleOf}

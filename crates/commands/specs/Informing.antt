@@ -11,7 +11,7 @@ use Rattle.foreign_files.specs.Standing.{IsStanding}
 use Rattle.foreign_files.specs.declared.standing.Standing.TheVariants as standings
 use Rattle.trace_summary.specs.declared.info.Info.{Info}
 use Rattle.trace_reader.specs.Reading.{IsWhyNotRead}
-use Rattle.trace_reader.specs.Summaries.{IsJudged}
+use Rattle.trace_summary.specs.Summaries.{IsJudged}
 use Rattle.trace_reader.specs.declared.fault.ReadFault.{ReadFault}
 use Rattle.faults.specs.Faults.{read_fault}
 use Rattle.faults.specs.declared.complaint.Complaint.{Complaint}

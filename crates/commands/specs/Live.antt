@@ -8,8 +8,8 @@ use Rattle.stores.specs.declared.folder_store.FolderStore.{FolderStore}
 use Rattle.trace_reader.specs.Listings.{TellsFailures}
 use Rattle.trace_reader.specs.declared.fault.ReadFault.{ReadFault}
 use Rattle.trace_reader.specs.declared.fault.ReadFault.TheVariants as faults
-use Rattle.trace_reader.specs.declared.window.Opened.{Opened}
-use Rattle.trace_reader.specs.declared.window.Opened.TheVariants as opened
+use Rattle.trace_reader.specs.declared.opened.Opened.{Opened}
+use Rattle.trace_reader.specs.declared.opened.Opened.TheVariants as opened
 use Rattle.faults.specs.declared.complaint.Complaint.{Complaint}
 use Rattle.commands.specs.Files.{LooksOver, most_with}
 

@@ -7,8 +7,8 @@ use Rattle.foreign_files.specs.Standing.{IsStanding}
 use Rattle.foreign_files.specs.declared.standing.Standing.TheVariants as standings
 use Rattle.recovery.specs.CallCounts.{most_in}
 use Rattle.commands.specs.Files.{most_to_tell}
-use Rattle.trace_reader.specs.Salvage.{IsSalvaged, IsSalvageBegun, IsLeftOf}
-use Rattle.trace_reader.specs.declared.salvaging.Salvaged.{Salvaged}
+use Rattle.trace_listings.specs.Salvage.{IsSalvaged, IsSalvageBegun, IsLeftOf}
+use Rattle.trace_listings.specs.declared.salvaging.Salvaged.{Salvaged}
 use Rattle.trace_reader.specs.declared.fault.ReadFault.{ReadFault}
 use Rattle.faults.specs.Faults.{read_fault}
 use Rattle.faults.specs.declared.salvage.Salvage.{Salvage}

@@ -22,7 +22,7 @@ use Rattle.trace_summary.specs.declared.tallies.Tallies.{Tallies}
 use Rattle.trace_summary.specs.declared.top.Top.{Top}
 use Rattle.trace_summary.specs.declared.view.ViewFault.{ViewFault}
 use Rattle.trace_summary.specs.declared.view.ViewFault.TheVariants as views
-use Rattle.trace_reader.specs.Listings.{WritesStore}
+use Rattle.trace_listings.specs.Listings.{WritesStore}
 use Rattle.trace_reader.specs.Reading.{IsWhyNotRead}
 use Rattle.trace_reader.specs.declared.fault.ReadFault.{ReadFault}
 use Rattle.faults.specs.Faults.{read_fault}

@@ -6,7 +6,8 @@ ghost use Rattle.stores.specs.FolderStore.{honest_of, reads_of, images_of, momen
 ghost use Rattle.trace_text.specs.Chooses.{asks_where};
 ghost use Rattle.trace_client.specs.{Output.AppendsPrefix, Streams.IsListed};
 ghost use Rattle.foreign_files.specs.Clearing.{IsClearing, HasNoForeign};
-ghost use Rattle.trace_reader.specs.{WritesOut.form_of, Wiping.IsNotToWipe};
+ghost use Rattle.trace_listings.specs.{WritesOut.form_of};
+ghost use Rattle.trace_reader.specs.{Wiping.IsNotToWipe};
 ghost use Rattle.commands.specs.Commands.{clearing_of, wording_of, notation_of, asks_shown, IsStyleOf, EndsStream, IsRead, IsOfMark, Clears, Records, Feeds, Serves};
 ghost use Rattle.commands.specs.{Live.ReadsTrace, Files.OnlyLooks, Files.LooksWell, Telling.IsOfWriter, Naming.IsToldAt};
 ghost use Rattle.stores.specs.declared.folder_store.FolderStore.{FolderStore};
@@ -30,8 +31,9 @@ use script_runner::{Answer, Answers, SimFault};
 use std::alloc::Global;
 use std::io::{self, BufReader, Read, Write};
 use trace_client::StreamStyle;
+use trace_listings::{OutputForm, Watched, run_stream};
 use trace_lookup::RunEnd;
-use trace_reader::{Clearing, Host, OutputForm, Watched, run_stream};
+use trace_reader::{Clearing, Host};
 use trace_text::{Choice, Notation, Style, Wording};
 
 /// What is read at a time, in bytes.

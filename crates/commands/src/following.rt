@@ -2,7 +2,7 @@
 ghost use Rattle.std.specs.Prelude.{◌≡◌, ◌<◌, ◌≤◌, Ok, IfOk, IfErr, true, false};
 ghost use Rattle.std.specs.Io.KnownBytes.{Keeps};
 ghost use Rattle.stores.specs.FolderStore.{honest_of};
-ghost use Rattle.trace_reader.specs.{Looks.IsWhyGone, Sections.IsLookStopped};
+ghost use Rattle.trace_listings.specs.{Looks.IsWhyGone, Sections.IsLookStopped};
 ghost use Rattle.commands.specs.Following.{style_in, number_in, where_in, found_anew, LooksAnew, IsWhyNotGoneOn, IsSeen, GoesOn, refusals_after, HasFollowed, Follows};
 
 use crate::commands::{style, written_out};
@@ -13,8 +13,8 @@ use command_line::Shown;
 use faults::{Complaint, fault_of_reading};
 use std::io::Write;
 use std::sync::Wait;
-use trace_client::WriteFault;
-use trace_reader::{Follower, Host, Look, ReadFault, Watched};
+use trace_listings::{Follower, Look, Watched};
+use trace_reader::{Host, ReadFault};
 
 /// How often a look that is refused is made again at once, at most.
 const AGAIN: u32 = 31;
@@ -82,15 +82,16 @@ fn refusals(seen: Seen, before: u32) -> u32
 }
 
 /// Writes out what was told. A look that was refused told nothing: what comes after it may have been there before.
-fn write_out<W: Write>(seen: Seen, out: &mut W) -> Result<(), WriteFault>
-    ensures { Keeps (W.contents out.old) (W.contents out.new) }
+fn write_out<W: Write>(seen: Seen, out: &mut W) -> Result<(), ReadFault>
+    ensures kept { Keeps (W.contents out.old) (W.contents out.new) }
+    ensures err { IfErr result (λ fault. fault ≡ ReadFault.Write) }
 {
     if let Seen::Changed = seen {
         return Ok(());
     }
     match out.flush() {
         Ok(()) => Ok(()),
-        Err(_) => Err(WriteFault),
+        Err(_) => Err(ReadFault::Write),
     }
 }
 

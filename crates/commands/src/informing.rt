@@ -11,8 +11,9 @@ use faults::{Complaint, fault_of_reading};
 use script_runner::SimFault;
 use std::alloc::{AllocError, Global};
 use std::io::{self, Write};
-use trace_reader::{Host, ReadFault, TraceSummary, Watched, sum_up_trace};
-use trace_summary::Info;
+use trace_listings::Watched;
+use trace_reader::{Host, ReadFault};
+use trace_summary::{Info, TraceSummary, sum_up_trace};
 
 /// How often a trace that isn't whole is read again at most, while another process writes it.
 const AGAIN: u32 = 4;

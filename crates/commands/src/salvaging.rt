@@ -4,7 +4,7 @@ ghost use Rattle.trace_store.specs.Moments.{Rose};
 ghost use Rattle.stores.specs.FolderStore.{reads_of, failures_of};
 ghost use Rattle.faults.specs.Complaints.{status_told};
 ghost use Rattle.trace_client.specs.Forms.{Form as Written};
-ghost use Rattle.trace_reader.specs.WritesOut.{form_of};
+ghost use Rattle.trace_listings.specs.WritesOut.{form_of};
 ghost use Rattle.commands.specs.{Files.LooksOver, Commands.IsWrittenAs, Naming.IsToldAt, Salvaging.most_to_salvage, Salvaging.TellsSum, Salvaging.IsSalvage, Telling.IsOfMemory};
 
 use crate::absence::is_absent;
@@ -16,7 +16,8 @@ use command_line::{Form, Shown};
 use faults::{Complaint, Salvage};
 use std::alloc::AllocError;
 use std::io::Write;
-use trace_reader::{Host, OutputForm, ReadFault, Salvaged, Watched};
+use trace_listings::{OutputForm, Salvaged, Watched};
+use trace_reader::{Host, ReadFault};
 
 /// How entries are written.
 fn output_form(form: Form, shown: &Shown) -> OutputForm<'_>
@@ -69,7 +70,7 @@ pub fn salvage<W: Write, H: Host>(
     ensures never { IsErr result }
     ensures status { IfErr result (λ complaint. status_told complaint ≡ 1) }
 {
-    let done = trace_reader::salvage(
+    let done = trace_listings::salvage(
         files.alloc(),
         output_form(form, shown),
         &mut files.store,

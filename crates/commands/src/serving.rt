@@ -20,7 +20,8 @@ use shown_listings::{Console, Listable, Output, console_for, show, show_from, ta
 use std::io::{self, Read, Write};
 use std::mem;
 use std::sync::Wait;
-use trace_reader::{Observed, Watched};
+use trace_listings::Watched;
+use trace_reader::Observed;
 
 /// What is done with the files of a trace.
 enum Task<'a> {

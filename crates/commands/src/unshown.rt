@@ -6,8 +6,8 @@ use command_line::Shown as Asking;
 use shown_listings::{Console, Inventory};
 use std::alloc::{AllocError, Global};
 use std::fmt;
+use trace_listings::{OutputForm, Watched};
 use trace_lookup::Shown;
-use trace_reader::{OutputForm, Watched};
 use trace_text::{Choice, Filter, FunctionAsked, Notation, Style, Wording};
 
 /// The most parts of a choice that are sought.

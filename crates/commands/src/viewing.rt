@@ -17,7 +17,8 @@ use faults::Complaint;
 use script_runner::SimFault;
 use std::io::{self, Write};
 use std::mem;
-use trace_reader::{Host, OutputForm, Watched};
+use trace_listings::{OutputForm, Watched};
+use trace_reader::Host;
 use trace_summary::{EndsSeen, Folded, Perfetto, StreamView, Top, View, ViewFault};
 use trace_text::Choice;
 

@@ -16,7 +16,7 @@ use Rattle.command_line.specs.declared.request.Asked.{Asked}
 use Rattle.trace_text.specs.Choosing.{Asks, asks_of}
 use Rattle.trace_text.specs.declared.choice.Choice.{Choice}
 use Rattle.trace_client.specs.Forms.{as_bytes}
-use Rattle.trace_reader.specs.Listings.{WritesStore}
+use Rattle.trace_listings.specs.Listings.{WritesStore}
 use Rattle.trace_reader.specs.declared.fault.ReadFault.TheVariants as reads
 use Rattle.trace_summary.specs.Streams.{FitHeads, stream_contents}
 use Rattle.trace_summary.specs.Taking.{in_two_looks}

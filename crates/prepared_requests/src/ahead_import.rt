@@ -11,7 +11,8 @@ use faults::Complaint;
 use shown_listings::{Console, Output, console_for, taken};
 use std::io::Read;
 use std::mem;
-use trace_reader::{Observed, Watched};
+use trace_listings::Watched;
+use trace_reader::Observed;
 
 /// Does what a request asks with the files of a trace, and writes to the output, with a console for what it tells meanwhile;
 /// hands on what that observed.

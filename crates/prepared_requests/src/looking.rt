@@ -19,8 +19,8 @@ use shown_listings::Console;
 use std::alloc::AllocError;
 use std::io::{self, ErrorKind, Write};
 use std::mem;
+use trace_listings::Watched;
 use trace_lookup::find;
-use trace_reader::Watched;
 use trace_summary::{StreamView, ViewFault};
 
 /// Whether memory was wanting. A device call that failed without a word of the system did so for that.

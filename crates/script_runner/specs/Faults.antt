@@ -7,8 +7,8 @@ use Rattle.trace_port.specs.declared.fault.PortFault.TheVariants as porting
 use Rattle.script_runner.specs.declared.refusal.HandRefusal.TheVariants as handing
 use Rattle.script_runner.specs.declared.refusal.Refusal.{Refusal}
 use Rattle.script_runner.specs.declared.refusal.Refusal.TheVariants as refusals
-use Rattle.trace_client.specs.declared.fault.ListFault.{ListFault}
-use Rattle.trace_client.specs.declared.fault.ListFault.TheVariants as listing
+use Rattle.trace_items.specs.declared.consumer.ConsumerFault.{ConsumerFault}
+use Rattle.trace_items.specs.declared.consumer.ConsumerFault.TheVariants as listing
 use Rattle.trace_client.specs.declared.fault.StreamFault.{StreamFault}
 use Rattle.trace_client.specs.declared.fault.StreamFault.TheVariants as stream
 use Rattle.script_lines.specs.declared.fault.ScriptFault.{ScriptFault}
@@ -32,7 +32,7 @@ IsFaultOfDevice (faults.Refused refusal) = IsOfDevice refusal
 IsFaultOfDevice _ = ⊥
 
 -- a listing that failed
-abbrev pub fault_of_list : ListFault → SimFault
+abbrev pub fault_of_list : ConsumerFault → SimFault
 fault_of_list listing.Write = faults.Write
 fault_of_list listing.NoMemory = faults.NoMemory
 

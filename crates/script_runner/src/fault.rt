@@ -10,7 +10,8 @@ use script_lines::ScriptFault;
 use std::alloc::{AllocError, AllocFailed};
 use std::{fmt, io};
 use stores::FileFault;
-use trace_client::{ListFault, StreamFault};
+use trace_client::StreamFault;
+use trace_items::ConsumerFault;
 use trace_port::PortFault;
 
 /// What ends a run before its end. It displays what is told on standard error.
@@ -171,13 +172,13 @@ impl From<RecoverFault> for SimFault {
     }
 }
 
-impl From<ListFault> for SimFault {
+impl From<ConsumerFault> for SimFault {
     ghost from_gives = { λ fault e. e ≡ fault_of_list fault };
 
-    fn from(fault: ListFault) -> SimFault {
+    fn from(fault: ConsumerFault) -> SimFault {
         match fault {
-            ListFault::Write => SimFault::Write,
-            ListFault::NoMemory => SimFault::NoMemory,
+            ConsumerFault::Write => SimFault::Write,
+            ConsumerFault::NoMemory => SimFault::NoMemory,
         }
     }
 }

@@ -11,8 +11,8 @@ use Rattle.recovery.specs.declared.window.Recovered.{Recovered}
 use Rattle.recovery.specs.declared.fault.RecoverFault.{RecoverFault}
 use Rattle.trace_client.specs.Begun.{IsCutListing}
 use Rattle.trace_client.specs.Output.{AppendsPrefix, AppendsPart}
-use Rattle.trace_client.specs.declared.fault.ListFault.{ListFault}
-use Rattle.trace_client.specs.declared.fault.ListFault.TheVariants as listing
+use Rattle.trace_items.specs.declared.consumer.ConsumerFault.{ConsumerFault}
+use Rattle.trace_items.specs.declared.consumer.ConsumerFault.TheVariants as listing
 use Rattle.trace_text.specs.Lines.{plain}
 use Rattle.script_runner.specs.declared.answer.Answer.TheVariants.{Refused}
 use Rattle.script_runner.specs.declared.refusal.Refusal.TheVariants.{Recover}
@@ -23,7 +23,7 @@ use Rattle.script_runner.specs.Texts.{line_of, state_text}
 use Rattle.simulator.specs.Stored.{IsListed, IsListedInPart, lists_first, refuses_first, refuses, TellsFiles, all, AreStates, next}
 
 -- a part of a listing was written
-pub listed_in_part : (image : Image) (before now : ℕ) (found : Recovered) (was out : Option (List ℕ)) (fault : ListFault) → Recovers image found → now ≡ before → IsCutListing plain fault found.first found.lost (views found.entries.items) was out
+pub listed_in_part : (image : Image) (before now : ℕ) (found : Recovered) (was out : Option (List ℕ)) (fault : ConsumerFault) → Recovers image found → now ≡ before → IsCutListing plain fault found.first found.lost (views found.entries.items) was out
     → IsListedInPart image before now (λ text. Appends was out text) (fault_of_list fault)
 listed_in_part image before now found was out listing.Write recovers same cut = lists_first found listing.Write recovers same cut.1 (record { missing = cut.2.left; is = cut.2.is }) cut.2.appends
 listed_in_part image before now found was out listing.NoMemory recovers same cut = lists_first found listing.NoMemory recovers same (inl cut.1) (record { missing = []; is = sym (append-nil cut.0) }) cut.2

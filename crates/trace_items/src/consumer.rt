@@ -1,18 +1,28 @@
 //! What takes the items of a trace.
 
-ghost use Rattle.std.specs.Prelude.{◌++◌, ◌∷◌, ℕ, List, [], OnOk, IfErr};
+ghost use Rattle.std.specs.Prelude.{◌≡◌, ◌++◌, ◌∷◌, ℕ, List, [], OnOk, IfErr};
 ghost use Rattle.trace_items.specs.Items.{Handed, handed, IsLawfulItem};
 ghost use Rattle.trace_items.specs.declared.consumer.ConsumerFault.{ConsumerFault as TheFault};
+ghost use Rattle.trace_items.specs.declared.consumer.ConsumerFault.TheVariants as faults;
 
 use crate::item::Item;
+use std::alloc::AllocError;
 
 /// Why a consumer takes no more.
 #[derive(Clone, Copy)]
 pub enum ConsumerFault {
     /// What it writes to failed, or took no byte.
     Write,
-    /// The allocator refused memory.
+    /// There was no room for what it makes of an item.
     NoMemory,
+}
+
+impl From<AllocError> for ConsumerFault {
+    ghost from_gives = { λ _ fault. fault ≡ faults.NoMemory };
+
+    fn from(_error: AllocError) -> ConsumerFault {
+        ConsumerFault::NoMemory
+    }
 }
 
 /// Takes the items of a trace, the oldest first.

@@ -5,5 +5,6 @@ mod OpenLemmas
 pub mod RowLemmas
 mod StackLemmas
 mod StreamLemmas
+mod Summing
 mod TableLemmas
 pub mod TakenLemmas

@@ -6,6 +6,7 @@ pub mod Opens
 pub mod Rows
 pub mod Stacks
 pub mod Streams
+pub mod Summaries
 pub mod TableObjects
 pub mod Tables
 pub mod Taking

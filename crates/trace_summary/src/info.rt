@@ -1,11 +1,12 @@
 //! A trace in numbers.
 ghost use Rattle.std.specs.Prelude.{◌≡◌, ◌≤◌, Some, None, length, IsTrue, IsErr, OnOk, MatchResult};
 
+use crate::parting::Unfinished;
 use crate::stamp::Stamp;
+use crate::summary::{Counted, End, FileFound, FileSummary};
 use recovery::{Outlined, RecoverFault};
 use std::alloc::{AllocError, Global};
 use std::str;
-use trace_reader::{Counted, End, FileFound, FileSummary, Unfinished};
 
 /// The word for parts of long messages.
 pub const PART: &str = "part";

@@ -2,10 +2,10 @@
 
 use crate::info::{Info, PART, Part};
 use crate::stamp::Stamp;
+use crate::summary::End;
 use segment::StoreSpec;
 use serde_json::{Map, Value, json, put};
 use std::alloc::{AllocError, Global};
-use trace_reader::End;
 use trace_text::{KIND_COUNT, kind_at};
 
 /// A text, or null.

@@ -1,14 +1,15 @@
 //! A stored trace in numbers: what its files hold, and what its messages tell, as text for a person and as a JSON object.
 //!
-//! An `Info` is made of what the files read as together, and takes what is found in each (`add`), both as `sum_up_trace` of
-//! `trace_reader` answers them. `fault` answers why the files aren't one whole trace, exactly where they aren't.
+//! `sum_up_trace` counts what each file of a store holds (`AreFound`), and what they hold together (`IsJudged`); it only reads,
+//! and bounds its device calls. An `Info` is made of what the files read as together, and takes what is found in each (`add`).
+//! `fault` answers why the files aren't one whole trace, exactly where they aren't.
 //!
 //! A `View` takes entries one by one; `StreamView` hands it those of an entry stream that is written to it (`into_view`). `Top`
 //! counts functions, processes and kinds exactly, and how many messages waited for a process at most (`IsCounted`), and tells
 //! that in JSON (`WritesTable`); `Folded` counts how often each stack of calls was called (`IsFolded`), and `Perfetto` writes
 //! events for each entry as it takes it, and answers what ends the drawing (`ending`); which functions tell their ends is seen
 //! before (`EndsSeen`). No contract says how long calls took, how numbers are laid out for people, or what events tell: tests of
-//! the program show it. No file is read here.
+//! the program show it.
 #![tactic(auto)]
 
 mod acts;
@@ -26,10 +27,13 @@ mod folded;
 mod functions;
 mod info;
 mod info_json;
+mod kinds;
 mod lines;
 mod member_text;
+mod members;
 mod messages;
 mod open_calls;
+mod parting;
 mod perfetto;
 mod processes;
 mod row;
@@ -40,6 +44,7 @@ mod stamp;
 mod stream_laws;
 mod stream_start;
 mod stream_view;
+mod summary;
 mod table;
 mod table_json;
 mod taken;
@@ -57,6 +62,7 @@ pub use open_calls::{Closed, Ended, OpenCall, OpenCalls};
 pub use perfetto::{Ending, Perfetto};
 pub use stream_laws::lawful_fit;
 pub use stream_view::StreamView;
+pub use summary::{TraceSummary, sum_up_trace};
 pub use taken::Taken;
 pub use times::time_in;
 pub use top::Top;

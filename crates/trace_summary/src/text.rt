@@ -2,10 +2,10 @@
 
 use crate::info::{Info, PART, Part};
 use crate::stamp::{Seconds, Stamp};
+use crate::summary::End;
 use segment::{SegHeader, StoreSpec};
 use std::fmt;
 use trace_lookup::Shown;
-use trace_reader::End;
 use trace_text::{KIND_COUNT, kind_at};
 
 impl fmt::Display for Info {

@@ -34,9 +34,9 @@ returns-in_err-write_out-clause-followed g c =
     let after : Stand = record { files = call.new.files.store; follower = call.new.follower; holds = told } in
     let count = c.refusals-refused.ensures.count in
     let few = subst (λ n. n ≤ 31) count c.refusals-refused.ensures.few in
-    let so_far = more c.loop.refused last after c.in_ok-seen.seen now c.loop.invariant.0 c.in_ok-seen.ensures.seen (c.is_sealed.ensures.other c.if-is_sealed.false) few c.write_out.ensures in
+    let so_far = more c.loop.refused last after c.in_ok-seen.seen now c.loop.invariant.0 c.in_ok-seen.ensures.seen (c.is_sealed.ensures.other c.if-is_sealed.false) few c.write_out.ensures.kept in
     let p = err_from_is_err_and c.from_residual-in_err-write_out.result c.from_residual-in_err-write_out.ensures.1 in
-    untold_so _ _ (record after { holds = now }) p.0 c.from_residual-in_err-write_out.result so_far p.1 p.2
+    untold_so _ _ (record after { holds = now }) p.0 c.from_residual-in_err-write_out.result so_far p.1 (p.2 ∙ c.in_err-write_out.ensures.err)
 
 pub loop-preserved : goal.loop-preserved
 loop-preserved g c =
@@ -49,6 +49,6 @@ loop-preserved g c =
     let few = subst (λ n. n ≤ 31) count c.refusals-refused.ensures.few in
     let first : Stand = record { files = c.args.files.now.store; follower = c.args.follower.now; holds = g.W.Write.contents c.args.watched.now.writer.now } in (
       subst (λ n. Looks first n (record after { holds = now })) (sym count)
-          (more c.loop.refused last after c.in_ok-seen.seen now c.loop.invariant.0 c.in_ok-seen.ensures.seen (c.is_sealed.ensures.other c.if-is_sealed.false) few c.write_out.ensures),
+          (more c.loop.refused last after c.in_ok-seen.seen now c.loop.invariant.0 c.in_ok-seen.ensures.seen (c.is_sealed.ensures.other c.if-is_sealed.false) few c.write_out.ensures.kept),
       call.ensures.place ∙ c.loop.invariant.1,
     )

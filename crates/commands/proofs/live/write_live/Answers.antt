@@ -1,8 +1,8 @@
 use Rattle.std.proofs.Common.{◌≤◌, ◌+◌, inr, subst, rules, arith}
 use Rattle.trace_store.specs.Disk.{Image}
 use Rattle.stores.specs.FolderStore.{reads_of, clock_of}
-use Rattle.trace_reader.specs.WritesOut.{form_of}
-use Rattle.trace_reader.specs.Windows.{IsWrittenInTurn}
+use Rattle.trace_listings.specs.WritesOut.{form_of}
+use Rattle.trace_listings.specs.Windows.{IsWrittenInTurn}
 use Rattle.commands.specs.Live.{most_opened}
 use Rattle.commands.proofs.Readings.{looks_both, failures_both, trace_same, opening_left}
 use Rattle.commands.proofs.live.write_live.Goals as goal
