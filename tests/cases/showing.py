@@ -408,6 +408,11 @@ def no_row_is_wider_than_the_width(program):
     same(program.good("show", "u", "--width", "57").decode(), "     0  1970-01-01 12:04:31.123456  call      m:'éééé'/2…\n" + END)
     same(program.good("show", "u", "--width", "59").decode(), "     0  1970-01-01 12:04:31.123456  call      m:'éééé'/2  …\n" + END)
     same(program.good("show", "u", "--width", "60").decode(), "     0  1970-01-01 12:04:31.123456  call      m:'éééé'/2  {…\n" + END)
+    # one that a terminal shows in two columns has two
+    called = b"\x68\x03" + short_atom("m") + b"\x77\x06" + "日本".encode() + b"\x6b\x00\x02\x07\x08"
+    program.good("import", "w", stdin=told_at(1, "call", called, at=NOON))
+    for width, expected in ((51, "m:'…"), (52, "m:'日…"), (53, "m:'日…"), (54, "m:'日本…")):
+        same(program.good("show", "w", "--width", str(width)).decode(), f"     0  1970-01-01 12:04:31.123456  call      {expected}\n" + END)
 
 
 @case

@@ -13,6 +13,7 @@ mod function;
 mod layout;
 mod layout_words;
 mod moment;
+mod options;
 mod process;
 mod ranking;
 mod request;

@@ -1,7 +1,7 @@
 pub mod NotBlank
 pub mod Bounds
 pub mod Telling
-pub mod Exported
+pub mod Writings
 pub mod Viewed
 pub mod LookedAhead
 pub mod Naming

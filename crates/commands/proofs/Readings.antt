@@ -1,6 +1,5 @@
 -- Openings of a trace one after the other.
-use Rattle.std.proofs.Common.{◌≡◌, ◌⊎◌, ⊎_elim, ◌≤◌, ◌+◌, ◌*◌, ◌∙◌, ℕ, List, Option, suc, ap, length, inl, inr, subst, sym, arith}
-use Rattle.std.specs.Io.KnownBytes.{Appends}
+use Rattle.std.proofs.Common.{◌≡◌, ◌⊎◌, ⊎_elim, ◌≤◌, ◌+◌, ◌*◌, ◌∙◌, ℕ, suc, ap, length, inl, inr, refl, sym, subst, arith}
 use Rattle.std.specs.Prelude.{Result, Ok, Err, OnOk, IfErr, MatchResult}
 use Rattle.std.proofs.Math.Nat.{suc-mul, mul-le-mul_right}
 use Rattle.trace_store.specs.Disk.{Image}
@@ -8,21 +7,22 @@ use Rattle.stores.specs.Events.{IsHonest, as_made}
 use Rattle.stores.specs.FolderStore.{made_of, honest_of, reads_of, images_of, moments_of, clock_of, failures_of, IsSame, IsClosedAnew}
 use Rattle.stores.specs.declared.folder_store.FolderStore.{FolderStore}
 use Rattle.segment.proofs.Taking.{reads_both}
-use Rattle.trace_client.specs.Forms.{Form}
+use Rattle.trace_items.specs.declared.consumer.Consumer.{Ghosts}
 use Rattle.foreign_files.specs.Standing.{IsStanding}
 use Rattle.foreign_files.specs.declared.standing.Standing.TheVariants as standings
-use Rattle.trace_reader.specs.Listings.{TellsFailures}
-use Rattle.trace_listings.specs.Listings.{WritesStore}
-use Rattle.trace_reader.specs.Reading.{IsWhyNotRead}
-use Rattle.trace_listings.specs.WritesOut.{WritesTrace}
+use Rattle.trace_reader.specs.Handing.{TookStore}
+use Rattle.trace_reader.specs.Listings.{IsWhyNotTold, TellsFailures}
+use Rattle.trace_reader.specs.Reading.{IsLookFault, IsWhyNotRead}
+use Rattle.trace_reader.specs.Traces.{IsOpenedCutShort, IsTraceCutShort}
+use Rattle.trace_reader.specs.declared.opened.Opened.{Opened}
+use Rattle.trace_reader.proofs.Traces.{why_not_read}
 use Rattle.trace_reader.specs.declared.fault.ReadFault.{ReadFault}
 use Rattle.trace_reader.specs.declared.fault.ReadFault.TheVariants as faults
 use Rattle.recovery.specs.declared.fault.RecoverFault.TheVariants as causes
-use Rattle.trace_reader.specs.Openings.{IsOfOpening}
-use Rattle.trace_listings.proofs.Looking.{nothing_written}
-use Rattle.trace_listings.specs.Windows.{IsWrittenInTurn}
+use Rattle.trace_reader.specs.Openings.{IsOfOpening, IsOpened}
+use Rattle.trace_listings.proofs.BridgeTrace.{is_ours}
 use Rattle.commands.specs.Files.{OnlyLooks}
-use Rattle.commands.specs.Live.{OpensInTurn}
+use Rattle.commands.specs.Live.{HandsTrace, OpensInTurn}
 
 -- after readings that only looked, if there were any, one more
 pub looks_both : (old mid new : FolderStore) → (mid ≡ old) ⊎ OnlyLooks old mid → OnlyLooks mid new → OnlyLooks old new
@@ -79,8 +79,7 @@ opened_tells mid now (Ok done) none told = none
 opened_tells mid now (Err fault) none told = told
 
 -- of the openings, and then of what was opened
-pub failures_both : {T U : Type 0} (old mid new : FolderStore) (first : Result T ReadFault) (value : T) (result : Result U ReadFault) → first ≡ Ok value → OpensInTurn (λ fault. fault) old mid first → OnOk result (failures_of new ≡ failures_of mid) → IfErr result (TellsFailures (failures_of mid) (failures_of new))
-    → OpensInTurn (λ fault. fault) old new result
+pub failures_both : {T U : Type 0} (old mid new : FolderStore) (first : Result T ReadFault) (value : T) (result : Result U ReadFault) → first ≡ Ok value → OpensInTurn old mid first → OnOk result (failures_of new ≡ failures_of mid) → IfErr result (TellsFailures (failures_of mid) (failures_of new)) → OpensInTurn old new result
 failures_both old mid new first value result is had kept told =
     let last : failures_of mid ≡ failures_of had.mid = rw is at had.last in
     record {
@@ -91,24 +90,31 @@ failures_both old mid new first value result is had kept told =
       last = subst (λ (n : ℕ). MatchResult result (λ _. failures_of new ≡ n) (TellsFailures n (failures_of new))) last (opened_tells (failures_of mid) (failures_of new) result kept told);
     }
 
--- ---- of the same files
+-- ---- what was handed on
 
-pub trace_same : (honest : Type 0) (form : Form) (image now : Image) (old new : Option (List ℕ)) (count : ℕ) (result : Result Unit ReadFault) → (honest → now ≡ image) → WritesTrace honest form now old new count result IsWrittenInTurn → WritesTrace honest form image old new count result IsWrittenInTurn
-trace_same honest form image now old new count result same out = record {
-  tells = λ h. subst (λ (i : Image). OnOk result ((text : List ℕ) × WritesStore form i text × Appends old new text)) (same h) (out.tells h);
-  there = λ h. subst (λ (i : Image). OnOk result (IsStanding standings.Ours i)) (same h) (out.there h);
-  why_not = λ h. subst (λ (i : Image). IfErr result (λ fault. IsWhyNotRead fault i)) (same h) (out.why_not h);
-  written = λ h. subst (λ (i : Image). IfErr result (λ fault. IsWrittenInTurn form fault i old new count)) (same h) (out.written h);
-}
+-- of a trace that was found
+pub found_hands : {C : Type 0} (g : Ghosts C) (image : Image) (old new : C) (result : Result Unit ReadFault) → OnOk result (TookStore g image old new) → OnOk result (IsStanding standings.Ours image) → IfErr result (λ fault. IsTraceCutShort g fault image old new) → IfErr result (λ fault. IsWhyNotRead fault image)
+    → HandsTrace g image old new result
+found_hands g image old new (Ok done) took there left why = (there, took)
+found_hands g image old new (Err fault) took there left why = (why, inl left)
 
--- where files couldn't be opened, nothing is written
-pub opening_left : (form : Form) (fault : ReadFault) (image : Image) (out : Option (List ℕ)) (count : ℕ) → IsOfOpening fault → count ≡ 0 → IsWrittenInTurn form fault image out out count
-opening_left form (faults.Refused causes.NoMemory) image out count is none = inl (nothing_written form (faults.Refused causes.NoMemory) image out count none tt)
-opening_left form (faults.Refused causes.Device) image out count is none = inl (nothing_written form (faults.Refused causes.Device) image out count none is)
-opening_left form (faults.Refused (causes.Damaged file place)) image out count is none = absurd is
-opening_left form (faults.Refused causes.Mixed) image out count is none = absurd is
-opening_left form (faults.Refused causes.Sequence) image out count is none = absurd is
-opening_left form faults.Write image out count is none = absurd is
-opening_left form faults.NoMemory image out count is none = absurd is
-opening_left form (faults.Foreign file is_stream) image out count is none = inl (nothing_written form (faults.Foreign file is_stream) image out count none is)
-opening_left form faults.Absent image out count is none = inl (nothing_written form faults.Absent image out count none is)
+-- of several files that were opened
+pub opened_hands : {C : Type 0} (g : Ghosts C) (what : Opened) (now image : Image) (old new : C) (result : Result Unit ReadFault) → now ≡ image → 2 ≤ length now → IsOpened now what → OnOk result (TookStore g now old new) → IfErr result (λ fault. IsOpenedCutShort g what fault now old new)
+    → IfErr result (λ fault. IsWhyNotTold fault now) → HandsTrace g image old new result
+opened_hands g what now image old new result same several is took left why = subst (λ (i : Image). HandsTrace g i old new result) same (so result took left why)
+  where
+    so : (r : Result Unit ReadFault) → OnOk r (TookStore g now old new) → IfErr r (λ fault. IsOpenedCutShort g what fault now old new) → IfErr r (λ fault. IsWhyNotTold fault now) → HandsTrace g now old new r
+    so (Ok done) took left why = (is_ours what now is, took)
+    so (Err fault) took left why = (why_not_read (Err fault) now now refl (is_ours what now is) why, inr (what, several, is, left))
+
+-- of files that couldn't be opened
+pub of_opening : (fault : ReadFault) → IsOfOpening fault → IsLookFault fault
+of_opening (faults.Refused causes.NoMemory) is = tt
+of_opening (faults.Refused causes.Device) is = is
+of_opening (faults.Refused (causes.Damaged file place)) is = is
+of_opening (faults.Refused causes.Mixed) is = is
+of_opening (faults.Refused causes.Sequence) is = is
+of_opening faults.Write is = is
+of_opening faults.NoMemory is = is
+of_opening (faults.Foreign file is_stream) is = is
+of_opening faults.Absent is = is

@@ -3,27 +3,24 @@ use Rattle.std.proofs.Common.{◌≡◌, ◌≤◌, ◌+◌, ◌*◌, ◌∙◌,
 use Rattle.std.specs.Prelude.{ℤ, Result, Ok, Err, OnOk, IfErr, IsOk, IsTrue}
 use Rattle.std.specs.Io.KnownBytes.{Appends, Keeps}
 use Rattle.std.proofs.KnownBytes.{Appends-kept}
-use Rattle.std.proofs.lemmas.List.{append-nil}
 use Rattle.command_line.specs.declared.ranking.Ranking.{Ranking}
-use Rattle.entry_codec.specs.Entries.{Entry, bytes_of}
-use Rattle.trace_store.specs.Disk.{Image, AreBytes}
-use Rattle.stores.specs.CallLaws.{images_are_bytes, reads_may_stay}
-use Rattle.stores.specs.EventLaws.{sound_events}
-use Rattle.stores.specs.Events.{files_after}
+use Rattle.entry_codec.specs.Entries.{Entry, bytes_of, joined}
+use Rattle.trace_store.specs.Disk.{Image}
 use Rattle.segment.proofs.Taking.{reads_both}
-use Rattle.stores.specs.FolderStore.{honest_of, reads_of, images_of, moments_of, clock_of, past_of}
+use Rattle.stores.specs.FolderStore.{honest_of, reads_of, images_of, moments_of, clock_of}
 use Rattle.stores.specs.declared.folder_store.FolderStore.{FolderStore}
 use Rattle.trace_text.specs.Choosing.{Asks}
-use Rattle.trace_client.proofs.Greatest.{bytes_of-append}
+use Rattle.trace_client.proofs.ItemLemmas.{window_text}
 use Rattle.trace_client.specs.Forms.{as_bytes}
+use Rattle.trace_client.specs.SoFar.{Point, point_at}
 use Rattle.foreign_files.specs.Standing.{IsStanding}
 use Rattle.foreign_files.specs.declared.standing.Standing.TheVariants as standings
 use Rattle.trace_summary.specs.Acts.{acts_in}
 use Rattle.trace_summary.specs.Counting.{tellings}
 use Rattle.trace_summary.specs.Drawings.{ending}
 use Rattle.trace_summary.specs.Stacks.{AreOrdered, calls_at, calls_of, lines_of}
-use Rattle.trace_summary.specs.Streams.{FitHeads, IsWhyStopped, stream_contents, why_stopped}
-use Rattle.trace_summary.specs.Taking.{in_two_looks}
+use Rattle.trace_summary.specs.Feeding.{by_feed}
+use Rattle.trace_summary.specs.Taking.{IsWhyStopped, in_two_looks}
 use Rattle.trace_summary.proofs.TakenLemmas.{first_look, looks-append, second_look}
 use Rattle.trace_summary.specs.TableObjects.{WritesTable}
 use Rattle.trace_summary.specs.Tallies.{IsCounted}
@@ -31,8 +28,8 @@ use Rattle.trace_summary.specs.declared.stacks.Stacks.{Stacks}
 use Rattle.trace_summary.specs.declared.tallies.Tallies.{Tallies}
 use Rattle.trace_summary.specs.declared.view.ViewFault.{ViewFault}
 use Rattle.trace_summary.specs.declared.view.ViewFault.TheVariants as views
-use Rattle.trace_listings.specs.Listings.{WritesStore}
-use Rattle.trace_reader.specs.Reading.{IsWhyNotRead}
+use Rattle.trace_listings.specs.Listings as stores
+use Rattle.trace_reader.specs.Handing.{TookStore, blank, holds}
 use Rattle.faults.specs.declared.complaint.Complaint.{Complaint}
 use Rattle.script_runner.specs.declared.fault.SimFault.{SimFault}
 use Rattle.commands.specs.Files.{LooksOver, most_to_tell}
@@ -41,38 +38,14 @@ use Rattle.commands.specs.Naming.{IsToldAt}
 use Rattle.commands.specs.Telling.{IsOfWriter}
 use Rattle.trace_lookup.specs.declared.place.Place.{Place}
 use Rattle.commands.proofs.Bounds.{both_of_two, most_of_two, most_so, once_of_two}
-use Rattle.commands.proofs.Exported.{entries_of_export}
-use Rattle.commands.specs.Viewing.{AreExported, EndsDrawing, HasSeen, IsFullView, IsNotShown, IsReadInto, IsShownBy, IsViewed, ShowsStacks, ShowsTable, TellsStop, no_memory, not_shown, not_written, refused, shown, too_many}
-use Rattle.commands.specs.declared.live.ReadFailure.{ReadFailure}
+use Rattle.commands.specs.Viewing.{AreExported, EndsDrawing, HasSeen, IsFullView, IsNotShown, IsShownBy, IsViewed, ShowsStacks, ShowsTable, TellsStop, no_memory, not_shown, not_written, refused, shown, too_many}
 
--- a trace was written whole, or why it wasn't
-pub read_so : (asks : Option Asks) (image : Image) (old now : Option (List ℕ)) (result : Result Unit ReadFailure) → OnOk result ((text : List ℕ) × WritesStore (as_bytes asks) image text × Appends old now text) → OnOk result (IsStanding standings.Ours image) → IfErr result (λ failure. IsWhyNotRead failure.fault image) → IsReadInto asks image old now result
-read_so asks image old now (Ok done) wrote there why_not = (there, wrote)
-read_so asks image old now (Err failure) wrote there why_not = why_not
-
--- what is read of honest files are bytes
-pub bytes_read : (store : FolderStore) → honest_of store → AreBytes (reads_of store)
-bytes_read store h =
-    let past = past_of store in
-    images_are_bytes (files_after past) (reads_of store) (reads_may_stay (files_after past) (sound_events past.world past.count past.events h.0))
-
-fit_both : (xs ys : List Entry) → FitHeads xs → FitHeads ys → FitHeads (xs ++ ys)
-fit_both [] ys a b = b
-fit_both (x ∷ xs) ys a b = (a.0, fit_both xs ys a.1 b)
-
--- a view that had seen some entries was given an export
-pub exported : (asks : Option Asks) (image : Image) (first : List Entry) (held : List ℕ) (seen : List Entry) (pending : List ℕ) (taken : List Entry) → AreBytes image → FitHeads first → held ≡ [] → IsStanding standings.Ours image
-    → ((text : List ℕ) × WritesStore (as_bytes asks) image text × Appends (stream_contents first held) (stream_contents seen pending) text)
-    → ((entries : List Entry) → FitHeads entries → stream_contents seen pending ≡ Some (bytes_of entries) → taken ≡ entries) → HasSeen asks image first taken
-exported asks image first held seen pending taken bytes fit empty there wrote are =
-    let behind = subst (λ (l : List ℕ). Appends (stream_contents first l) (stream_contents seen pending) wrote.0) empty wrote.2 in
-    let export = entries_of_export asks image wrote.0 bytes wrote.1 in
-    let all : bytes_of seen ++ pending ≡ bytes_of (first ++ export.entries) =
-    behind ∙ ap (λ (l : List ℕ). l ++ wrote.0) (append-nil (bytes_of first)) ∙ ap (λ (l : List ℕ). bytes_of first ++ l) export.is ∙ sym (bytes_of-append first export.entries) in (
-      export.entries,
-      are (first ++ export.entries) (fit_both first export.entries fit export.fit) (ap Some all),
-      record { there = there; writes = subst (λ (l : List ℕ). WritesStore (as_bytes asks) image l) export.is wrote.1 },
-    )
+-- what a view was handed of a trace is what an export of it has
+pub store_seen : {C : Type 0} (asks : C → Option Asks) (at : C → Point) (seen : C → List Entry) (failed : C → Option ViewFault) (image : Image) (a b : C) → at a ≡ point_at 0 → IsStanding standings.Ours image → TookStore (by_feed asks at seen failed) image a b → HasSeen (asks a) image (seen a) (seen b)
+store_seen asks at seen failed image a b start there (blank reads h) =
+    (h.took.entries, h.took.all, record { there = there; writes = stores.blank reads (window_text (as_bytes (asks a)) 0 0 0 [] (bytes_of h.took.entries) (at a) (at b) start h.took.is) })
+store_seen asks at seen failed image a b start there (holds spec view sealed reads h) =
+    (h.took.entries, h.took.all, record { there = there; writes = stores.holds spec view sealed reads (window_text (as_bytes (asks a)) 0 view.first view.lost (joined view.runs) (bytes_of h.took.entries) (at a) (at b) start h.took.is) })
 
 -- what a reading came to, for one that had seen nothing
 pub none_before : {V : Type 0} (old new : FolderStore) (asks : Option Asks) (before : List Entry) (seen : V → List Entry) (failed : V → Option ViewFault) (Told : SimFault → Complaint → Type 0) (base : List ℕ) (image : Image) (result : Result V Complaint) → before ≡ []
@@ -99,17 +72,6 @@ looks_seen asks image again first before after same are has =
 failed_by : (failed : Option ViewFault) → IsWhyStopped failed views.TooMany → failed ≡ Some views.TooMany
 failed_by (Some fault) is = ap Some (sym is)
 failed_by None is = absurd (cc)
-
--- why no more is taken, by what is told of a view and a stream
-pub why_so : (failed : Option ViewFault) (no_room : Bool) (fault : ViewFault) → Some fault ≡ why_stopped failed no_room → IsWhyStopped failed fault
-why_so (Some failed) no_room fault is = cc
-why_so None true fault is = cc
-why_so None false fault is = absurd (cc)
-
--- where nothing stopped it, the view hasn't failed
-pub not_failed : (failed : Option ViewFault) (no_room : Bool) → None ≡ why_stopped failed no_room → failed ≡ None
-not_failed (Some failed) no_room is = absurd (cc)
-not_failed None no_room is = refl
 
 -- what is told where no more is taken
 pub stopped : {V : Type 0} (failed : V → Option ViewFault) (Told : SimFault → Complaint → Type 0) (base : List ℕ) (image : Image) (view : V) (fault : ViewFault) (complaint : Complaint) → IsWhyStopped (failed view) fault → TellsStop base fault complaint → IsNotShown (IsFullView failed) Told base image complaint

@@ -10,11 +10,13 @@ use Rattle.stores.specs.FolderStore.{past_of, honest_of}
 use Rattle.stores.specs.declared.folder_store.FolderStore.{FolderStore}
 use Rattle.trace_text.specs.declared.style.Style.{Style}
 use Rattle.trace_client.specs.SoFar.{Point, point_at}
+use Rattle.trace_reader.specs.Reading.{IsOfLook}
 use Rattle.trace_reader.specs.declared.fault.ReadFault.{ReadFault}
 use Rattle.trace_reader.specs.declared.fault.ReadFault.TheVariants as faults
-use Rattle.trace_listings.specs.Looks.{HasLooked, IsWhyGone, IsWhyStopped}
+use Rattle.trace_listings.specs.Looks.{HasLooked, IsWhyGone, IsWhyNotLooked}
 use Rattle.trace_listings.specs.Lists.{point_in}
 use Rattle.trace_listings.specs.Sections.{HasTold, IsLookStopped, HasEnded, HasPartlyEnded}
+use Rattle.trace_listings.specs.Writing.{IsOfWriter as IsWriters}
 use Rattle.trace_listings.specs.declared.follower.Follower.{Follower}
 use Rattle.trace_listings.specs.declared.place.Look.{Look}
 use Rattle.trace_listings.specs.declared.place.Look.TheVariants as looks
@@ -92,16 +94,16 @@ pub record IsLook (files looked : FolderStore) (old new : Follower) (was now : O
   pub told : HasTold (style_in old) (where_in old) (where_in new) was now
   pub same_style : style_in new ≡ style_in old
 
--- a look that was to go on where the last one ended failed by what stands there, as far as the files are honest
-abbrev pub IsWhyNotGoneOn : FolderStore → FolderStore → Follower → Follower → ReadFault → Type 0
-IsWhyNotGoneOn files looked old new fault = honest_of looked → IfSome old.place (λ from. IsWhyStopped (found_anew files) from (number_in new) fault)
+-- why a look failed, as far as the files are honest; one that was to go on where the last one ended found its trace
+abbrev pub IsWhyLookFailed : FolderStore → FolderStore → Follower → Follower → Option (List ℕ) → ReadFault → Type 0
+IsWhyLookFailed files looked old new was fault = IfSome old.place (λ _. IsOfLook fault → ⊥) × (honest_of looked → IsWhyNotLooked (style_in old) (found_anew files) (where_in old) (number_in new) was old.place fault)
 
 -- a look that was refused by a fault that may come of files that changed: it told nothing, and the next goes on where it began
 pub record IsMadeAgain (files looked : FolderStore) (old new : Follower) (was now : Option (List ℕ)) : Type 0 where
   pub anew : LooksAnew files looked
   pub fault : ReadFault
   pub changed : MayHaveChanged fault
-  pub why_not : IsWhyNotGoneOn files looked old new fault
+  pub why_not : IsWhyLookFailed files looked old new was fault
   pub number : number_in new ≡ number_in old
   pub place : new.place ≡ old.place
   pub same_style : style_in new ≡ style_in old
@@ -161,10 +163,10 @@ IsGone mid files fault = honest_of files → IsWhyGone (found_anew mid.files) (n
 pub data Ends (mid : Stand) (files : FolderStore) (now : Option (List ℕ)) : Result Unit ReadFault → Type 0 where
   sealed : (follower : Follower) (told : Option (List ℕ)) → IsLook mid.files files mid.follower follower mid.holds told looks.Sealed
       → HasEnded (style_in follower) (where_in follower) told now → Ends mid files now (Ok tt)
-  no_end : (follower : Follower) (told : Option (List ℕ)) (fault : ReadFault)
+  no_end : (follower : Follower) (told : Option (List ℕ)) (fault : ReadFault) → IsWriters fault
       → IsLook mid.files files mid.follower follower mid.holds told looks.Sealed → HasPartlyEnded (style_in follower) (where_in follower) told now → Ends mid files now (Err fault)
   not_written_out : mid.files ≡ files → mid.holds ≡ now → Ends mid files now (Err faults.Write)
-  failed : (follower : Follower) (fault : ReadFault) → LooksAnew mid.files files → IsGone mid files fault → IsWhyNotGoneOn mid.files files mid.follower follower fault
+  failed : (follower : Follower) (fault : ReadFault) → LooksAnew mid.files files → IsGone mid files fault → IsWhyLookFailed mid.files files mid.follower follower mid.holds fault
       → IsLookStopped (style_in mid.follower) (where_in mid.follower) (where_in follower) mid.holds now fault → Ends mid files now (Err fault)
 
 -- looks from a stand on, and how they ended

@@ -30,17 +30,11 @@ use Rattle.faults.specs.declared.complaint.Complaint.{Complaint}
 use Rattle.faults.specs.declared.complaint.Complaint.TheVariants as complaints
 use Rattle.script_runner.specs.declared.fault.SimFault.{SimFault}
 use Rattle.commands.specs.Telling.{IsOfMemory, IsOfWriter}
-use Rattle.commands.specs.declared.live.ReadFailure.{ReadFailure}
 
 -- the entries that an export of a trace writes, of those that are asked for
 pub record AreExported (asks : Option Asks) (image : Image) (taken : List Entry) : Type 0 where
   pub there : IsStanding standings.Ours image
   pub writes : WritesStore (as_bytes asks) image (bytes_of taken)
-
--- the bytes of a writer grew by those that an export writes; or why the trace isn't read
-abbrev pub IsReadInto : Option Asks → Image → Option (List ℕ) → Option (List ℕ) → Result Unit ReadFailure → Type 0
-IsReadInto asks image old new (Ok done) = IsStanding standings.Ours image × ((text : List ℕ) × WritesStore (as_bytes asks) image text × Appends old new text)
-IsReadInto asks image old new (Err failure) = IsWhyNotRead failure.fault image
 
 -- that there are too many rows is told with the name of the trace
 abbrev pub IsOfRows : List ℕ → Complaint → Type 0

@@ -183,14 +183,14 @@ fn read_trace<W: Write, H: Host>(
         (W.contents watched.new.writer.now) result) }
     ensures place { files.new.place ≡ files.old.place }
 {
-    let done = read_live(files, output_form, watched);
+    let reading = read_live(files, output_form, watched);
     let flushed = watched.flush();
     watched.host.clear();
-    match done {
+    match reading.done {
         Ok(()) => written_out(flushed),
-        Err(failure) => {
-            let stage = failure.stage(stage(output_form, watched));
-            Err(files.explained(fault_of_reading(failure.fault), stage))
+        Err(fault) => {
+            let stage = reading.stage(stage(output_form, watched));
+            Err(files.explained(fault_of_reading(fault), stage))
         }
     }
 }

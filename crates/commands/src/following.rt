@@ -3,7 +3,7 @@ ghost use Rattle.std.specs.Prelude.{◌≡◌, ◌<◌, ◌≤◌, Ok, IfOk, IfE
 ghost use Rattle.std.specs.Io.KnownBytes.{Keeps};
 ghost use Rattle.stores.specs.FolderStore.{honest_of};
 ghost use Rattle.trace_listings.specs.{Looks.IsWhyGone, Sections.IsLookStopped};
-ghost use Rattle.commands.specs.Following.{style_in, number_in, where_in, found_anew, LooksAnew, IsWhyNotGoneOn, IsSeen, GoesOn, refusals_after, HasFollowed, Follows};
+ghost use Rattle.commands.specs.Following.{style_in, number_in, where_in, found_anew, LooksAnew, IsWhyLookFailed, IsSeen, GoesOn, refusals_after, HasFollowed, Follows};
 
 use crate::commands::{style, written_out};
 use crate::files::Files;
@@ -42,8 +42,8 @@ fn look_once<W: Write>(
         (where_in follower.new) (W.contents out.old) (W.contents out.new)) }
     ensures gone { honest_of files.new.store
         → IfErr result (IsWhyGone (found_anew files.old.store) (number_in follower.old)) }
-    ensures why_not { IfErr result (IsWhyNotGoneOn files.old.store files.new.store follower.old
-        follower.new) }
+    ensures why_not { IfErr result (IsWhyLookFailed files.old.store files.new.store follower.old
+        follower.new (W.contents out.old)) }
     ensures few { result ≡ Ok Seen.Changed → refused < 31 }
     ensures place { files.new.place ≡ files.old.place }
 {

@@ -38,6 +38,7 @@ mod viewing;
 pub use commands::{serve_stream, serve_trace};
 pub use files::Files;
 pub use following::serve_following;
+pub use live::{LiveReading, hand_live};
 pub use serving::{Served, follow_files, list_files, serve_files};
 pub use sites::files_for;
 pub use streaming::StreamListing;

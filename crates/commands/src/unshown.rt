@@ -1,14 +1,14 @@
 //! A trace of which nothing is shown that is asked for: what it has.
 
 use crate::files::Files;
-use crate::live::read_live;
+use crate::live::hand_live;
 use command_line::Shown as Asking;
 use shown_listings::{Console, Inventory};
 use std::alloc::{AllocError, Global};
 use std::fmt;
-use trace_listings::{OutputForm, Watched};
 use trace_lookup::Shown;
-use trace_text::{Choice, Filter, FunctionAsked, Notation, Style, Wording};
+use trace_summary::ViewFeed;
+use trace_text::{Choice, Filter, FunctionAsked};
 
 /// The most parts of a choice that are sought.
 const MOST: usize = 8;
@@ -95,33 +95,28 @@ fn parts_of(alloc: Global, choice: &Choice) -> Result<Vec<Sought<'_>>, AllocErro
     Ok(parts)
 }
 
-/// What files have of what a choice asks for, or of all; up to the first message where `is_to_stop` is true.
+/// What files have of what a choice asks for, or of all, with the numbers of the first entry and of the last; up to the first
+/// message where `is_to_stop` is true.
 fn inventory(
     rt: &HostRuntime,
     files: &Files<'_>,
     choice: Option<&Choice>,
     is_to_stop: bool,
-) -> Result<Inventory, AllocError> {
+) -> Result<(Inventory, Option<(u64, u64)>), AllocError> {
     let mut files = files.again()?;
-    let mut found = Inventory::new(rt.alloc(), is_to_stop);
     let mut console = Console::new(*rt, true);
-    let mut watched = Watched::new(&mut found, &mut console);
-    let style = Style {
-        wording: Wording::Pretty,
-        notation: Notation::Json,
-        choice,
-    };
-    let _ = read_live(&mut files, OutputForm::Lines(style), &mut watched);
-    drop(watched);
-    drop(console);
-    Ok(found)
+    let found = Inventory::new(rt.alloc(), is_to_stop);
+    let mut feed = ViewFeed::new(rt.alloc(), choice, found, &mut console);
+    let _ = hand_live(&mut files, &mut feed);
+    let numbers = feed.numbers();
+    Ok((feed.into_view(), numbers))
 }
 
 /// Tells which entries files have, and when they were.
 fn tell_all(rt: &HostRuntime, files: &Files<'_>, asking: &Asking) -> Result<bool, AllocError> {
-    let found = inventory(rt, files, None, false)?;
+    let (found, numbers) = inventory(rt, files, None, false)?;
     let name = Shown(files.base());
-    let Some((first, last)) = found.numbers() else {
+    let Some((first, last)) = numbers else {
         let _ = eprintln!(rt; "dbgrec: {name}: no message is shown: it has no entry");
         return Ok(false);
     };
@@ -144,7 +139,7 @@ fn tell_all(rt: &HostRuntime, files: &Files<'_>, asking: &Asking) -> Result<bool
 /// Tells whether files have messages of what a part of a choice asks for.
 fn tell_part(rt: &HostRuntime, files: &Files<'_>, sought: Sought<'_>) -> Result<(), AllocError> {
     let choice = choice_of(rt.alloc(), sought)?;
-    let found = inventory(rt, files, Some(&choice), true)?;
+    let (found, _) = inventory(rt, files, Some(&choice), true)?;
     let some = if found.has_message() {
         "there are messages"
     } else {

@@ -4,40 +4,21 @@ ghost use Rattle.std.specs.Io.KnownBytes.{Keeps};
 ghost use Rattle.stores.specs.FolderStore.{reads_of};
 ghost use Rattle.trace_text.specs.Chooses.{asks_where};
 ghost use Rattle.faults.specs.Complaints.{status_told};
-ghost use Rattle.trace_summary.specs.Streams.{FitHeads};
-ghost use Rattle.commands.specs.{Files.LooksOver, Live.ReadsTrace, Live.ReadsTwice, Live.most_to_read, Naming.IsToldAt, Telling.IsOfWriter, Viewing.IsDrawn, Viewing.IsFold, Viewing.IsReadInto, Viewing.IsTop, Viewing.IsViewed, Viewing.TellsStop, Viewing.ends_failed, Viewing.ends_seen};
+ghost use Rattle.commands.specs.{Live.ReadsTrace, Live.ReadsTwice, Naming.IsToldAt, Telling.IsOfWriter, Viewing.IsDrawn, Viewing.IsFold, Viewing.IsTop, Viewing.IsViewed, Viewing.TellsStop, Viewing.ends_failed, Viewing.ends_seen};
 
 use crate::commands::written_out;
 use crate::files::Files;
 use crate::informing::told;
-use crate::live::{ReadFailure, read_live};
+use crate::live::hand_live;
 use crate::stage::Stage;
 use command_line::Ranking;
 use faults::Complaint;
 use script_runner::SimFault;
 use std::io::{self, Write};
-use std::mem;
-use trace_listings::{OutputForm, Watched};
+use trace_listings::Watched;
 use trace_reader::Host;
-use trace_summary::{EndsSeen, Folded, Perfetto, StreamView, Top, View, ViewFault};
+use trace_summary::{EndsSeen, Folded, Perfetto, Top, View, ViewFault, ViewFeed};
 use trace_text::Choice;
-
-/// Reads a trace into a writer, as an export writes it.
-fn read_into<W: Write, H: Host>(
-    files: &mut Files<'_>,
-    choice: Option<&Choice>,
-    watched: &mut Watched<'_, W, H>,
-) -> Result<(), ReadFailure>
-    ensures read { LooksOver files.old.store files.new.store
-        (most_to_read (reads_of files.old.store))
-        (IsReadInto (asks_where choice.entry) (reads_of files.old.store)
-        (W.contents watched.old.writer.now) (W.contents watched.new.writer.now) result) }
-    ensures place { files.new.place ≡ files.old.place }
-{
-    let done = read_live(files, OutputForm::Stream(choice), watched);
-    watched.host.clear();
-    done
-}
 
 /// What is told where a view takes no more: too many rows with the name of the trace, also where there is no memory for it.
 fn stopped(files: &Files<'_>, fault: ViewFault) -> Complaint
@@ -54,42 +35,30 @@ fn stopped(files: &Files<'_>, fault: ViewFault) -> Complaint
     }
 }
 
-/// Reads a trace, and hands its entries to a view; the other one takes its place meanwhile. Where the view hasn't taken all, what
-/// is told of that, by the command of this name.
+/// Reads a trace, and hands its entries to a view. Where the view hasn't taken all, what is told of that, by the command of this
+/// name.
 fn look_at<V: View + Drop, H: Host>(
     files: &mut Files<'_>,
     choice: Option<&Choice>,
     view: V,
-    other: V,
     host: &mut H,
     command: &'static str,
 ) -> Result<V, Complaint>
-    requires fits { FitHeads (V.seen view) }
-    requires other { FitHeads (V.seen other) }
     ensures viewed { ReadsTrace files.old.store files.new.store result
         (IsViewed (asks_where choice.entry) (V.seen view) V.seen V.failed
         (IsToldAt files.old.place files.new.store)
         files.old.place.base.now (reads_of files.old.store) result) }
-    ensures fits { IfOk result (λ looked. FitHeads (V.seen looked)) }
     ensures goes_on { IfOk result (λ looked. V.failed looked ≡ None) }
     ensures status { IfErr result (λ complaint. status_told complaint ≡ 1) }
     ensures place { OnOk result (files.new.place ≡ files.old.place) }
 {
-    let alloc = files.alloc();
-    let mut first = StreamView::new(alloc, view);
-    let mut watched = Watched::new(&mut first, host);
-    let done = read_into(files, choice, &mut watched);
-    let stream = mem::replace(&mut *watched.writer, StreamView::new(alloc, other));
-    drop(watched);
-    drop(first);
-    let (view, fault) = stream.into_view();
-    match (done, fault) {
-        (_, Some(fault)) => Err(stopped(files, fault)),
-        (Err(failure), None) => {
-            let stage = failure.stage(Stage::Viewing(command));
-            Err(told(files, failure.fault, stage))
-        }
-        (Ok(()), None) => Ok(view),
+    let mut feed = ViewFeed::new(files.alloc(), choice, view, host);
+    let reading = hand_live(files, &mut feed);
+    let view = feed.into_view();
+    match (view.fault(), reading.done) {
+        (Some(fault), _) => Err(stopped(files, fault)),
+        (None, Err(fault)) => Err(told(files, fault, reading.stage(Stage::Viewing(command)))),
+        (None, Ok(())) => Ok(view),
     }
 }
 
@@ -122,7 +91,7 @@ pub fn top<W: Write, H: Host>(
     ensures status { IfErr result (λ complaint. status_told complaint ≡ 1) }
 {
     let (alloc, host) = (files.alloc(), &mut *watched.host);
-    let top = look_at(files, choice, Top::new(alloc), Top::new(alloc), host, "top")?;
+    let top = look_at(files, choice, Top::new(alloc), host, "top")?;
     match top.write(alloc, ranking, is_json, &mut *watched.writer) {
         Ok(written) => write_out(written, &mut *watched.writer),
         Err(fault) => Err(stopped(files, fault)),
@@ -139,14 +108,12 @@ fn see_ends<H: Host>(
         (IsViewed (asks_where choice.entry) [] ends_seen ends_failed
         (IsToldAt files.old.place files.new.store)
         files.old.place.base.now (reads_of files.old.store) result) }
-    ensures fits { IfOk result (λ seen. FitHeads seen.taken.entries) }
     ensures goes_on { IfOk result (λ seen. seen.fault ≡ None) }
     ensures status { IfErr result (λ complaint. status_told complaint ≡ 1) }
     ensures place { OnOk result (files.new.place ≡ files.old.place) }
 {
     let alloc = files.alloc();
-    let (view, other) = (EndsSeen::new(alloc), EndsSeen::new(alloc));
-    look_at(files, choice, view, other, host, "export")
+    look_at(files, choice, EndsSeen::new(alloc), host, "export")
 }
 
 /// Counts the stacks of calls of a trace, and writes a line for each. A first reading finds the functions that tell their ends.
@@ -164,9 +131,7 @@ pub fn fold<W: Write, H: Host>(
 {
     let (alloc, host) = (files.alloc(), &mut *watched.host);
     let seen = see_ends(files, choice, host)?;
-    let view = Folded::new(alloc, seen);
-    let other = Folded::new(alloc, EndsSeen::new(alloc));
-    let folded = look_at(files, choice, view, other, host, "export")?;
+    let folded = look_at(files, choice, Folded::new(alloc, seen), host, "export")?;
     write_out(folded.write(&mut *watched.writer), &mut *watched.writer)
 }
 
@@ -185,9 +150,8 @@ pub fn draw<W: Write, H: Host>(
 {
     let (alloc, host) = (files.alloc(), &mut *watched.host);
     let seen = see_ends(files, choice, host)?;
-    let view = Perfetto::new(alloc, Some(&mut *watched.writer), seen);
-    let other = Perfetto::new(alloc, None, EndsSeen::new(alloc));
-    let mut drawn = look_at(files, choice, view, other, host, "export")?;
+    let view = Perfetto::new(alloc, &mut *watched.writer, seen);
+    let mut drawn = look_at(files, choice, view, host, "export")?;
     let ended = drawn.end();
     drop(drawn);
     match ended {

@@ -13,6 +13,7 @@ use Rattle.command_line.specs.declared.request.Shown.{Shown}
 use Rattle.command_line.specs.declared.request.Request.{Request}
 use Rattle.command_line.specs.declared.request.Request.TheVariants as requests
 use Rattle.commands.specs.Commands.{IsFree}
+use Rattle.commands.specs.Files.{OnlyLooks}
 use Rattle.commands.specs.Sites.{IsAtPlace, asked_in}
 use Rattle.commands.specs.Viewing.{AreExported}
 use Rattle.commands.specs.declared.files.Files.{Files}
@@ -31,12 +32,13 @@ abbrev pub IsSeen : List (List ℕ) → Option NamesSeen → Image → Type 0
 IsSeen names None image = IsNotRead image
 IsSeen names (Some seen) image = AreSeenIn names (map holding_of seen.holders.items) image
 
--- the files that are asked for were looked at, and where they follow the disk model, this is told of what they hold
+-- the files that are asked for were only looked at, and where they follow the disk model, this is told of what they hold
 pub record WereLookedAt (world : World) (asked : Asked) (Told : Image → Type 0) : Type 0 where
   pub old : Files
   pub new : Files
   pub free : IsFree world old
   pub place : IsAtPlace asked old
+  pub only_reads : OnlyLooks old.store new.store
   pub told : honest_of new.store → Told (reads_of old.store)
 
 -- each name in a choice stands for the processes that had it, where the trace is read

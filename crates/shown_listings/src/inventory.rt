@@ -1,73 +1,65 @@
-//! What a trace has, as its listing by objects tells it.
-ghost use Rattle.std.specs.Prelude.{None};
+//! What a trace has: whether messages, and when they were.
+ghost use Rattle.std.specs.Prelude.{◌≡◌, [], None};
 
 use crate::clock_text::{Clock, Day, Stamp, stamp_in};
-use crate::counted::{is_drop, kind_in};
-use crate::shown_object::{number, read_object, text_of};
 use crate::zone::{Zone, local_zone};
 use command_line::{Layout, TimeColumn};
-use json::Scratch;
+use entry_codec::EntryRef;
 use std::alloc::{AllocError, Global};
-use std::io::{self, ErrorKind, Write};
+use trace_summary::{Taken, View, ViewFault};
+use trace_text::FactReader;
 
-/// The end of a line.
-const FEED: u8 = b'\n';
-
-/// The numbers and the times of the entries of a listing by objects, which is written to it.
+/// The times of the messages that it takes.
 #[derive(Drop)]
 pub struct Inventory {
     alloc: Global,
-    /// What came of a line that hasn't come whole.
-    line: Vec<u8>,
-    /// What reading takes.
-    scratch: Scratch,
-    numbers: Option<(u64, u64)>,
+    reader: FactReader,
     times: Option<(Stamp, Stamp)>,
-    /// An entry is listed that is no drop record.
     has_message: bool,
-    /// It takes nothing behind such an entry.
+    /// It takes nothing behind the first message.
     is_to_stop: bool,
+    /// Why it takes no more.
+    fault: Option<ViewFault>,
+    taken: Taken,
 }
 
 impl Inventory {
     /// Of nothing. It takes no more than the first message where `is_to_stop` is true.
-    pub fn new(alloc: Global, is_to_stop: bool) -> Inventory {
+    pub fn new(alloc: Global, is_to_stop: bool) -> Inventory
+        ensures taken { result.taken.entries ≡ [] }
+        ensures fault { result.fault ≡ None }
+    {
         Inventory {
             alloc,
-            line: Vec::new(alloc),
-            scratch: Scratch::new(alloc),
-            numbers: None,
+            reader: FactReader::new(alloc),
             times: None,
             has_message: false,
             is_to_stop,
+            fault: None,
+            taken: Taken::new(),
         }
     }
 
-    /// The numbers of the first entry and of the last.
-    pub fn numbers(&self) -> Option<(u64, u64)> {
-        self.numbers
-    }
-
-    /// Whether an entry is no drop record.
+    /// Whether a message came.
     pub fn has_message(&self) -> bool {
         self.has_message
     }
 
-    /// Notes the entry whose object the line is, where it is one's.
-    fn end_line(&mut self) -> Result<(), AllocError> {
-        let object = read_object(self.alloc, &self.line, &mut self.scratch)?;
-        if let Some(number) = number(&object, "n") {
-            let first = self.numbers.map_or(number, |numbers| numbers.0);
-            self.numbers = Some((first, number));
+    /// Notes a message, and its time where it tells one.
+    fn note_message(&mut self, bytes: &[u8]) -> Result<(), ViewFault>
+        ensures taken { self.new.taken.entries ≡ self.old.taken.entries }
+        ensures fault { self.new.fault ≡ self.old.fault }
+    {
+        if self.has_message && self.is_to_stop {
+            return Err(ViewFault::TooMany);
         }
-        if let Some(stamp) = text_of(&object).and_then(|text| stamp_in(text.as_bytes())) {
+        self.has_message = true;
+        if let Some(facts) = self.reader.read(bytes)?
+            && let Some(stamp) = stamp_in(facts.text)
+        {
             let first = self.times.map_or(stamp, |times| times.0);
             self.times = Some((first, stamp));
         }
-        drop(object);
-        let kind = kind_in(&self.line);
-        self.has_message = self.has_message || kind.is_some_and(|kind| !is_drop(kind));
-        self.line.clear();
         Ok(())
     }
 
@@ -109,27 +101,26 @@ fn told(
     String::from_str(alloc, text.as_str().trim())
 }
 
-impl Write for Inventory {
-    ghost contents = { λ _. None };
+impl View for Inventory {
+    ghost seen = { λ inventory. inventory.taken.entries };
 
-    fn write(&mut self, bytes: &[u8]) -> io::Result<usize> {
-        if self.is_to_stop && self.has_message {
-            return Err(io::Error::from(ErrorKind::BrokenPipe));
-        }
-        match bytes.iter().position(|byte| *byte == FEED) {
-            Some(place) => {
-                self.line.extend_from_slice(&bytes[..place])?;
-                self.end_line()?;
-                Ok(place + 1)
-            }
-            None => {
-                self.line.extend_from_slice(bytes)?;
-                Ok(bytes.len())
-            }
-        }
+    ghost failed = { λ inventory. inventory.fault };
+
+    fn fault(&self) -> Option<ViewFault> {
+        self.fault
     }
 
-    fn flush(&mut self) -> io::Result<()> {
+    fn take(&mut self, entry: EntryRef<'_>) -> Result<(), ViewFault> {
+        if let Some(fault) = self.fault {
+            return Err(fault);
+        }
+        if let EntryRef::Message(bytes) = entry
+            && let Err(fault) = self.note_message(bytes)
+        {
+            self.fault = Some(fault);
+            return Err(fault);
+        }
+        self.taken.note(entry);
         Ok(())
     }
 }

@@ -3,6 +3,8 @@ ghost use Rattle.std.specs.Prelude.{◌<◌, Bool, true, ◌≡◌, ◌≤◌, �
 ghost use Rattle.shown_listings.specs.Rows.{shown_byte, unfed_byte, cut_sign, ShowsText, ShowsInRow};
 
 use std::alloc::{AllocError, Global};
+use std::str;
+use unicode_width::UnicodeWidthChar;
 
 /// The end of a line.
 const FEED: u8 = b'\n';
@@ -69,19 +71,27 @@ fn start_of(text: &[u8], place: usize) -> usize
     }
 }
 
-/// How many bytes the first columns of a text have, of so many at most; and how many columns these are.
+/// How many columns of a terminal a character takes: one that governs it is shown as a blank.
+fn columns_of(character: char) -> usize {
+    character.width().unwrap_or(1)
+}
+
+/// How many bytes the first columns of a text have, of so many at most; and how many columns these are. Of bytes that aren't
+/// UTF-8 each takes one.
 fn first_columns(text: &[u8], most: usize) -> (usize, usize)
     ensures { result.0 ≤ length text.now }
 {
+    let Ok(characters) = str::from_utf8(text) else {
+        let count = most.min(text.len());
+        return (count, count);
+    };
     let mut columns = 0usize;
-    for (index, byte) in text.iter().enumerate() {
-        if goes_on(*byte) {
-            continue;
+    for (index, character) in characters.char_indices() {
+        let behind = columns.saturating_add(columns_of(character));
+        if behind > most {
+            return (index.min(text.len()), columns);
         }
-        if columns >= most {
-            return (index, columns);
-        }
-        columns = columns.saturating_add(1);
+        columns = behind;
     }
     (text.len(), columns)
 }
@@ -90,9 +100,9 @@ fn first_columns(text: &[u8], most: usize) -> (usize, usize)
 fn bytes_in_columns(text: &[u8], columns: usize) -> usize
     ensures { result ≤ length text.now }
 {
-    let (front, _) = first_columns(text, columns.saturating_sub(1));
+    let (front, taken) = first_columns(text, columns.saturating_sub(1));
     let rest = &text[front..];
-    if first_columns(rest, columns.min(1)).0 == rest.len() {
+    if first_columns(rest, columns.saturating_sub(taken)).0 == rest.len() {
         text.len()
     } else {
         front

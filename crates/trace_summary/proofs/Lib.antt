@@ -1,10 +1,10 @@
 pub mod CountLemmas
 mod EndsLemmas
+pub mod FeedLemmas
 mod KindLemmas
 mod OpenLemmas
 pub mod RowLemmas
 mod StackLemmas
-mod StreamLemmas
 mod Summing
 mod TableLemmas
 pub mod TakenLemmas

@@ -1,7 +1,6 @@
 -- The entries of two looks.
-use Rattle.std.proofs.Common.{◌≡◌, List, [], ◌∷◌, ◌++◌, refl, ap, arith}
+use Rattle.std.proofs.Common.{◌≡◌, List, [], ◌∷◌, ◌++◌, refl, ap}
 use Rattle.entry_codec.specs.Entries.{Entry, Drop}
-use Rattle.trace_summary.specs.Streams.{FitHeads}
 use Rattle.trace_summary.specs.Taking.{in_two_looks}
 
 -- the later one takes more
@@ -28,8 +27,3 @@ second_look [] [] x y h = ap tail h
 second_look [] (entry ∷ b) x y h = absurd (cc)
 second_look (entry ∷ a) [] x y h = absurd (cc)
 second_look (e ∷ a) (f ∷ b) x y h = second_look a b x y (ap (λ (l : List Entry). tail (tail l)) h)
-
--- those of the first look fit their heads
-pub looks_fit : (before : List Entry) → FitHeads before → FitHeads (in_two_looks before [])
-looks_fit [] fit = (omega arith, tt)
-looks_fit (entry ∷ before) fit = (omega arith, (fit.0, looks_fit before fit.1))

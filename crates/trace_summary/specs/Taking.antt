@@ -1,8 +1,10 @@
 -- The entries that a view took: a code for lists of them, for the ghost field of what keeps them, and those of two looks.
-use Rattle.std.specs.Prelude.{◌≡◌, ◌⊎◌, ℕ, List, [], ◌∷◌, refl}
+use Rattle.std.specs.Prelude.{◌≡◌, ◌⊎◌, ℕ, List, [], ◌∷◌, Option, Some, None, refl}
 use Rattle.std.specs.Coded.{Coded, code_by, coded_ℕ, coded_list, coded⊎}
 use Rattle.std.proofs.Common.{inl, inr}
 use Rattle.entry_codec.specs.Entries.{Entry, Message, Drop}
+use Rattle.trace_summary.specs.declared.view.ViewFault.{ViewFault}
+use Rattle.trace_summary.specs.declared.view.ViewFault.TheVariants.{NoMemory}
 
 abbrev parted : Entry → List ℕ ⊎ ℕ
 parted (Message bytes) = inl bytes
@@ -24,3 +26,8 @@ coded_entries = coded_list (code_by (List ℕ ⊎ ℕ) (coded⊎ (coded_list cod
 abbrev pub in_two_looks : List Entry → List Entry → List Entry
 in_two_looks [] after = Message [] ∷ after
 in_two_looks (entry ∷ before) after = Drop 0 ∷ entry ∷ in_two_looks before after
+
+-- why a view takes no more: it is what it failed by, or there was no memory
+abbrev pub IsWhyStopped : Option ViewFault → ViewFault → Type 0
+IsWhyStopped (Some failed) fault = fault ≡ failed
+IsWhyStopped None fault = fault ≡ NoMemory

@@ -52,7 +52,7 @@ pub struct Drawing<'w, W> {
 
 impl<'w, W: Write> Drawing<'w, W> {
     /// Nothing was drawn yet.
-    pub fn new(alloc: Global, out: Option<&'w mut W>, ends: Ends) -> Drawing<'w, W> {
+    pub fn new(alloc: Global, out: &'w mut W, ends: Ends) -> Drawing<'w, W> {
         Drawing {
             clock: Clock::new(),
             tracks: Tracks::new(alloc),

@@ -37,8 +37,7 @@ const TIMES: &str = "from the first one, in microseconds";
 #[derive(Drop)]
 pub struct Events<'w, W> {
     alloc: Global,
-    /// Where they are written; None for nowhere.
-    out: Option<&'w mut W>,
+    out: &'w mut W,
     /// The text of an event.
     line: Vec<u8>,
     /// An event was written.
@@ -47,7 +46,7 @@ pub struct Events<'w, W> {
 
 impl<'w, W: Write> Events<'w, W> {
     /// None was written yet.
-    pub fn new(alloc: Global, out: Option<&'w mut W>) -> Events<'w, W> {
+    pub fn new(alloc: Global, out: &'w mut W) -> Events<'w, W> {
         Events {
             alloc,
             out,
@@ -104,10 +103,7 @@ impl<'w, W: Write> Events<'w, W> {
 
     /// Writes the line.
     fn write(&mut self) -> Result<(), ViewFault> {
-        let Some(out) = &mut self.out else {
-            return Ok(());
-        };
-        match out.write_all(&self.line) {
+        match self.out.write_all(&self.line) {
             Ok(()) => Ok(()),
             Err(_) => Err(ViewFault::Write),
         }

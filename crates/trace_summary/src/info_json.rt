@@ -8,6 +8,44 @@ use serde_json::{Map, Value, json, put};
 use std::alloc::{AllocError, Global};
 use trace_text::{KIND_COUNT, kind_at};
 
+/// The members of an object.
+type Object = Map<String, Value>;
+
+/// A number, or null.
+fn number(number: Option<u64>) -> Value {
+    match number {
+        Some(number) => Value::from(number),
+        None => Value::Null,
+    }
+}
+
+/// What a trace is called.
+fn kind_of(spec: StoreSpec) -> &'static str {
+    match spec {
+        StoreSpec::File => "file",
+        StoreSpec::Wrap { size: _, count: _ } => "wrap by size",
+        StoreSpec::Timed {
+            millis: _,
+            count: _,
+        } => "wrap by time",
+    }
+}
+
+/// Puts how many runs a wrap keeps, and what ends them.
+fn put_sizes(spec: StoreSpec, alloc: Global, object: &mut Object) -> Result<(), AllocError> {
+    match spec {
+        StoreSpec::File => Ok(()),
+        StoreSpec::Wrap { size, count } => {
+            put(object, alloc, "count", Value::from(count))?;
+            put(object, alloc, "size", Value::from(size))
+        }
+        StoreSpec::Timed { millis, count } => {
+            put(object, alloc, "count", Value::from(count))?;
+            put(object, alloc, "time", Value::from(millis))
+        }
+    }
+}
+
 /// A text, or null.
 fn text(alloc: Global, text: Option<&str>) -> Result<Value, AllocError> {
     match text {
@@ -31,28 +69,60 @@ fn time(alloc: Global, stamp: Option<&str>) -> Result<Value, AllocError> {
 impl Info {
     /// The text of the object.
     pub fn to_json(&self, alloc: Global) -> Result<String, AllocError> {
+        let mut object = Map::new(alloc);
+        self.put_extent(alloc, &mut object)?;
+        self.put_counts(alloc, &mut object)?;
+        self.put_parts(alloc, &mut object)?;
+        self.put_times(alloc, &mut object)?;
+        Value::Object(object).to_string(alloc)
+    }
+
+    /// Puts what it is, and which entries it has.
+    fn put_extent(&self, alloc: Global, object: &mut Object) -> Result<(), AllocError> {
+        put(object, alloc, "trace", self.trace_as_json(alloc)?)?;
+        let state = Value::try_from_str(alloc, self.state())?;
+        put(object, alloc, "state", state)?;
+        put(
+            object,
+            alloc,
+            "entries",
+            number(Some(self.totals().entries)),
+        )?;
+        put(object, alloc, "first", number(Some(self.before().0)))?;
+        put(object, alloc, "last", number(self.last()))
+    }
+
+    /// Puts what was lost, and the bytes.
+    fn put_counts(&self, alloc: Global, object: &mut Object) -> Result<(), AllocError> {
         let totals = self.totals();
-        let (first, lost_before) = self.before();
-        let object = json!(in alloc; {
-            "trace": self.trace_as_json(alloc)?,
-            "state": self.state(),
-            "entries": totals.entries,
-            "first": first,
-            "last": self.last(),
-            "ranges": self.ranges_as_json(alloc)?,
-            "lost_before": lost_before,
-            "drop_records": totals.drops,
-            "lost": totals.lost,
-            "bytes": totals.bytes,
-            "files": self.files_as_json(alloc)?,
-            "kinds": self.kinds_as_json(alloc)?,
-            "first_time_stamp": text(alloc, self.first_stamp())?,
-            "last_time_stamp": text(alloc, self.last_stamp())?,
-            "first_time": time(alloc, self.first_stamp())?,
-            "last_time": time(alloc, self.last_stamp())?,
-            "length": self.length(),
-        })?;
-        object.to_string(alloc)
+        let ranges = Value::from(self.ranges_as_json(alloc)?);
+        put(object, alloc, "ranges", ranges)?;
+        put(object, alloc, "lost_before", number(Some(self.before().1)))?;
+        put(object, alloc, "drop_records", number(Some(totals.drops)))?;
+        put(object, alloc, "lost", number(totals.lost))?;
+        put(object, alloc, "bytes", number(Some(totals.bytes)))
+    }
+
+    /// Puts its files, and the kinds of its messages.
+    fn put_parts(&self, alloc: Global, object: &mut Object) -> Result<(), AllocError> {
+        let files = Value::from(self.files_as_json(alloc)?);
+        put(object, alloc, "files", files)?;
+        let kinds = Value::from(self.kinds_as_json(alloc)?);
+        put(object, alloc, "kinds", kinds)
+    }
+
+    /// Puts when it begins and ends.
+    fn put_times(&self, alloc: Global, object: &mut Object) -> Result<(), AllocError> {
+        let (first, last) = (self.first_stamp(), self.last_stamp());
+        put(object, alloc, "first_time_stamp", text(alloc, first)?)?;
+        put(object, alloc, "last_time_stamp", text(alloc, last)?)?;
+        put(object, alloc, "first_time", time(alloc, first)?)?;
+        put(object, alloc, "last_time", time(alloc, last)?)?;
+        let length = match self.length() {
+            Some(length) => Value::from(length),
+            None => Value::Null,
+        };
+        put(object, alloc, "length", length)
     }
 
     /// What it is: kind, version, and of a wrap what ends its runs and how many it keeps.
@@ -60,22 +130,13 @@ impl Info {
         let Some(newest) = self.parts.last() else {
             return Ok(Value::Null);
         };
-        let version = newest.summary.header.version;
-        match newest.summary.header.spec {
-            StoreSpec::File => json!(in alloc; {"kind": "file", "version": version}),
-            StoreSpec::Wrap { size, count } => json!(in alloc; {
-                "kind": "wrap by size",
-                "version": version,
-                "count": count,
-                "size": size,
-            }),
-            StoreSpec::Timed { millis, count } => json!(in alloc; {
-                "kind": "wrap by time",
-                "version": version,
-                "count": count,
-                "time": millis,
-            }),
-        }
+        let (spec, version) = (newest.summary.header.spec, newest.summary.header.version);
+        let mut object = Map::new(alloc);
+        let kind = Value::try_from_str(alloc, kind_of(spec))?;
+        put(&mut object, alloc, "kind", kind)?;
+        put(&mut object, alloc, "version", Value::from(version))?;
+        put_sizes(spec, alloc, &mut object)?;
+        Ok(Value::Object(object))
     }
 
     /// The numbers of its entries: the first and the last of each range.
@@ -128,13 +189,15 @@ impl Part {
             End::Damaged { place } => Some(place),
             _ => None,
         };
-        json!(in alloc; {
-            "name": &self.name,
-            "generation": summary.header.generation,
-            "entries": summary.counted.tally.entries,
-            "bytes": summary.counted.tally.bytes,
-            "kept": is_kept,
-            "damaged_at": damaged_at,
-        })
+        let mut object = Map::new(alloc);
+        let name = Value::try_from_str(alloc, self.name.as_str())?;
+        put(&mut object, alloc, "name", name)?;
+        let (generation, tally) = (summary.header.generation, &summary.counted.tally);
+        put(&mut object, alloc, "generation", Value::from(generation))?;
+        put(&mut object, alloc, "entries", Value::from(tally.entries))?;
+        put(&mut object, alloc, "bytes", Value::from(tally.bytes))?;
+        put(&mut object, alloc, "kept", Value::from(is_kept))?;
+        put(&mut object, alloc, "damaged_at", number(damaged_at))?;
+        Ok(Value::Object(object))
     }
 }

@@ -4,7 +4,7 @@
 //! and bounds its device calls. An `Info` is made of what the files read as together, and takes what is found in each (`add`).
 //! `fault` answers why the files aren't one whole trace, exactly where they aren't.
 //!
-//! A `View` takes entries one by one; `StreamView` hands it those of an entry stream that is written to it (`into_view`). `Top`
+//! A `View` takes entries one by one; a `ViewFeed` hands it those that an export of a trace's items has (`TookItems`). `Top`
 //! counts functions, processes and kinds exactly, and how many messages waited for a process at most (`IsCounted`), and tells
 //! that in JSON (`WritesTable`); `Folded` counts how often each stack of calls was called (`IsFolded`), and `Perfetto` writes
 //! events for each entry as it takes it, and answers what ends the drawing (`ending`); which functions tell their ends is seen
@@ -17,6 +17,7 @@ mod arrows;
 mod bars;
 mod calls;
 mod cells;
+mod chosen_view;
 mod clock;
 mod drawing;
 mod ends;
@@ -41,9 +42,6 @@ mod rows;
 mod stack_rows;
 mod stacks;
 mod stamp;
-mod stream_laws;
-mod stream_start;
-mod stream_view;
 mod summary;
 mod table;
 mod table_json;
@@ -54,16 +52,16 @@ mod times;
 mod top;
 mod tracks;
 mod view;
+mod view_feed;
 
 pub use ends_seen::EndsSeen;
 pub use folded::Folded;
 pub use info::{Info, Part, Totals};
 pub use open_calls::{Closed, Ended, OpenCall, OpenCalls};
 pub use perfetto::{Ending, Perfetto};
-pub use stream_laws::lawful_fit;
-pub use stream_view::StreamView;
 pub use summary::{TraceSummary, sum_up_trace};
 pub use taken::Taken;
 pub use times::time_in;
 pub use top::Top;
 pub use view::{View, ViewFault};
+pub use view_feed::ViewFeed;

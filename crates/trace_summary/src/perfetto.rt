@@ -31,8 +31,8 @@ pub struct Perfetto<'w, W> {
 }
 
 impl<'w, W: Write> Perfetto<'w, W> {
-    /// No entry was taken yet, but by a first look at which functions tell their ends. Without a writer nothing is written.
-    pub fn new(alloc: Global, out: Option<&'w mut W>, seen: EndsSeen) -> Perfetto<'w, W>
+    /// No entry was taken yet, but by a first look at which functions tell their ends.
+    pub fn new(alloc: Global, out: &'w mut W, seen: EndsSeen) -> Perfetto<'w, W>
         ensures { result.taken.entries ≡ [] }
     {
         Perfetto {

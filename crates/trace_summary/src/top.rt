@@ -2,7 +2,7 @@
 ghost use Rattle.std.specs.Prelude.{◌≡◌, ◌++◌, ◌∷◌, [], None, List, IfErr, IfOk, IsTrue, OnOk, OnErr};
 ghost use Rattle.std.specs.Io.KnownBytes.{Keeps};
 ghost use Rattle.entry_codec.specs.{Entries.Entry, Entries.Message, Seen.lent};
-ghost use Rattle.trace_summary.specs.{Counting.Telling, Counting.telling_of, Counting.tellings, Tallies.IsCounted, Tallies.IsCountedUnless, Tallies.IsCountedUnless-prop, TableObjects.WritesTable, Streams.IsWhyStopped};
+ghost use Rattle.trace_summary.specs.{Counting.Telling, Counting.telling_of, Counting.tellings, Tallies.IsCounted, Tallies.IsCountedUnless, Tallies.IsCountedUnless-prop, TableObjects.WritesTable, Taking.IsWhyStopped};
 
 use crate::taken::Taken;
 use crate::tallies::Tallies;

@@ -7,6 +7,7 @@ ghost use Rattle.trace_summary.specs.declared.view.ViewFault.TheVariants.{NoMemo
 
 use entry_codec::EntryRef;
 use std::alloc::AllocError;
+use trace_items::ConsumerFault;
 
 /// Why a view takes no more.
 #[derive(Clone, Copy)]
@@ -23,6 +24,16 @@ impl From<AllocError> for ViewFault {
 
     fn from(_fault: AllocError) -> Self {
         ViewFault::NoMemory
+    }
+}
+
+impl From<ViewFault> for ConsumerFault {
+    /// A view that takes no more says why itself.
+    fn from(fault: ViewFault) -> Self {
+        match fault {
+            ViewFault::NoMemory => ConsumerFault::NoMemory,
+            ViewFault::TooMany | ViewFault::Write => ConsumerFault::Write,
+        }
     }
 }
 

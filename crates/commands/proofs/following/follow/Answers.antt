@@ -20,7 +20,7 @@ returns-then-is_sealed-clause-followed g c =
     let told = g.W.Write.contents call.new.out in
     let last : Stand = record { files = c.loop.files.store; follower = c.loop.follower; holds = g.W.Write.contents c.loop.watched.writer.now } in
     let look = subst (Sees last (record { files = call.new.files.store; follower = call.new.follower; holds = told })) (c.is_sealed.ensures.end c.if-is_sealed.true) c.in_ok-seen.ensures.seen in
-    sealed_so c.loop.refused _ last call.new.files.store call.new.follower told _ c.end.result c.loop.invariant.0 look c.end.ensures.ok c.end.ensures.err
+    sealed_so c.loop.refused _ last call.new.files.store call.new.follower told _ c.end.result c.loop.invariant.0 look c.end.ensures.ok c.end.ensures.err c.end.ensures.fault
 
 pub refusals-refused-requires : goal.refusals-refused-requires
 refusals-refused-requires g c = λ is. c.in_ok-seen.ensures.few (ap Ok is)

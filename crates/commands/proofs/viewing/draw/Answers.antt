@@ -1,18 +1,12 @@
 use Rattle.std.proofs.Common.{◌∙◌, Err, [], inr, refl, subst, sym}
 use Rattle.std.proofs.lemmas.Result.{err_from_is_err_and}
 use Rattle.stores.specs.FolderStore.{reads_of}
-use Rattle.trace_summary.specs.Streams.{FitHeads, IsWhyStopped}
+use Rattle.trace_summary.specs.Taking.{IsWhyStopped}
 use Rattle.trace_lookup.specs.declared.place.Place.{Place}
 use Rattle.trace_text.specs.Chooses.{asks_where}
 use Rattle.commands.specs.Viewing.{TellsStop, not_shown}
 use Rattle.commands.proofs.Viewed.{all_seen, drawing_so, exported_again, found_again, reads_again, reads_once, reads_twice, shown_so, stopped, whichever}
 use Rattle.commands.proofs.viewing.draw.Goals as goal
-
-pub look_at-requires-clause-fits : goal.look_at-requires-clause-fits
-look_at-requires-clause-fits g c = subst FitHeads (sym c.new-view.ensures) tt
-
-pub look_at-requires-clause-other : goal.look_at-requires-clause-other
-look_at-requires-clause-other g c = subst FitHeads (sym c.new-other.ensures) tt
 
 pub returns-in_err-seen-clause-ended : goal.returns-in_err-seen-clause-ended
 returns-in_err-seen-clause-ended g c =

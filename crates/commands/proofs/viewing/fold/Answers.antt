@@ -3,18 +3,10 @@ use Rattle.std.proofs.KnownBytes.{Keeps-refl}
 use Rattle.std.proofs.lemmas.Result.{err_from_is_err_and}
 use Rattle.stores.specs.FolderStore.{reads_of}
 use Rattle.trace_summary.specs.Taking.{in_two_looks}
-use Rattle.trace_summary.proofs.TakenLemmas.{looks_fit}
-use Rattle.trace_summary.specs.Streams.{FitHeads}
 use Rattle.trace_text.specs.Chooses.{asks_where}
 use Rattle.commands.specs.Viewing.{HasSeen, not_shown}
 use Rattle.commands.proofs.Viewed.{all_seen, found_again, looks_seen, of_another, reads_again, reads_once, reads_twice, shown_so, stacks_so}
 use Rattle.commands.proofs.viewing.fold.Goals as goal
-
-pub look_at-requires-clause-fits : goal.look_at-requires-clause-fits
-look_at-requires-clause-fits g c = rw (c.new-view.ensures.before, c.new-view.ensures.taken) (looks_fit c.in_ok-seen.seen.taken.entries c.in_ok-seen.ensures.fits)
-
-pub look_at-requires-clause-other : goal.look_at-requires-clause-other
-look_at-requires-clause-other g c = rw (c.new-other.ensures.before, c.new-other.ensures.taken, c.new.ensures.taken) (looks_fit [] tt)
 
 pub returns-in_err-seen-clause-ended : goal.returns-in_err-seen-clause-ended
 returns-in_err-seen-clause-ended g c =
@@ -37,7 +29,7 @@ returns-clause-ended g c =
     let entries = folded.taken.entries in
     let lines = c.write.ensures in
     let out = c.write_out.ensures in
-    let start : in_two_looks c.new-view.result.before.entries c.new-view.result.taken.entries ≡ in_two_looks seen [] = rw (c.new-view.ensures.before, c.new-view.ensures.taken) refl in
+    let start : in_two_looks c.new.result.before.entries c.new.result.taken.entries ≡ in_two_looks seen [] = rw (c.new.ensures.before, c.new.ensures.taken) refl in
     reads_twice _ _ _ c.write_out.result c.in_ok-seen.ensures.viewed c.in_ok-folded.ensures.viewed (λ same first second.
     let both = looks_seen asks image (reads_of c.see_ends.new.files.store) seen before entries same (all_seen asks image [] seen refl first.0) (subst (λ l. HasSeen asks (reads_of c.see_ends.new.files.store) l (in_two_looks before entries)) start second.0) in
     shown_so _ _ _ asks _ _ image entries c.write.result c.write_out.result (stacks_so asks image _ _ _ before entries folded.stacks c.write.result both.0 lines.calls lines.ordered lines.lines out.stays) out.well out.failed both.1)

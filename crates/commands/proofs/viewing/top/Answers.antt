@@ -1,19 +1,12 @@
-use Rattle.std.proofs.Common.{Err, inr, subst, sym}
+use Rattle.std.proofs.Common.{Err, inr, subst}
 use Rattle.std.proofs.KnownBytes.{Keeps-refl}
 use Rattle.std.proofs.lemmas.Result.{err_from_is_err_and}
 use Rattle.trace_text.specs.Chooses.{asks_where}
 use Rattle.trace_lookup.specs.declared.place.Place.{Place}
-use Rattle.trace_summary.specs.Streams.{FitHeads}
 use Rattle.trace_summary.specs.declared.top.Top.{Top}
 use Rattle.commands.specs.Viewing.{TellsStop, not_shown}
 use Rattle.commands.proofs.Viewed.{all_seen, reads_on, shown_so, stopped, table_so, tells_on}
 use Rattle.commands.proofs.viewing.top.Goals as goal
-
-pub look_at-requires-clause-fits : goal.look_at-requires-clause-fits
-look_at-requires-clause-fits g c = subst FitHeads (sym c.new.ensures.seen) tt
-
-pub look_at-requires-clause-other : goal.look_at-requires-clause-other
-look_at-requires-clause-other g c = subst FitHeads (sym c.new-2.ensures.seen) tt
 
 pub returns-in_err-top-clause-ended : goal.returns-in_err-top-clause-ended
 returns-in_err-top-clause-ended g c =

@@ -1,14 +1,10 @@
-use Rattle.std.proofs.Common.{◌≡◌, map, string_bytes, subst, sym}
+use Rattle.std.proofs.Common.{◌≡◌, map, string_bytes, subst}
 use Rattle.std.specs.Prelude.{OnOk}
 use Rattle.trace_text.specs.Choosing.{asks_of}
-use Rattle.trace_summary.specs.Streams.{FitHeads}
-use Rattle.prepared_requests.specs.Names.{as_entries, choice_meant, holding_of}
+use Rattle.prepared_requests.specs.Names.{choice_meant, holding_of}
 use Rattle.prepared_requests.specs.NamesLooked.{IsSeen, WereLookedAt, not_read}
-use Rattle.prepared_requests.proofs.NamesLooking.{named_so, names_fit}
+use Rattle.prepared_requests.proofs.NamesLooking.{named_so}
 use Rattle.prepared_requests.proofs.names.look_up.Goals as goal
-
-pub see_names-requires : goal.see_names-requires
-see_names-requires g c = subst (λ names. FitHeads (as_entries names)) (sym c.in_ok-names.ensures) (names_fit (asks_of c.args.choice.now))
 
 pub returns-in-Some : goal.returns-in-Some
 returns-in-Some g c =
