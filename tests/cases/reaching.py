@@ -75,7 +75,7 @@ RUNTIME = {
     "dbgrec": ["main"],
     "prepared_requests": ["advice", "ahead", "ahead_import", "input", "input_folder", "looking", "names"],
     "commands": ["awaiting", "crowded", "files", "serving", "sites", "state", "streaming", "unshown"],
-    "shown_listings": ["console", "counted", "inlet", "inventory", "listing", "outlet", "screen", "zone"],
+    "shown_listings": ["console", "counted", "inlet", "listing", "outlet", "screen", "told_times", "zone"],
     "stores": ["failure_mark", "folder", "folder_store", "named_file", "named_files"],
     "faults": ["absence"],
     "trace_lookup": ["lookup", "room", "spot"],

@@ -313,6 +313,9 @@ def times_and_texts_choose_rows(program):
     shows(program, rows(chosen=(3, 4)) + END, "--since", "12:04:31.123459")
     shows(program, rows(chosen=(0, 1, 2, 3)) + END, "--until", "12:04:32")
     shows(program, rows(chosen=(1, 2)) + END, "--since", "1970-01-01T12:04:31.123457", "--until", "1970-01-01T12:04:31.123458")
+    # as rows tell them, and without seconds
+    shows(program, rows(chosen=(3, 4)) + END, "--since", "1970-01-01 12:04:31.123459")
+    shows(program, rows() + END, "--since", "12:04", "--until", "12:05")
     shows(program, rows(chosen=(0, 4)) + END, "--grep", "m,f")
 
 
@@ -680,6 +683,9 @@ def a_wrong_word_is_told_with_what_may_stand_there(program):
         (("--since", "-5"), "error: invalid value '-5' for '--since or --until <TIME>'"),
         (("--until", "5m"), "error: invalid value '5m' for '--since or --until <TIME>'"),
         (("--until", "1970-02-29T00:00:00"), "error: invalid value '1970-02-29T00:00:00' for '--since or --until <TIME>'"),
+        # an offset from UTC would be passed over
+        (("--since", "12:04:31+02:00"), "error: invalid value '12:04:31+02:00' for '--since or --until <TIME>'"),
+        (("--since", "1970-01-01T12:04:31Z"), "error: invalid value '1970-01-01T12:04:31Z' for '--since or --until <TIME>'"),
         (("--width", "0"), "error: invalid value '0' for '--width <N>'"),
         (("--last", "0"), "error: invalid value '0' for '--last <N>'"),
         (("--color", "red"), "error: invalid value 'red' for '--color <WHEN>'"),

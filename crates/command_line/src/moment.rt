@@ -1,6 +1,7 @@
 //! Moments, as a command line says them.
 
 use crate::layout::Moment;
+use jiff_fmt::temporal::{parse_date, parse_time};
 
 /// The nanoseconds of a second.
 const SECOND: i64 = 1_000_000_000;
@@ -48,61 +49,28 @@ fn seconds_in(text: &str, most: usize) -> Option<(i64, i64)> {
     }
 }
 
-/// The nanoseconds since midnight of HH:MM:SS, which may have digits behind a point.
+/// Whether a text has nothing but digits and these signs.
+fn has_only(text: &str, signs: &[u8]) -> bool {
+    text.bytes()
+        .all(|byte| byte.is_ascii_digit() || signs.contains(&byte))
+}
+
+/// The nanoseconds since midnight of a time of day. An offset from UTC is none.
 fn time_of_day(text: &str) -> Option<i64> {
-    let (hours, rest) = text.split_once(':')?;
-    let (minutes, rest) = rest.split_once(':')?;
-    let (hours, minutes) = (digits(hours, 2)?, digits(minutes, 2)?);
-    let (seconds, nanos) = seconds_in(rest, 2)?;
-    if hours > 23 || minutes > 59 || seconds > 59 {
+    if !has_only(text, b":.") {
         return None;
     }
-    let minutes = hours.checked_mul(60)?.checked_add(minutes)?;
-    let seconds = minutes.checked_mul(60)?.checked_add(seconds)?;
-    seconds.checked_mul(SECOND)?.checked_add(nanos)
+    let time = parse_time(text.as_bytes()).ok()?;
+    i64::try_from(time.to_nanosecond()).ok()
 }
 
-/// Whether a year has a day more than others.
-fn is_leap(year: i64) -> bool {
-    year % 4 == 0 && (year % 100 != 0 || year % 400 == 0)
-}
-
-/// The days of each month of a year.
-fn months_of(year: i64) -> [i64; 12] {
-    let february = if is_leap(year) { 29 } else { 28 };
-    [31, february, 31, 30, 31, 30, 31, 31, 30, 31, 30, 31]
-}
-
-/// The days from the beginning of 1970 to that of a year from 1970 on.
-fn days_before(year: i64) -> Option<i64> {
-    let past = year.checked_sub(1)?;
-    let leaps = (past / 4).checked_sub(past / 100)?.checked_add(past / 400)?;
-    year.checked_sub(1970)?
-        .checked_mul(365)?
-        .checked_add(leaps.checked_sub(477)?)
-}
-
-/// The days from the beginning of 1970 to YYYY-MM-DD. None where that is no day, or is before.
+/// The nanoseconds from the beginning of 1970 to that of a day.
 fn day_in(text: &str) -> Option<i64> {
-    let (year, rest) = text.split_once('-')?;
-    let (month, day) = rest.split_once('-')?;
-    let (year, month, day) = (digits(year, 4)?, digits(month, 2)?, digits(day, 2)?);
-    if year < 1970 || month < 1 || day < 1 {
+    if !has_only(text, b"-") {
         return None;
     }
-    let mut days = days_before(year)?;
-    for (index, length) in months_of(year).iter().enumerate() {
-        let number = i64::try_from(index).ok()?.checked_add(1)?;
-        if number == month {
-            return if day > *length {
-                None
-            } else {
-                days.checked_add(day.checked_sub(1)?)
-            };
-        }
-        days = days.checked_add(*length)?;
-    }
-    None
+    let day = parse_date(text.as_bytes()).ok()?.to_unix_epoch_day();
+    i64::from(day).checked_mul(DAY)?.checked_mul(SECOND)
 }
 
 /// The units of a time that is told back from now, in seconds.
@@ -124,12 +92,12 @@ fn nanos_in(text: &str) -> Option<i64> {
     seconds.checked_mul(SECOND)?.checked_add(nanos)
 }
 
-/// HH:MM:SS of each day, or YYYY-MM-DDTHH:MM:SS.
+/// HH:MM:SS of each day, or YYYY-MM-DDTHH:MM:SS, also with a blank in the place of the T, as rows have it.
 fn dated_in(text: &str) -> Option<Moment> {
-    match text.split_once('T') {
+    match text.split_once('T').or_else(|| text.split_once(' ')) {
         Some((day, time)) => {
-            let nanos = day_in(day)?.checked_mul(DAY)?.checked_mul(SECOND)?;
-            Some(Moment::Dated(nanos.checked_add(time_of_day(time)?)?))
+            let nanos = day_in(day)?.checked_add(time_of_day(time)?)?;
+            Some(Moment::Dated(nanos))
         }
         None => Some(Moment::OfDay(time_of_day(text)?)),
     }

@@ -15,19 +15,19 @@ use Rattle.trace_client.specs.Forms.{as_bytes}
 use Rattle.trace_client.specs.SoFar.{Point, point_at}
 use Rattle.foreign_files.specs.Standing.{IsStanding}
 use Rattle.foreign_files.specs.declared.standing.Standing.TheVariants as standings
-use Rattle.trace_summary.specs.Acts.{acts_in}
-use Rattle.trace_summary.specs.Counting.{tellings}
-use Rattle.trace_summary.specs.Drawings.{ending}
-use Rattle.trace_summary.specs.Stacks.{AreOrdered, calls_at, calls_of, lines_of}
-use Rattle.trace_summary.specs.Feeding.{by_feed}
-use Rattle.trace_summary.specs.Taking.{IsWhyStopped, in_two_looks}
-use Rattle.trace_summary.proofs.TakenLemmas.{first_look, looks-append, second_look}
-use Rattle.trace_summary.specs.TableObjects.{WritesTable}
-use Rattle.trace_summary.specs.Tallies.{IsCounted}
-use Rattle.trace_summary.specs.declared.stacks.Stacks.{Stacks}
-use Rattle.trace_summary.specs.declared.tallies.Tallies.{Tallies}
-use Rattle.trace_summary.specs.declared.view.ViewFault.{ViewFault}
-use Rattle.trace_summary.specs.declared.view.ViewFault.TheVariants as views
+use Rattle.trace_views.specs.Acts.{acts_in}
+use Rattle.trace_views.specs.Counting.{tellings}
+use Rattle.trace_views.specs.Drawings.{ending}
+use Rattle.trace_views.specs.Stacks.{AreOrdered, calls_at, calls_of, lines_of}
+use Rattle.trace_views.specs.Feeding.{by_feed}
+use Rattle.trace_views.specs.Taking.{IsWhyStopped, in_two_looks}
+use Rattle.trace_views.proofs.TakenLemmas.{first_look, looks-append, second_look}
+use Rattle.trace_views.specs.TableObjects.{WritesTable}
+use Rattle.trace_views.specs.Tallies.{IsCounted}
+use Rattle.trace_views.specs.declared.stacks.Stacks.{Stacks}
+use Rattle.trace_views.specs.declared.tallies.Tallies.{Tallies}
+use Rattle.trace_views.specs.declared.view.ViewFault.{ViewFault}
+use Rattle.trace_views.specs.declared.view.ViewFault.TheVariants as views
 use Rattle.trace_listings.specs.Listings as stores
 use Rattle.trace_reader.specs.Handing.{TookStore, blank, holds}
 use Rattle.faults.specs.declared.complaint.Complaint.{Complaint}

@@ -9,19 +9,19 @@ use Rattle.trace_text.specs.Choosing.{Asks}
 use Rattle.trace_client.specs.Forms.{as_bytes}
 use Rattle.foreign_files.specs.Standing.{IsStanding}
 use Rattle.foreign_files.specs.declared.standing.Standing.TheVariants as standings
-use Rattle.trace_summary.specs.Counting.{tellings}
-use Rattle.trace_summary.specs.Tallies.{IsCounted}
-use Rattle.trace_summary.specs.Acts.{acts_in}
-use Rattle.trace_summary.specs.Drawings.{ending}
-use Rattle.trace_summary.specs.Stacks.{AreOrdered, calls_at, calls_of, lines_of}
-use Rattle.trace_summary.specs.TableObjects.{WritesTable}
-use Rattle.trace_summary.specs.declared.ends_seen.EndsSeen.{EndsSeen}
-use Rattle.trace_summary.specs.declared.folded.Folded.{Folded}
-use Rattle.trace_summary.specs.declared.stacks.Stacks.{Stacks}
-use Rattle.trace_summary.specs.declared.tallies.Tallies.{Tallies}
-use Rattle.trace_summary.specs.declared.top.Top.{Top}
-use Rattle.trace_summary.specs.declared.view.ViewFault.{ViewFault}
-use Rattle.trace_summary.specs.declared.view.ViewFault.TheVariants as views
+use Rattle.trace_views.specs.Counting.{tellings}
+use Rattle.trace_views.specs.Tallies.{IsCounted}
+use Rattle.trace_views.specs.Acts.{acts_in}
+use Rattle.trace_views.specs.Drawings.{ending}
+use Rattle.trace_views.specs.Stacks.{AreOrdered, calls_at, calls_of, lines_of}
+use Rattle.trace_views.specs.TableObjects.{WritesTable}
+use Rattle.trace_views.specs.declared.ends_seen.EndsSeen.{EndsSeen}
+use Rattle.trace_views.specs.declared.folded.Folded.{Folded}
+use Rattle.trace_views.specs.declared.stacks.Stacks.{Stacks}
+use Rattle.trace_views.specs.declared.tallies.Tallies.{Tallies}
+use Rattle.trace_views.specs.declared.top.Top.{Top}
+use Rattle.trace_views.specs.declared.view.ViewFault.{ViewFault}
+use Rattle.trace_views.specs.declared.view.ViewFault.TheVariants as views
 use Rattle.trace_listings.specs.Listings.{WritesStore}
 use Rattle.trace_reader.specs.Reading.{IsWhyNotRead}
 use Rattle.trace_reader.specs.declared.fault.ReadFault.{ReadFault}

@@ -36,10 +36,18 @@ fn is_own(rt: &HostRuntime, place: &Place<'_>) -> Result<bool, AllocError> {
     Ok(matches!(look(&mut store), Ok(Standing::Absent | Standing::Ours)))
 }
 
+/// Whether nothing stands in the way of the first file of a place.
+fn is_free(rt: &HostRuntime, place: &Place<'_>) -> Result<bool, AllocError> {
+    let name = place.name(rt.alloc(), 0)?;
+    let advice = in_the_way(rt, name.as_str())?;
+    let is_free = advice.is_none();
+    drop(advice);
+    Ok(is_free)
+}
+
 /// Whether no trace is begun, and nothing stands in the way of one.
 fn is_to_begin(rt: &HostRuntime, place: &Place<'_>) -> Result<bool, AllocError> {
-    let name = place.name(rt.alloc(), 0)?;
-    Ok(in_the_way(rt, name.as_str())?.is_none() && is_blank(rt, place)? && is_own(rt, place)?)
+    Ok(is_free(rt, place)? && is_blank(rt, place)? && is_own(rt, place)?)
 }
 
 /// Waits until a trace is begun, or something else stands where it is asked for. Standard error says that it waits. Answers

@@ -22,6 +22,7 @@ mod files;
 mod following;
 mod importing;
 mod informing;
+mod inventory;
 mod later;
 mod live;
 mod opening;

@@ -302,7 +302,9 @@ fn files_to_follow<'a, R: Wait>(
 fn ended_well(told: Option<Result<(), Complaint>>) -> bool
     ensures { result ≡ true → told ≡ Some (Ok tt) }
 {
-    matches!(told, Some(Ok(())))
+    let is_well = matches!(told, Some(Ok(())));
+    drop(told);
+    is_well
 }
 
 /// What is shown of a trace that is followed, where that is its last rows and then what is added: from near the end on, where

@@ -1,14 +1,15 @@
 //! A trace of which nothing is shown that is asked for: what it has.
 
 use crate::files::Files;
+use crate::inventory::Inventory;
 use crate::live::hand_live;
 use command_line::Shown as Asking;
-use shown_listings::{Console, Inventory};
+use shown_listings::{Console, times_told};
 use std::alloc::{AllocError, Global};
 use std::fmt;
 use trace_lookup::Shown;
-use trace_summary::ViewFeed;
 use trace_text::{Choice, Filter, FunctionAsked};
+use trace_views::ViewFeed;
 
 /// The most parts of a choice that are sought.
 const MOST: usize = 8;
@@ -120,8 +121,9 @@ fn tell_all(rt: &HostRuntime, files: &Files<'_>, asking: &Asking) -> Result<bool
         let _ = eprintln!(rt; "dbgrec: {name}: no message is shown: it has no entry");
         return Ok(false);
     };
-    match found.times(rt, asking.layout.as_ref())? {
-        Some((from, to)) => {
+    match found.times {
+        Some(times) => {
+            let (from, to) = times_told(rt, times, asking.layout.as_ref())?;
             let (from, to) = (from.as_str(), to.as_str());
             let _ = eprintln!(rt;
                 "dbgrec: {name}: no message is shown: it has entries {first} to {last}, from {from} to {to}"
@@ -140,7 +142,7 @@ fn tell_all(rt: &HostRuntime, files: &Files<'_>, asking: &Asking) -> Result<bool
 fn tell_part(rt: &HostRuntime, files: &Files<'_>, sought: Sought<'_>) -> Result<(), AllocError> {
     let choice = choice_of(rt.alloc(), sought)?;
     let (found, _) = inventory(rt, files, Some(&choice), true)?;
-    let some = if found.has_message() {
+    let some = if found.has_message {
         "there are messages"
     } else {
         "there is no message"

@@ -17,8 +17,8 @@ use script_runner::SimFault;
 use std::io::{self, Write};
 use trace_listings::Watched;
 use trace_reader::Host;
-use trace_summary::{EndsSeen, Folded, Perfetto, Top, View, ViewFault, ViewFeed};
 use trace_text::Choice;
+use trace_views::{EndsSeen, Folded, Perfetto, Top, View, ViewFault, ViewFeed};
 
 /// What is told where a view takes no more: too many rows with the name of the trace, also where there is no memory for it.
 fn stopped(files: &Files<'_>, fault: ViewFault) -> Complaint

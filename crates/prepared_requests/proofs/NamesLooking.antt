@@ -8,8 +8,8 @@ use Rattle.stores.specs.FolderStore.{honest_of, reads_of}
 use Rattle.command_line.specs.declared.request.Asked.{Asked}
 use Rattle.trace_text.specs.Choosing.{asks_of}
 use Rattle.trace_text.specs.declared.choice.Choice.{Choice}
-use Rattle.trace_summary.specs.Taking.{in_two_looks}
-use Rattle.trace_summary.proofs.TakenLemmas.{first_look, looks-append, second_look}
+use Rattle.trace_views.specs.Taking.{in_two_looks}
+use Rattle.trace_views.proofs.TakenLemmas.{first_look, looks-append, second_look}
 use Rattle.commands.specs.Commands.{IsFree}
 use Rattle.commands.specs.Files.{OnlyLooks}
 use Rattle.commands.specs.Sites.{IsAtPlace}

@@ -12,7 +12,7 @@ use commands::{Files, hand_live};
 use shown_listings::Console;
 use std::alloc::AllocError;
 use trace_lookup::find;
-use trace_summary::{View, ViewFeed};
+use trace_views::{View, ViewFeed};
 
 /// What the files of a trace tell of names; None where they aren't read to their end.
 fn look_at(

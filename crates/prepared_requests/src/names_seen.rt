@@ -2,14 +2,14 @@
 
 ghost use Rattle.std.specs.Prelude.{◌≡◌, [], map, string_bytes, None, OnOk};
 ghost use Rattle.entry_codec.specs.{Entries.Message, Seen.lent};
-ghost use Rattle.trace_summary.specs.Taking.{in_two_looks};
+ghost use Rattle.trace_views.specs.Taking.{in_two_looks};
 ghost use Rattle.prepared_requests.specs.Names.{AreTold, AreTold-prop, as_entries, holding_in, holding_of, with_holding};
 
 use crate::holder::{Holder, note_registered};
 use entry_codec::EntryRef;
 use std::alloc::{AllocError, Global};
-use trace_summary::{Taken, View, ViewFault};
 use trace_text::FactReader;
+use trace_views::{Taken, View, ViewFault};
 
 /// The processes that the entries that it took tell to be registered under the names that are asked for.
 #[derive(Drop)]

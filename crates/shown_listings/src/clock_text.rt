@@ -5,59 +5,13 @@ use command_line::TimeColumn;
 use jiff_core::civil::DateTime;
 use std::alloc::{AllocError, Global};
 use std::fmt;
-use trace_summary::time_in;
+use trace_times::Time;
 
 /// The nanoseconds of a second.
 const SECOND: u64 = 1_000_000_000;
 
 /// The nanoseconds of a day.
 const DAY: i64 = 86_400_000_000_000;
-
-/// The time that a message tells, in nanoseconds.
-#[derive(Clone, Copy)]
-pub enum Stamp {
-    /// Since the beginning of 1970.
-    Wall(i64),
-    /// By a monotonic clock.
-    Monotonic(i64),
-}
-
-impl Stamp {
-    pub fn nanos(self) -> i64 {
-        match self {
-            Stamp::Wall(nanos) | Stamp::Monotonic(nanos) => nanos,
-        }
-    }
-
-    /// As the clocks of a zone tell it.
-    pub fn told_in(self, zone: &Zone) -> Stamp {
-        match self {
-            Stamp::Wall(nanos) => Stamp::Wall(zone.told_at(nanos)),
-            Stamp::Monotonic(_) => self,
-        }
-    }
-}
-
-/// The time of a message with this text; None where it tells none.
-pub fn stamp_in(text: &[u8]) -> Option<Stamp> {
-    let nanos = time_in(text)?;
-    Some(if has_three_members(text) {
-        Stamp::Wall(nanos)
-    } else {
-        Stamp::Monotonic(nanos)
-    })
-}
-
-/// Whether the last member of a term is a tuple of three integers.
-fn has_three_members(text: &[u8]) -> bool {
-    let Some(inside) = text.strip_suffix(b"}}") else {
-        return false;
-    };
-    let Some(start) = inside.iter().rposition(|byte| *byte == b'{') else {
-        return false;
-    };
-    inside[start..].iter().filter(|byte| **byte == b',').count() == 2
-}
 
 /// A day, by how many come between it and the first of 1970.
 #[derive(Clone, Copy, PartialEq, Eq)]
@@ -122,10 +76,10 @@ impl fmt::Display for Seconds {
 }
 
 /// How finely the times of a stamp are told.
-pub fn fineness_of(stamp: Stamp) -> Fineness {
+pub fn fineness_of(stamp: Time) -> Fineness {
     match stamp {
-        Stamp::Wall(_) => Fineness::Micros,
-        Stamp::Monotonic(_) => Fineness::Nanos,
+        Time::Wall(_) => Fineness::Micros,
+        Time::Monotonic(_) => Fineness::Nanos,
     }
 }
 
@@ -207,11 +161,11 @@ impl Clock {
     }
 
     /// What passed since the first time of its clock, which this may be.
-    pub fn since_first(&mut self, stamp: Stamp, may_be_first: bool) -> i64 {
+    pub fn since_first(&mut self, stamp: Time, may_be_first: bool) -> i64 {
         let nanos = stamp.nanos();
         let had = match stamp {
-            Stamp::Wall(_) => &mut self.wall,
-            Stamp::Monotonic(_) => &mut self.monotonic,
+            Time::Wall(_) => &mut self.wall,
+            Time::Monotonic(_) => &mut self.monotonic,
         };
         if may_be_first {
             had.first = Some(had.first.unwrap_or(nanos));
@@ -249,18 +203,18 @@ impl Clock {
         &mut self,
         text: &mut String,
         column: TimeColumn,
-        stamp: Stamp,
+        stamp: Time,
         zone: &Zone,
     ) -> Result<(), AllocError> {
         let nanos = stamp.nanos();
         let had = match stamp {
-            Stamp::Wall(_) => &mut self.wall,
-            Stamp::Monotonic(_) => &mut self.monotonic,
+            Time::Wall(_) => &mut self.wall,
+            Time::Monotonic(_) => &mut self.monotonic,
         };
         let passed = had.passed(column, nanos);
         had.note(nanos);
         match (stamp, column) {
-            (Stamp::Wall(nanos), TimeColumn::Clock) => self.put_of_day(text, zone.told_at(nanos)),
+            (Time::Wall(nanos), TimeColumn::Clock) => self.put_of_day(text, zone.told_at(nanos)),
             _ => {
                 let time = signed(*text.allocator(), passed, fineness_of(stamp))?;
                 self.columns = TIME;

@@ -1,5 +1,5 @@
 //! Listings, shown as they are or up to an empty line.
-ghost use Rattle.std.specs.Prelude.{◌≡◌, ◌++◌, ℕ, List, [], None, Some, Option, Result, OnOk, IfErr, drop, true};
+ghost use Rattle.std.specs.Prelude.{◌≡◌, ◌++◌, ℕ, List, [], None, Ok, Some, Option, Result, OnOk, IfErr, drop, true};
 ghost use Rattle.shown_listings.specs.Rows.{given_lines, laid_contents};
 ghost use Rattle.std.specs.Io.KnownBytes.{append_known, Appends, Keeps};
 ghost use Rattle.script_runner.specs.declared.fault.SimFault.TheVariants as faults;
@@ -95,6 +95,7 @@ fn told_of<W: Write>(
     ensures kept { Keeps (W.contents output.old) (W.contents output.new) }
 {
     if is_ended {
+        drop(done);
         return write_out(output);
     }
     done
@@ -156,8 +157,14 @@ fn told_with(done: Result<(), Complaint>, end: RowsEnd) -> Result<(), Complaint>
 {
     match end {
         RowsEnd::Written => done,
-        RowsEnd::Unwritten => Err(Complaint::from(SimFault::Write)),
-        RowsEnd::NoMemory => Err(Complaint::from(SimFault::NoMemory)),
+        RowsEnd::Unwritten => {
+            drop(done);
+            Err(Complaint::from(SimFault::Write))
+        }
+        RowsEnd::NoMemory => {
+            drop(done);
+            Err(Complaint::from(SimFault::NoMemory))
+        }
     }
 }
 
@@ -318,6 +325,13 @@ fn write_text<W: Write>(text: Vec<u8>, output: &mut W) -> Result<(), Complaint>
     write_out(output)
 }
 
+/// Whether a listing and its rows ended well.
+fn ended_well(done: &Result<(), Complaint>, ended: RowsEnd) -> bool
+    ensures { result ≡ true → (done.now ≡ Ok tt) × (ended ≡ RowsEnd.Written) }
+{
+    done.is_ok() && matches!(ended, RowsEnd::Written)
+}
+
 /// Lists what is shown, which is asked for from this entry on, laid out for a person. Where the listing doesn't end well, or has
 /// fewer rows of that entry and those behind it than are asked for, None is answered, and nothing is written.
 fn lay_out_from<S: Listable, R: Wait, I: Read + Drop, W: Output>(
@@ -339,9 +353,12 @@ fn lay_out_from<S: Listable, R: Wait, I: Read + Drop, W: Output>(
     let mut laid = LaidOut::new(rt.alloc(), Vec::new(rt.alloc()), look, rows);
     let (done, left) = listing.list(waiter, shown, input, &mut laid);
     let (ended, text) = laid.end();
-    match (done, ended) {
-        (Ok(()), RowsEnd::Written) => (Some(write_text(text, output)), left),
-        _ => (None, left),
+    let is_whole = ended_well(&done, ended);
+    drop(done);
+    if is_whole {
+        (Some(write_text(text, output)), left)
+    } else {
+        (None, left)
     }
 }
 

@@ -2,9 +2,9 @@
 ghost use Rattle.std.specs.Prelude.{◌≡◌};
 ghost use Rattle.shown_listings.specs.Listings.{rule_from};
 
-use crate::clock_text::Stamp;
 use command_line::{Layout, Moment, TimeColumn};
 use std::cmp::Ordering;
+use trace_times::Time;
 
 /// What rows are written to.
 #[derive(Clone, Copy)]
@@ -50,7 +50,7 @@ const DAY: i64 = 86_400_000_000_000;
 #[derive(Clone, Copy)]
 pub struct RowTime {
     /// As the clocks of the zone tell it.
-    pub told: Stamp,
+    pub told: Time,
     /// The nanoseconds since the first message that is shown where nothing is asked of times.
     pub passed: i64,
     /// The time when the listing began, as the clocks of the zone tell it, where it is known.
@@ -62,12 +62,12 @@ impl RowTime {
     fn compared(self, moment: Moment) -> Option<Ordering> {
         match (self.told, moment) {
             (_, Moment::SinceFirst(moment)) => Some(self.passed.cmp(&moment)),
-            (Stamp::Wall(nanos), Moment::OfDay(moment)) => Some(nanos.rem_euclid(DAY).cmp(&moment)),
-            (Stamp::Wall(nanos), Moment::Dated(moment)) => Some(nanos.cmp(&moment)),
-            (Stamp::Wall(nanos), Moment::Ago(moment)) => {
+            (Time::Wall(nanos), Moment::OfDay(moment)) => Some(nanos.rem_euclid(DAY).cmp(&moment)),
+            (Time::Wall(nanos), Moment::Dated(moment)) => Some(nanos.cmp(&moment)),
+            (Time::Wall(nanos), Moment::Ago(moment)) => {
                 Some(nanos.cmp(&self.began?.saturating_sub(moment)))
             }
-            (Stamp::Monotonic(nanos), Moment::Monotonic(moment)) => Some(nanos.cmp(&moment)),
+            (Time::Monotonic(nanos), Moment::Monotonic(moment)) => Some(nanos.cmp(&moment)),
             _ => None,
         }
     }

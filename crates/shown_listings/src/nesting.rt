@@ -2,7 +2,7 @@
 
 use std::alloc::{AllocError, Global};
 use std::collections::HashMap;
-use trace_summary::{OpenCall, OpenCalls};
+use trace_times::{OpenCall, OpenCalls};
 
 /// What a message tells, as its object has it.
 #[derive(Clone, Copy)]

@@ -2,7 +2,7 @@
 ghost use Rattle.std.specs.Prelude.{◌≡◌, ◌||◌, ℕ, List, true, false, is_some, IfOk, MatchOption};
 ghost use Rattle.shown_listings.specs.Rows.{IsRow, MayLack, ShowsInRow, is_end};
 
-use crate::clock_text::{Clock, Day, Fineness, Seconds, Stamp, fineness_of, stamp_in};
+use crate::clock_text::{Clock, Day, Fineness, Seconds, fineness_of};
 use crate::counted::kind_in;
 use crate::look::{Look, RowTime};
 use crate::nesting::{Nested, Nesting, Told};
@@ -13,6 +13,7 @@ use crate::shown_object::{member, number, read_object, text_of};
 use crate::zone::Zone;
 use json::{Scratch, Value};
 use std::alloc::{AllocError, Global};
+use trace_times::{Time, time_in};
 
 /// The columns by which a row goes in for each open call.
 const STEP: usize = 2;
@@ -134,7 +135,7 @@ fn put_blanks(text: &mut String, count: usize) -> Result<(), AllocError> {
 }
 
 /// Appends the time since a call, where it is told.
-fn put_took(text: &mut String, nested: Nested, stamp: Option<Stamp>) -> Result<(), AllocError> {
+fn put_took(text: &mut String, nested: Nested, stamp: Option<Time>) -> Result<(), AllocError> {
     if let Some(nanos) = nested.took {
         let fineness = stamp.map_or(Fineness::Micros, fineness_of);
         let took = Seconds { nanos, fineness };
@@ -213,7 +214,7 @@ impl RowMaker {
     }
 
     /// Notes when a message with this text is.
-    fn note_time(&mut self, look: &Look, text: &str, stamp: Option<Stamp>) {
+    fn note_time(&mut self, look: &Look, text: &str, stamp: Option<Time>) {
         let Some(stamp) = stamp else {
             return;
         };
@@ -224,7 +225,7 @@ impl RowMaker {
             0
         };
         self.time = Some(RowTime {
-            told: stamp.told_in(&self.zone),
+            told: self.zone.told(stamp),
             passed,
             began: self.began,
         });
@@ -245,7 +246,7 @@ impl RowMaker {
         &mut self,
         object: &Option<Value<'_>>,
         text: &str,
-        stamp: Option<Stamp>,
+        stamp: Option<Time>,
     ) -> Result<Nested, AllocError> {
         let kind = member(object, "kind").unwrap_or("");
         let back = if kind == "return_to" {
@@ -261,7 +262,7 @@ impl RowMaker {
             kind,
             process: member(object, "pid"),
             function,
-            time: stamp.map(Stamp::nanos),
+            time: stamp.map(Time::nanos),
         })
     }
 
@@ -270,7 +271,7 @@ impl RowMaker {
         &mut self,
         look: &Look,
         object: &Option<Value<'_>>,
-        stamp: Option<Stamp>,
+        stamp: Option<Time>,
         nested: Nested,
     ) -> Result<Frame, AllocError> {
         let kind = member(object, "kind").unwrap_or("");
@@ -313,7 +314,7 @@ impl RowMaker {
         ensures { IfOk result (λ row. MatchOption row (MayLack look.now.rule.shows_each line.now)
             (λ row. ShowsInRow look.now.rule.may_cut text.now row.items)) }
     {
-        let stamp = stamp_in(text.as_bytes());
+        let stamp = time_in(text.as_bytes());
         let nested = self.nested(object, text, stamp)?;
         self.note_time(look, text, stamp);
         self.reach(object, 1, text.len() < SHORT);

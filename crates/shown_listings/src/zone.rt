@@ -7,6 +7,7 @@ use std::env::{self, VarError};
 use std::fs::{self, File};
 use std::io::{self, ErrorKind, Read};
 use std::time::SystemTime;
+use trace_times::Time;
 
 /// The folder of the zones that have names.
 const ZONES: &str = "/usr/share/zoneinfo";
@@ -43,6 +44,14 @@ impl Zone {
         };
         let seconds = i64::from(offset.seconds);
         nanos.saturating_add(seconds.saturating_mul(SECOND))
+    }
+
+    /// A time, as its clocks tell it. A monotonic one stays.
+    pub fn told(&self, time: Time) -> Time {
+        match time {
+            Time::Wall(nanos) => Time::Wall(self.told_at(nanos)),
+            Time::Monotonic(_) => time,
+        }
     }
 
     /// What its clocks tell now, where the system's clock can be read.

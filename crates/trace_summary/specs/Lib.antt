@@ -1,13 +1,1 @@
-pub mod Acts
-pub mod Counting
-pub mod Drawings
-pub mod Feeding
-pub mod Lines
-pub mod Opens
-pub mod Rows
-pub mod Stacks
 pub mod Summaries
-pub mod TableObjects
-pub mod Tables
-pub mod Taking
-pub mod Tallies

@@ -1,8 +1,8 @@
 //! Time stamps, as a person reads them.
 
-use crate::times::{Told, told_in};
 use jiff_core::civil::DateTime;
 use std::fmt;
+use trace_times::{Time, time_of_stamp};
 
 /// The nanoseconds of a second.
 const SECOND: u64 = 1_000_000_000;
@@ -15,9 +15,12 @@ pub struct Stamp<'a>(pub &'a str);
 impl Stamp<'_> {
     /// How many nanoseconds it is before another one of the same clock.
     pub fn before(&self, other: Stamp<'_>) -> Option<i64> {
-        match (told_in(self.0.as_bytes())?, told_in(other.0.as_bytes())?) {
-            (Told::Wall(from), Told::Wall(to)) => to.checked_sub(from),
-            (Told::Monotonic(from), Told::Monotonic(to)) => to.checked_sub(from),
+        match (
+            time_of_stamp(self.0.as_bytes())?,
+            time_of_stamp(other.0.as_bytes())?,
+        ) {
+            (Time::Wall(from), Time::Wall(to)) => to.checked_sub(from),
+            (Time::Monotonic(from), Time::Monotonic(to)) => to.checked_sub(from),
             _ => None,
         }
     }
@@ -25,9 +28,9 @@ impl Stamp<'_> {
 
 impl fmt::Display for Stamp<'_> {
     fn fmt<W: fmt::Write>(&self, f: &mut fmt::Formatter<W>) -> fmt::Result {
-        match told_in(self.0.as_bytes()) {
-            Some(Told::Wall(nanos)) => tell_wall(f, nanos, self.0),
-            Some(Told::Monotonic(nanos)) => write!(f, "{} s", Seconds(nanos)),
+        match time_of_stamp(self.0.as_bytes()) {
+            Some(Time::Wall(nanos)) => tell_wall(f, nanos, self.0),
+            Some(Time::Monotonic(nanos)) => write!(f, "{} s", Seconds(nanos)),
             None => f.write_str(self.0),
         }
     }

@@ -1,7 +1,7 @@
 use Rattle.std.proofs.Common.{◌∙◌, Err, [], inr, refl, subst, sym}
 use Rattle.std.proofs.lemmas.Result.{err_from_is_err_and}
 use Rattle.stores.specs.FolderStore.{reads_of}
-use Rattle.trace_summary.specs.Taking.{IsWhyStopped}
+use Rattle.trace_views.specs.Taking.{IsWhyStopped}
 use Rattle.trace_lookup.specs.declared.place.Place.{Place}
 use Rattle.trace_text.specs.Chooses.{asks_where}
 use Rattle.commands.specs.Viewing.{TellsStop, not_shown}

@@ -2,7 +2,7 @@ use Rattle.std.proofs.Common.{◌≡◌, [], inl, inr, refl, subst}
 use Rattle.std.proofs.KnownBytes.{Keeps-refl}
 use Rattle.std.proofs.lemmas.Result.{err_from_is_err_and}
 use Rattle.stores.specs.FolderStore.{reads_of}
-use Rattle.trace_summary.specs.Taking.{in_two_looks}
+use Rattle.trace_views.specs.Taking.{in_two_looks}
 use Rattle.trace_text.specs.Chooses.{asks_where}
 use Rattle.commands.specs.Viewing.{HasSeen, not_shown}
 use Rattle.commands.proofs.Viewed.{all_seen, found_again, looks_seen, of_another, reads_again, reads_once, reads_twice, shown_so, stacks_so}

@@ -7,9 +7,9 @@ use Rattle.trace_lookup.specs.declared.place.Place.{Place}
 use Rattle.trace_text.specs.Choosing.{Asks}
 use Rattle.trace_text.specs.Chooses.{asks_where}
 use Rattle.trace_client.specs.SoFar.{Point, point_with, point_at}
-use Rattle.trace_summary.specs.Taking.{IsWhyStopped}
-use Rattle.trace_summary.specs.declared.view.ViewFault.{ViewFault}
-use Rattle.trace_summary.specs.declared.view_feed.ViewFeed.{ViewFeed}
+use Rattle.trace_views.specs.Taking.{IsWhyStopped}
+use Rattle.trace_views.specs.declared.view.ViewFault.{ViewFault}
+use Rattle.trace_views.specs.declared.view_feed.ViewFeed.{ViewFeed}
 use Rattle.faults.specs.Faults.{read_fault}
 use Rattle.commands.specs.Live.{most_to_read}
 use Rattle.commands.specs.Viewing.{HasSeen, TellsStop, refused}

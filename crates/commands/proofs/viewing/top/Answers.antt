@@ -3,7 +3,7 @@ use Rattle.std.proofs.KnownBytes.{Keeps-refl}
 use Rattle.std.proofs.lemmas.Result.{err_from_is_err_and}
 use Rattle.trace_text.specs.Chooses.{asks_where}
 use Rattle.trace_lookup.specs.declared.place.Place.{Place}
-use Rattle.trace_summary.specs.declared.top.Top.{Top}
+use Rattle.trace_views.specs.declared.top.Top.{Top}
 use Rattle.commands.specs.Viewing.{TellsStop, not_shown}
 use Rattle.commands.proofs.Viewed.{all_seen, reads_on, shown_so, stopped, table_so, tells_on}
 use Rattle.commands.proofs.viewing.top.Goals as goal

@@ -5,9 +5,9 @@ use Rattle.stores.specs.FolderStore.{reads_of}
 use Rattle.trace_text.specs.Choosing.{Asks}
 use Rattle.trace_text.specs.Chooses.{asks_where}
 use Rattle.trace_client.specs.SoFar.{Point, point_with, point_at}
-use Rattle.trace_summary.specs.Taking.{in_two_looks}
-use Rattle.trace_summary.specs.declared.view.ViewFault.{ViewFault}
-use Rattle.trace_summary.specs.declared.view_feed.ViewFeed.{ViewFeed}
+use Rattle.trace_views.specs.Taking.{in_two_looks}
+use Rattle.trace_views.specs.declared.view.ViewFault.{ViewFault}
+use Rattle.trace_views.specs.declared.view_feed.ViewFeed.{ViewFeed}
 use Rattle.shown_listings.specs.declared.console.Console.{Console}
 use Rattle.shown_listings.specs.contracts.console.ConsoleHost.TheImpl as host
 use Rattle.prepared_requests.specs.contracts.names_seen.NamesSeenView.TheImpl as view

@@ -10,8 +10,8 @@ use Rattle.shown_listings.proofs.listing.lay_out_from.Goals as goal
 abbrev rule_of : Look → Rule
 rule_of look = look.rule
 
-pub returns-in-Ok-Written : goal.returns-in-Ok-Written
-returns-in-Ok-Written g c =
+pub returns-then-is_whole : goal.returns-then-is_whole
+returns-then-is_whole g c =
     let contents = g.W.Write.contents in
     let rule = rule_from (Some c.args.first) c.args.layout.now in
     let call = c.list-done in
@@ -20,10 +20,11 @@ returns-in-Ok-Written g c =
     let made = c.new-laid.ensures in
     let listed = call.new.output in
     let text = c.end-ended.result.1.items in
+    let ended = c.ended_well-is_whole.ensures c.if-is_whole.true in
     let whole = c.end-ended.result.0 ≡ ends.Written in
     let laid : LaysOut rule whole (lists call.result.0) (Some []) (Some text) =
     lays_out rule whole (lists call.result.0) begun.look.rule listed.look.rule (Some []) begun.written.start listed.written.start (Some text) begun.lines.items begun.line.items listed.lines.items listed.line.items
     (ap rule_of made.look ∙ c.new-look.ensures) (made.start ∙ ap (λ l. Some l) c.new.ensures.items) made.lines made.line listed.lines_whole c.end-ended.ensures call.ensures in
-    let well : LaysOut rule whole (lists (Ok tt)) (Some []) (Some text) = subst (λ done. LaysOut rule whole (lists done) (Some []) (Some text)) c.in-Ok-Written.is-0 laid in
+    let well : LaysOut rule whole (lists (Ok tt)) (Some []) (Some text) = subst (λ done. LaysOut rule whole (lists done) (Some []) (Some text)) ended.0 laid in
     let told = c.write_text.ensures.text in
-    laid_from rule whole lists c.write_text.result (contents c.args.output.now) (contents c.write_text.new.output) text told.0 told.1 c.in-Ok-Written.is-1 told.2 told.3 told.4 c.write_text.ensures.err well
+    laid_from rule whole lists c.write_text.result (contents c.args.output.now) (contents c.write_text.new.output) text told.0 told.1 ended.1 told.2 told.3 told.4 c.write_text.ensures.err well

@@ -1,8 +1,8 @@
 use Rattle.std.proofs.Common.{◌∙◌, List, [], ◌∷◌, ap, map, rules, string_bytes}
 use Rattle.entry_codec.specs.Entries.{Entry}
 use Rattle.entry_codec.specs.Seen.{lent}
-use Rattle.trace_summary.specs.Taking.{in_two_looks}
-use Rattle.trace_summary.proofs.TakenLemmas.{looks-append}
+use Rattle.trace_views.specs.Taking.{in_two_looks}
+use Rattle.trace_views.proofs.TakenLemmas.{looks-append}
 use Rattle.prepared_requests.specs.Names.{as_entries, holding_of}
 use Rattle.prepared_requests.proofs.NamesLemmas.{told_on}
 use Rattle.prepared_requests.proofs.names_seen.NamesSeenView.take.Goals as goal

@@ -1,0 +1,11 @@
+pub mod Acts
+pub mod Counting
+pub mod Drawings
+pub mod Feeding
+pub mod Lines
+pub mod Rows
+pub mod Stacks
+pub mod TableObjects
+pub mod Tables
+pub mod Taking
+pub mod Tallies
